@@ -7,7 +7,7 @@ use plan_core::{Items, Node, Op, Plan};
 use std::alloc::{AllocError, Global};
 use std::process::Abort;
 use track_library::{LoadFault, Sizes, load};
-use wav_io::WavFault;
+use wav_io::{WavFault, read_head};
 
 /// The mono file of the samples 1 2 3 at 44100 Hz, of 50 bytes.
 const FILE: [u8; 50] =
@@ -182,4 +182,39 @@ fn check(rt: &impl Abort, alloc: Global, rows: &[Row]) {
 #[test]
 fn audio_files_are_of_bounded_size_and_lists_skip_what_is_none(rt: HostRuntime) {
     check(&rt, rt.alloc(), ROWS);
+}
+
+/// How many bytes of the file of three samples are its front, how many bytes the whole file has, and what they tell: the
+/// place of the first block and the bytes of all, a fault, or nothing.
+const HEADS: &[(usize, u64, Option<Result<(u64, u64), WavFault>>)] = &[
+    (44, 50, Some(Ok((44, 6)))),
+    (44, 49, Some(Ok((44, 4)))),
+    (44, 45, Some(Err(WavFault::Empty))),
+    (43, 50, None),
+    (11, 50, None),
+    (11, 11, Some(Err(WavFault::NotRiff))),
+    (36, 36, Some(Err(WavFault::NoData))),
+];
+
+/// What a front tells.
+fn told_by(front: &[u8], size: u64) -> Option<Result<(u64, u64), WavFault>> {
+    match read_head(front, size) {
+        Some(Ok(head)) => Some(Ok((head.at, head.size))),
+        Some(Err(fault)) => Some(Err(fault)),
+        None => None,
+    }
+}
+
+/// Each row tells what it should.
+fn check_heads(rt: &impl Abort, rows: &[(usize, u64, Option<Result<(u64, u64), WavFault>>)]) {
+    for row in rows {
+        let (length, size, told) = *row;
+        let front = &FILE[..length.min(FILE.len())];
+        assert!(rt; told_by(front, size) == told, "{length}, {size}");
+    }
+}
+
+#[test]
+fn the_front_of_a_file_tells_its_head(rt: HostRuntime) {
+    check_heads(&rt, HEADS);
 }

@@ -31,7 +31,7 @@ use Rattle.clock_threads.proofs.Starts.{start_climbs, start_up}
 use Rattle.clock_threads.proofs.Owning.{in_takes, no_took, take_own, to_reader}
 use Rattle.clock_threads.proofs.Lawfully.{all_takes, flat_snoc, takes_none}
 use Rattle.buffer_ends.specs.Local.{on as on_ends}
-use Rattle.clock_threads.proofs.Recording.{on_same, listed_at, listed_long, none_joined, past_end}
+use Rattle.clock_threads.proofs.Recording.{on_same, listed_at, listed_long, none_joined}
 
 front_none : {A : Type 0} (xs ys : List A) → xs ++ ys ≡ [] → xs ≡ []
 front_none [] ys e = refl
@@ -110,9 +110,6 @@ module _ (setting : Setting) (map : ClockMap) (is : IsSetting setting map) (wire
 
   pub windows_are : (b : ℕ) → b < length wires → windows_of broken_run b ≡ windows b
   windows_are b less = listed_at (length wires) windows b [] less
-
-  none_beyond : (b : ℕ) → length wires ≤ b → answers_of broken_run b ≡ []
-  none_beyond b past = ap (flat_map (λ (w : Window). w.1)) (past_end (listed (length wires) windows) b [] (let n = listed_long (length wires) windows in omega (arith, past, n)))
 
   -- a tick takes nothing of a buffer that its clock does not read
   silent : (m : ℕ) (answers : Answers) (accepted : ℕ → Bool) (t b : ℕ) → (reader setting b ≢ m) ⊎ (length wires ≤ b) → takes_of b (calls_of_tick (answered setting answers) accepted m t) ≡ []

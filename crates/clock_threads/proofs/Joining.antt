@@ -11,7 +11,7 @@ use Rattle.clock_threads.specs.Wires.{wire_at}
 use Rattle.clock_threads.specs.Ends.{puts_of as put_ends, takes_of as take_ends, SameButEnds, JoinOpen}
 use Rattle.clock_threads.specs.Records.{SameEngines}
 use Rattle.clock_threads.proofs.Sets.{same_or_other, side}
-use Rattle.clock_threads.specs.Starts.{AreQueues, AreBare, PutAdded, TakeAdded, BothAdded, AreJoined}
+use Rattle.clock_threads.specs.Starts.{AreQueues, PutAdded, TakeAdded, BothAdded, AreJoined}
 
 -- queues, one more
 pub queues_more : (wires : List Wire) (n : ℕ) (queues queues' : List TableId) (passes passes' : List (Window × Window)) (queue : TableId) (put take : Window)
@@ -70,12 +70,6 @@ last_get [] y d (suc k) h = absurd (omega (arith, h))
 last_get (x ∷ xs) y d zero h = absurd (omega (arith, h))
 last_get (x ∷ xs) y d (suc k) h = last_get xs y d k (omega (arith, h))
 
-pub waiting_all : (wires : List Wire) (queues : List TableId) (passes : List (Window × Window)) → AreQueues wires (length wires) queues passes → Waiting wires queues passes
-waiting_all wires queues passes are = record {
-  few = (let m = are.passes_many in omega (arith, m));
-  ends = λ b d e low. are.ends b d e (let m = are.passes_many in omega (arith, low, m));
-}
-
 pub waiting_less : (wires : List Wire) (queues : List TableId) (passes rest : List (Window × Window)) (put take : Window) → passes ≡ rest ++ (put, take) ∷ [] → Waiting wires queues passes → Waiting wires queues rest
 waiting_less wires queues passes rest put take is w = record {
   few = (let m = w.few in let n = ap length is ∙ length-append rest ((put, take) ∷ []) in omega (arith, m, n));
@@ -115,15 +109,6 @@ each_last F xs ys s is all one p e low = elim (same_or_other p (length xs)) [
 ]
 
 module _ {S R : Type 0} where
-  pub joined_none : (wires : List Wire) (many : ℕ) (tasks : List (Task S (ThreadTaps R))) → many ≡ length wires → AreBare tasks → AreJoined wires many tasks tasks
-  joined_none wires many tasks is bare = record {
-    many = refl;
-    same = λ k d h. record { engine = refl; local = refl };
-    puts = λ k p d e h low. absurd (let n = ap length (bare.puts k d h) in omega (arith, low, n));
-    takes = λ k p d e h low. absurd (let n = ap length (bare.takes k d h) in omega (arith, low, n));
-    opens = λ b low high. absurd (omega (arith, low, high, is));
-  }
-
   pub joined_skip : (wires : List Wire) (many less : ℕ) (old now : List (Task S (ThreadTaps R))) → many ≡ less + 1 → (wire_at wires less).from ≡ (wire_at wires less).to → AreJoined wires many old now → AreJoined wires less old now
   joined_skip wires many less old now is local j = record {
     many = j.many;
@@ -267,9 +252,6 @@ module _ {S R : Type 0} where
 
   pub engines_then : (xs ys zs : List (Task S (ThreadTaps R))) → SameEngines xs ys → SameEngines ys zs → SameEngines xs zs
   engines_then xs ys zs a b = record { many = b.many ∙ a.many; each = λ k d h. b.each k d (let m = a.many in omega (arith, h, m)) ∙ a.each k d h }
-
-  pub joined_engines : (wires : List Wire) (many : ℕ) (old now : List (Task S (ThreadTaps R))) → AreJoined wires many old now → SameEngines old now
-  joined_engines wires many old now j = record { many = j.many; each = λ k d h. (j.same k d h).engine }
 
   -- both ends, one after the other
   pub both_added : (now : List (Task S (ThreadTaps R))) (from to : ℕ) (x y : Task S (ThreadTaps R)) (put take : Side) → from < length now → to < length now → from ≢ to

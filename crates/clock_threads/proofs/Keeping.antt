@@ -8,15 +8,6 @@ use Rattle.clock_threads.specs.declared.wires.Wire.{Wire}
 use Rattle.clock_threads.specs.Wires.{ended, kept}
 
 module _ (wires : List Wire) (k : ℕ) where
-  pub kept-append : (xs ys : List Call) → kept wires k (xs ++ ys) ≡ kept wires k xs ++ kept wires k ys
-  kept-append [] ys = refl
-  kept-append (call ∷ xs) ys = go (ended wires k (buffer_of call)) (kept-append xs ys)
-    where
-      go : (t : Bool) → kept wires k (xs ++ ys) ≡ kept wires k xs ++ kept wires k ys
-          → (if t then kept wires k (xs ++ ys) else call ∷ kept wires k (xs ++ ys)) ≡ (if t then kept wires k xs else call ∷ kept wires k xs) ++ kept wires k ys
-      go true e = e
-      go false e = ap (λ l. call ∷ l) e
-
   pub puts_kept : (b : ℕ) (cs : List Call) → ended wires k b ≡ true → puts_to b (kept wires k cs) ≡ []
   puts_kept b [] e = refl
   puts_kept b (Took x o ∷ cs) e = go (ended wires k x) (puts_kept b cs e)

@@ -19,7 +19,7 @@ use Rattle.clock_threads.specs.Lawful.{Answers, Meaning, and_rest, got_by, answe
 use Rattle.run_records.specs.Records.{Follows}
 use Rattle.run_records.proofs.Rounding.{follows_split}
 use Rattle.clock_threads.proofs.Sets.{same_or_other}
-use Rattle.clock_threads.proofs.Keeping.{puts-append, takes-append, on-append}
+use Rattle.clock_threads.proofs.Keeping.{takes-append, on-append}
 use Rattle.clock_threads.proofs.Meeting.{joined_split}
 use Rattle.clock_threads.proofs.Starts.{start_zero, start_most, start_up}
 
@@ -59,13 +59,6 @@ module _ (W N : ℕ) where
       let up = start_up W N j in
       let e : start W N (suc j) ≡ start W N j + (start W N (suc j) - start W N j) = omega (arith, up) in
       ap (joined_upto f) e ∙ joined_split f (start W N j) (start W N (suc j) - start W N j)
-
-  pub all_puts : (wire : Wire) (hs : ℕ → TickCalls) (b j : ℕ) → flat_map (λ (w : Window). w.0) (windows_upto wire hs b W N j) ≡ puts_to b (joined_upto (hs wire.from).calls (start W N j))
-  all_puts wire hs b zero = ap (λ n. puts_to b (joined_upto (hs wire.from).calls n)) (sym (start_zero W N))
-  all_puts wire hs b (suc j) =
-      let f = (hs wire.from).calls in let more = joined_from f (start W N j) (start W N (suc j) - start W N j) in
-      flat_snoc (λ (w : Window). w.0) (windows_upto wire hs b W N j) (window_of wire hs b (start W N j) (start W N (suc j) - start W N j))
-      ∙ ap (λ l. l ++ puts_to b more) (all_puts wire hs b j) ∙ sym (puts-append b (joined_upto f (start W N j)) more) ∙ ap (puts_to b) (sym (upto_next f j))
 
   pub all_takes : (wire : Wire) (hs : ℕ → TickCalls) (b j : ℕ) → flat_map (λ (w : Window). w.1) (windows_upto wire hs b W N j) ≡ takes_of b (joined_upto (hs wire.to).calls (start W N j))
   all_takes wire hs b zero = ap (λ n. takes_of b (joined_upto (hs wire.to).calls n)) (sym (start_zero W N))

@@ -7,7 +7,7 @@ use Rattle.clock_ticks.specs.declared.engine.ClockEngine.{ClockEngine}
 use Rattle.clock_threads.specs.declared.task.Task.{Task}
 use Rattle.clock_threads.proofs.Sets.{same_or_other}
 use Rattle.clock_threads.specs.Ends.{puts_of as put_ends, takes_of as take_ends}
-use Rattle.clock_threads.specs.EngineTasks.{engine_of, AreLocals, IsBare, AreTasks}
+use Rattle.clock_threads.specs.EngineTasks.{engine_of, IsBare, AreTasks}
 use Rattle.clock_threads.proofs.Joining.{front_get, last_get}
 
 pub map_snoc : {A B : Type 0} (f : A → B) (xs : List A) (y : A) → map f (xs ++ y ∷ []) ≡ map f xs ++ f y ∷ []
@@ -22,16 +22,6 @@ pub map_get : {A B : Type 0} (f : A → B) (xs : List A) (k : ℕ) (d : A) (e : 
 map_get f [] k d e h = absurd (omega (arith, h))
 map_get f (x ∷ xs) zero d e h = refl
 map_get f (x ∷ xs) (suc k) d e h = map_get f xs k d e (omega (arith, h))
-
-pub locals_more : (plan : Plan) (n : ℕ) (locals after : List (List LocalBuffer)) (x : List LocalBuffer) → after ≡ locals ++ x ∷ [] → x ≡ map planned plan.buffers → AreLocals plan n locals → AreLocals plan (n + 1) after
-locals_more plan n locals after x is new are = record {
-  are_many = (let m = are.are_many in ap length is ∙ length-append locals (x ∷ []) ∙ ap (λ k. k + 1) m);
-  each = λ k d low. (elim (same_or_other k (length locals)) [
-    | inl e ↦ ap (λ l. slice_index_or l k d) is ∙ last_get locals x d k e ∙ new
-    | inr off ↦ (let n' = ap length is ∙ length-append locals (x ∷ []) in let here : k < length locals = omega (arith, low, n', off) in
-        ap (λ l. slice_index_or l k d) is ∙ front_get locals x d k here ∙ are.each k d here)
-  ]);
-}
 
 pub first_gone : {A : Type 0} (xs ys : List A) (x : A) → 0 < length xs → x ≡ slice_index_or xs 0 x → ys ≡ take 0 xs ++ drop (0 + 1) xs → xs ≡ x ∷ ys
 first_gone [] ys x h e r = absurd (omega (arith, h))
@@ -53,19 +43,6 @@ module _ {S R : Type 0} (plan : Plan) where
       → made + length engines ≡ count
   making_left count made old engines room tasks tasks_room locals m =
       let a = sym (length-append (map engine_of tasks) engines) ∙ ap length m.engines_are in let b = map_long engine_of tasks in let c = m.many in let d = m.all in omega (arith, a, b, c, d)
-
-  pub making_none : (count : ℕ) (old engines : List (ClockEngine S)) (room : ℕ) (tasks : List (Task S (ThreadTaps R))) (tasks_room : ℕ) (locals : List (List LocalBuffer)) → engines ≡ old → tasks ≡ [] → length old ≡ count → count ≤ room → count ≤ tasks_room
-      → AreLocals plan count locals → Making count 0 old engines room tasks tasks_room locals
-  making_none count old engines room tasks tasks_room locals is none all rooms rooms' are = record {
-    engines_are = (λ i. map engine_of (none i) ++ is i);
-    many = ap length none;
-    all = all;
-    bare = λ k d low. absurd (let n = ap length none in omega (arith, low, n));
-    rooms = rooms;
-    tasks_rooms = rooms';
-    locals_many = (let n = are.are_many in omega (arith, n));
-    locals_are = are.each;
-  }
 
   pub making_more : (count made : ℕ) (old engines engines' : List (ClockEngine S)) (room room' : ℕ) (tasks tasks' : List (Task S (ThreadTaps R))) (tasks_room tasks_room' : ℕ) (locals locals' : List (List LocalBuffer))
       (engine : ClockEngine S) (local : List LocalBuffer) (task : Task S (ThreadTaps R)) → Making count made old engines room tasks tasks_room locals → made < count

@@ -37,7 +37,7 @@ use Rattle.clock_threads.proofs.Breaking.{Reach}
 use Rattle.clock_threads.proofs.Partly.{part_begun, part_fronts, part_given, part_pieces, part_run, part_stood, reach}
 use Rattle.clock_threads.proofs.Recording.{run_of, run_answers, run_is_lawful}
 use Rattle.clock_threads.specs.Logs.{AreNoLogs}
-use Rattle.clock_threads.specs.Starts.{AreJoined, AreBare}
+use Rattle.clock_threads.specs.Starts.{AreJoined}
 use Rattle.clock_threads.specs.EngineTasks.{engine_of, AreTasks}
 use Rattle.clock_threads.specs.ThreadRuns.{IsFresh, HasMadeAll, HasMadePart, HasRunSome, IsWriteEnd}
 use Rattle.clock_threads.specs.WiredRuns.{AreLaid, AreFresh, HasRunTasks}
@@ -252,6 +252,3 @@ module _ {S R : Type 0} (told : S → SinkTold) (plan : Plan) (wires : List Wire
   pub has_run_some : (now : List (Task S (ThreadTaps R))) (end : End) → RunPart told wires W N joined now → ((clock sink : ℕ) → end ≡ Write clock sink → IsWriteAt told clock sink joined now)
       → HasRunSome told setting map_of W N (map engine_of bare) (map engine_of now) end
   has_run_some now end part write = with_one joined (let m = j.many in omega (arith, some, m)) (λ d. some_run now d (part d) end write)
-
-  pub bare_is : AreBare bare
-  bare_is = record { puts = λ k d h. (tasks.each k d h).puts; takes = λ k d h. (tasks.each k d h).takes }

@@ -1,4 +1,4 @@
-ghost use Rattle.std.specs.Prelude.{◌≡◌, length};
+ghost use Rattle.std.specs.Prelude.{◌≡◌, [], length};
 
 use frame_core::{Cell, Chunk, Frame};
 use liq_base::Memory;
@@ -20,34 +20,25 @@ const SOFT: Cell = Cell {
     title: 1,
 };
 
-// Sets three slots, and takes the middle one back.
+// Lays a cell, takes all back, and lays two of two titles.
 fn fill(frame: &mut Frame)
-    requires { length frame.old ≡ 3 }
-    ensures { length frame.new ≡ 3 }
+    requires empty { frame.old.cells ≡ [] }
+    requires room { frame.old.room ≡ 3 }
 {
-    frame.set(0, Some(LOUD));
-    frame.set(1, Some(LOUD));
-    frame.set(1, None);
-    frame.set(2, Some(SOFT));
-}
-
-fn check_slots(rt: &impl Abort, frame: &Frame)
-    requires { length frame.now ≡ 3 }
-{
-    assert_eq!(rt; frame.slot(0), Some(LOUD));
-    assert_eq!(rt; frame.slot(1), None);
+    frame.lay(&[5], &[5], false, 4);
+    frame.clear();
+    frame.lay(&[LOUD.left], &[LOUD.right], true, LOUD.title);
+    frame.lay(&[SOFT.left], &[SOFT.right], false, SOFT.title);
 }
 
 fn check_chunk(rt: &impl Abort, chunk: &Chunk) {
     assert_eq!(rt; chunk.len(), 2);
     assert_eq!(rt; chunk.cell(0), LOUD);
     assert!(rt; chunk.len() > 1 && chunk.cell(1) == SOFT);
+    assert_eq!(rt; chunk.runs().len(), 2);
 }
 
-fn check(rt: &impl Abort, alloc: Global, frame: &Frame) -> Result<(), Memory>
-    requires { length frame.now ≡ 3 }
-{
-    check_slots(rt, frame);
+fn check(rt: &impl Abort, alloc: Global, frame: &Frame) -> Result<(), Memory> {
     match Chunk::from_frame(alloc, frame)? {
         Some(chunk) => check_chunk(rt, &chunk),
         None => panic!(rt; "no chunk"),

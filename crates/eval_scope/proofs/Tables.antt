@@ -3,7 +3,7 @@ use Rattle.std.proofs.Common.{◌≡◌, ℕ, ◌+◌, ◌<◌, ◌≤◌, List,
 use Rattle.std.specs.List.{HoldsAt, position, position_or_len, find}
 use Rattle.std.specs.Option.{option_or, option_and_then}
 use Rattle.std.specs.Prelude.{IfSome, MatchOption, map, option_map}
-use Rattle.std.proofs.lemmas.List.{length-take-le, length_push, take_more, take_all}
+use Rattle.std.proofs.lemmas.List.{length-take-le, length_push, take_more}
 use Rattle.std.proofs.lemmas.List.Folds.{find_at, position_or_len_push}
 use Rattle.std.proofs.lemmas.List.Sums.{prefix_len-le-length}
 use Rattle.std.proofs.lemmas.Option.{slice_get_past, slice_get-get_or}
@@ -36,9 +36,6 @@ table_more test old new xs y i lt is table notes =
     let grown : IsTable test new (take i xs ++ y ∷ []) = table_push test old new (take i xs) y table (subst (λ (j : ℕ). Notes (λ k. test k y) old j new) (sym long) notes) in
     let step : take (i + 1) xs ≡ take i xs ++ y ∷ [] = take_more xs i y lt ∙ ap (λ (z : _). take i xs ++ z ∷ []) (sym is) in
     subst (λ (l : List _). IsTable test new l) (sym step) grown
-
-pub table_whole : {X : Type 0} (test : ℕ → X → Bool) (places : List (Option ℕ)) (xs : List X) (i : ℕ) → length xs ≤ i → IsTable test places (take i xs) → IsTable test places xs
-table_whole test places xs i over table = subst (λ (l : List _). IsTable test places l) (take_all i xs over) table
 
 -- what the table finds
 pub table_finds : {X : Type 0} (test : ℕ → X → Bool) (places : List (Option ℕ)) (xs : List X) (at : ℕ) (o : Option ℕ) → IsTable test places xs → o ≡ at_token at places → option_and_then (λ i. slice_get xs i) o ≡ find (test at) xs

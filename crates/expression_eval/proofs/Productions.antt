@@ -137,10 +137,6 @@ inners_none s vs m = refl
 pub first_fails : {A B : Type 0} (e : Stop) (a : Result A Stop) (r : Result B Stop) (f : A → Result B Stop) → r ≡ (a >>= f) → Fails e a → Fails e r
 first_fails e a r f is fault = fails_same e (a >>= f) r (sym is) (fails_on e a f fault)
 
--- and without one the whole is what comes behind it
-pub then_first : {A B : Type 0} (a : Result A Stop) (r : Result B Stop) (f : A → Result B Stop) (x : A) → r ≡ (a >>= f) → a ≡ Ok x → r ≡ f x
-then_first a r f x is went = is ∙ ap (λ (q : Result _ Stop). q >>= f) went
-
 -- ---- brackets
 
 same_after : {A B : Type 0} (r : Result A Stop) (f g : A → Result B Stop) → ((x : A) → f x ≡ g x) → (r >>= f) ≡ (r >>= g)

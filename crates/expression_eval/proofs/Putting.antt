@@ -34,10 +34,6 @@ pub failed_gives : {A B : Type 0} (view : program.Value → B) (now : Place) (fi
 failed_gives view (Ok v) first f nothing = absurd nothing
 failed_gives view (Err e) first f fault = fails_on e first f fault
 
-pub failed_on : {A B : Type 0} (now : Place) (first : Result A Stop) (f : A → Result B Stop) → Failed now first → Failed now (first >>= f)
-failed_on (Ok v) first f nothing = absurd nothing
-failed_on (Err e) first f fault = fails_on e first f fault
-
 pub failed_same : {A : Type 0} (now : Place) (r q : Result A Stop) → r ≡ q → Failed now r → Failed now q
 failed_same now r q same is = subst (λ (x : Result _ Stop). Failed now x) same is
 

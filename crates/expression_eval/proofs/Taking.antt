@@ -1,7 +1,7 @@
 -- What parameters take of the arguments of a call, found in turn or by a table of places.
 use Rattle.std.proofs.Common.{◌≡◌, ◌≢◌, refl, sym, ap, ap₂, subst, ◌∙◌, ℕ, suc, arith, ◌+◌, ◌<◌, ◌≤◌, List, [], ◌∷◌, ◌++◌, length, drop, get_or, slice_set, Option, Some, None, Bool, true, false, cond, map, append_assoc}
-use Rattle.std.proofs.lemmas.List.{append-nil, at_drop_all, at_drop_more, drop_more, get_or-set_other, map-set, map_push}
-use Rattle.std.specs.Prelude.{IsNone, option_map}
+use Rattle.std.proofs.lemmas.List.{at_drop_more, drop_more, get_or-set_other, map-set, map_push}
+use Rattle.std.specs.Prelude.{option_map}
 use Rattle.script_grammar.specs.View.{listed, view_param}
 use Rattle.script_grammar.specs.declared.tree.Param.{Param}
 use Rattle.typing_rules.specs.Arguments as arguments
@@ -40,22 +40,6 @@ module _ {T : Type 0} where
       ∙ ap (λ (q : Param). first_with (label_by q) gs ∷ taken_by (others gs (argument (label_by q) gs)) (drop (i + 1) params)) is
       ∙ sym (at_drop_more (taken_by gs) params i p lt)
       ) ∙ so
-
-  pub takes_all : (params : List Param) (i : ℕ) (gs : List (arguments.GivenArgument T)) (os whole : List (Option T)) → os ++ taken_by gs (drop i params) ≡ whole → length params ≤ i → os ≡ whole
-  takes_all params i gs os whole so over = sym (append-nil os) ∙ sym (at_drop_all (λ (ps : List Param). os ++ taken_by gs ps) params i over) ∙ so
-
--- one argument was taken in turn
-pub took_first : (r : Option AValue) (hs gs : List Argument) (a : Option (Value × List Argument)) → option_map (λ v. (view_value v, hs)) r ≡ a → (IsNone r → hs ≡ gs) → view_taken r ≡ option_map (λ (x : Value × List Argument). x.0) a
-took_first r hs gs a is left = subst (λ (b : Option (Value × List Argument)). view_taken r ≡ option_map (λ (x : Value × List Argument). x.0) b) is (by r) where
-  by : (q : Option AValue) → view_taken q ≡ option_map (λ (x : Value × List Argument). x.0) (option_map (λ v. (view_value v, hs)) q)
-  by None = refl
-  by (Some v) = refl
-
-pub took_others : (r : Option AValue) (hs gs : List Argument) (a : Option (Value × List Argument)) → option_map (λ v. (view_value v, hs)) r ≡ a → (IsNone r → hs ≡ gs) → hs ≡ others gs a
-took_others r hs gs a is left = subst (λ (b : Option (Value × List Argument)). hs ≡ others gs b) is (by r left) where
-  by : (q : Option AValue) → (IsNone q → hs ≡ gs) → hs ≡ others gs (option_map (λ v. (view_value v, hs)) q)
-  by None none = none refl
-  by (Some v) none = refl
 
 pub taken_push : (os os' : List (Option AValue)) (o : Option AValue) → os' ≡ os ++ o ∷ [] → map view_taken os' ≡ map view_taken os ++ view_taken o ∷ []
 taken_push os os' o grown = ap (map view_taken) grown ∙ map_push view_taken os o
@@ -216,6 +200,3 @@ moves_next os i o f g ts ts' whole t left lt is value same grown =
           ∙ ap (λ (l : List (Option Value)). ts ++ l) (ap₂ (λ (q : Option Value) (l : List (Option Value)). q ∷ l) value (kept o f g same (drop (i + 1) os) apart) ∙ sym (ap (map (option_map f)) front))
           ∙ left.all;
     }
-
-pub moves_all : (os : List (Option ℕ)) (i : ℕ) (f : ℕ → Value) (ts whole : List (Option Value)) → LeftAt (drop i os) f ts whole → length os ≤ i → ts ≡ whole
-moves_all os i f ts whole left over = sym (append-nil ts) ∙ sym (at_drop_all (λ (l : List (Option ℕ)). ts ++ map (option_map f) l) os i over) ∙ left.all

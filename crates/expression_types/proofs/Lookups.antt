@@ -1,6 +1,6 @@
 -- Searches for what stands at a token.
-use Rattle.std.proofs.Common.{◌≡◌, ◌≢◌, ◌∙◌, sym, ap, refl, ℕ, ◌+◌, ◌<◌, ◌≤◌, length, List, [], ◌∷◌, ◌++◌, drop, get_or, map, Some, None, Option, Bor, Bool, true, false, cond, not, nat_eq, eq-eqb, ne_eqb, arith}
-use Rattle.std.proofs.lemmas.List.{at_drop_all, drop_more, length_push}
+use Rattle.std.proofs.Common.{◌≡◌, ◌∙◌, sym, ap, refl, ℕ, ◌+◌, ◌<◌, ◌≤◌, length, List, [], ◌∷◌, ◌++◌, drop, get_or, map, Some, None, Option, Bor, Bool, true, false, cond, not, nat_eq, arith}
+use Rattle.std.proofs.lemmas.List.{drop_more, length_push}
 use Rattle.std.proofs.lemmas.List.Folds.{find_at, position_or_len_push}
 use Rattle.std.proofs.lemmas.List.Sums.{prefix_len-le-length}
 use Rattle.std.proofs.lemmas.Option.{slice_get_past, slice_get-get_or}
@@ -8,12 +8,10 @@ use Rattle.std.specs.List.{HoldsAt, find, position, position_or_len}
 use Rattle.std.specs.Option.{option_and_then, option_or}
 use Rattle.std.specs.Prelude.{IfSome, MatchOption, option_map, slice_get}
 use Rattle.liq_base.specs.At.{at_token}
-use Rattle.typing_rules.specs.declared.uses.Target.{Target}
 use Rattle.typing_rules.specs.Scripts.{Targets}
 use Rattle.typing_rules.specs.Scoping.{target_in}
 use Rattle.name_scope.specs.Noted.{resolved}
 use Rattle.name_scope.specs.declared.notes.Resolved.{Resolved}
-use Rattle.typing_rules.proofs.Searches.{search_there, search_next}
 use Rattle.type_terms.specs.Term.{Term, variable}
 use Rattle.type_steps.specs.Environment.{Known, value, function, term_at, term_before, or_else}
 use Rattle.expression_types.specs.declared.environment.TypedName.{TypedName}
@@ -21,7 +19,7 @@ use Rattle.expression_types.specs.declared.environment.KnownDef.{KnownDef}
 use Rattle.expression_types.specs.declared.environment.Known.{Known as AKnown}
 use Rattle.expression_types.specs.declared.environment.Known.TheVariants as known
 use Rattle.expression_types.specs.Seen.{def_known, known_seen, newest_first, types_seen}
-use Rattle.expression_types.specs.Tables.{ArePlaces, def_seen, newest_number, number_known, targets_of}
+use Rattle.expression_types.specs.Tables.{ArePlaces, def_seen, newest_number, number_known}
 
 -- ---- targets
 
@@ -32,9 +30,6 @@ table_more xs i m x old new one lt is before more t =
     ∙ ap (λ (y : Resolved). target_in (map resolved (y ∷ drop (i + 1) xs)) t) is
     ∙ sym (ap (λ l. target_in (map resolved l) t) (drop_more xs i x lt))
 
-pub table_none : (m : List (Option Target)) (xs : List Resolved) (n : ℕ) → ((t : ℕ) → targets_of m t ≡ None) → length xs ≤ n → (t : ℕ) → targets_of m t ≡ target_in (map resolved (drop n xs)) t
-table_none m xs n empty all t = empty t ∙ sym (at_drop_all (λ l. target_in (map resolved l) t) xs n all)
-
 pub same_targets : (f g : Targets) → ((t : ℕ) → f t ≡ g t) → f ≡ g
 same_targets f g h = λ i t. h t i
 
@@ -42,12 +37,6 @@ same_targets f g h = λ i t. h t i
 
 abbrev pub terms_from : ℕ → List TypedName → Option Term
 terms_from t xs = term_at t (types_seen xs)
-
-pub term_there : (t : ℕ) (xs : List TypedName) (i : ℕ) (x : TypedName) (o : Option Term) → terms_from t (drop i xs) ≡ o → i < length xs → x ≡ get_or xs i x → x.at ≡ t → Some (variable x.var) ≡ o
-term_there t xs i x o so lt is same = search_there (terms_from t) (λ y. nat_eq y.at t) (λ y. Some (variable y.var)) (λ y ys. refl) xs i x o so lt is (eq-eqb x.at t same)
-
-pub term_next : (t : ℕ) (xs : List TypedName) (i : ℕ) (x : TypedName) (o : Option Term) → terms_from t (drop i xs) ≡ o → i < length xs → x ≡ get_or xs i x → x.at ≢ t → terms_from t (drop (i + 1) xs) ≡ o
-term_next t xs i x o so lt is other = search_next (terms_from t) (λ y. nat_eq y.at t) (λ y. Some (variable y.var)) (λ y ys. refl) xs i x o so lt is (ne_eqb x.at t other)
 
 -- ---- defs
 

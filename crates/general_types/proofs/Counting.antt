@@ -11,20 +11,6 @@ same_count m n (Open ∷ ps) = ap suc (same_count (suc m) (suc n) ps)
 same_count m n (Unread ∷ ps) = same_count (suc m) (suc n) ps
 same_count m n (Outer k ∷ ps) = same_count (suc m) (suc n) ps
 
-open_at : (ps : List KindParameter) (i : ℕ) (d : KindParameter) → i < length ps → get_or ps i d ≡ Open → length (open_numbers 0 (drop i ps)) ≡ suc (length (open_numbers 0 (drop (suc i) ps)))
-open_at [] i d l e = absurd (omega (arith, l))
-open_at (p ∷ ps) zero d l e = ap (λ (q : KindParameter). length (open_numbers 0 (q ∷ ps))) e ∙ ap suc (same_count 1 0 ps)
-open_at (p ∷ ps) (suc i) d l e = open_at ps i d (omega (arith, l)) e
-
--- a parameter that is not open
-abbrev pub IsNotOpen : KindParameter → Type 0
-IsNotOpen q = (m : ℕ) (ps : List KindParameter) → open_numbers m (q ∷ ps) ≡ open_numbers (suc m) ps
-
-other_at : (ps : List KindParameter) (i : ℕ) (d q : KindParameter) → IsNotOpen q → i < length ps → get_or ps i d ≡ q → length (open_numbers 0 (drop i ps)) ≡ length (open_numbers 0 (drop (suc i) ps))
-other_at [] i d q other l e = absurd (omega (arith, l))
-other_at (p ∷ ps) zero d q other l e = ap (λ (r : KindParameter). length (open_numbers 0 (r ∷ ps))) e ∙ ap (λ (ns : List ℕ). length ns) (other 0 ps) ∙ same_count 1 0 ps
-other_at (p ∷ ps) (suc i) d q other l e = other_at ps i d q other (omega (arith, l)) e
-
 -- ---- the counts before each place
 
 one_more_count : (p : KindParameter) (ps : List KindParameter) → length (open_numbers 0 (p ∷ ps)) ≡ length (open_numbers 0 (p ∷ [])) + length (open_numbers 0 ps)

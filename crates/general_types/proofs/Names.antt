@@ -1,12 +1,12 @@
 -- What a further name holds, and what the same names hold later.
-use Rattle.std.proofs.Common.{◌≡◌, ◌∙◌, sym, ap, ap₂, subst, refl, arith, append-nil, ℕ, suc, ◌+◌, ◌<◌, ◌≤◌, inl, inr, Bool, true, false, List, [], ◌∷◌, ◌++◌, length, take, take_all, get_or, None}
+use Rattle.std.proofs.Common.{◌≡◌, ◌∙◌, sym, ap, ap₂, subst, arith, append-nil, ℕ, suc, ◌+◌, ◌<◌, ◌≤◌, inl, inr, Bool, true, false, List, [], ◌∷◌, ◌++◌, length, take, take_all, get_or, None}
 use Rattle.std.proofs.lemmas.List.{take_more}
 use Rattle.type_terms.specs.Agrees.{Follows}
 use Rattle.type_terms.specs.Ground.{Ground, Assignment, size, source}
 use Rattle.type_terms.specs.Table.{Table, Solves, bound_at, kind_at}
 use Rattle.type_terms.specs.Term.{Term, meaning, variable}
 use Rattle.type_terms.specs.declared.ty.KindTerm.TheVariants.{Var}
-use Rattle.general_types.specs.Holding.{HeldVariables, AgreeBelow, AgreeOn, AgreeOnPassed, AreThere, IsHeldBy, SameTypes, is_held}
+use Rattle.general_types.specs.Holding.{HeldVariables, AgreeBelow, AgreeOn, AgreeOnPassed, AreThere, SameTypes, is_held}
 use Rattle.general_types.specs.Renewing.{AreHeldBy, FindsBut, IsFixedBy, IsLeft, Renews}
 use Rattle.general_types.specs.Walks.{AddsKind, Every, IsSameBelow, Leads, held}
 use Rattle.general_types.proofs.Leads.{all_led, behind_led}
@@ -14,22 +14,6 @@ use Rattle.general_types.proofs.Members.{Removes, either, held_append, held_one,
 
 none_held : (k : ℕ) → is_held [] k ≡ true → ⊥
 none_held k e = let g : ◌≡◌ {A = Bool} false true = e in cc
-
-pub held_none : (s : Table) (h : HeldVariables) → h.types ≡ [] → h.kinds ≡ [] → h.passed ≡ [] → h.type_count ≡ 0 → h.kind_count ≡ 0 → h.free_count ≡ 0 → IsHeldBy s [] h
-held_none s h e f g p q r = record {
-  free_types = λ k i. absurd (none_held k (sym (ap (λ xs. is_held xs k) e) ∙ i));
-  free_kinds = λ k i. absurd (none_held k (sym (ap (λ xs. is_held xs k) f) ∙ i));
-  fixed = λ a b m n i. record { types = λ k x. absurd (none_held k (sym (ap (λ xs. is_held xs k) e) ∙ x)); kinds = λ k x. absurd (none_held k (sym (ap (λ xs. is_held xs k) f) ∙ x)) };
-  enough = λ a b m n i. refl;
-  behind = λ a b m n i j k x. absurd (none_held k (sym (ap (λ xs. is_held xs k) g) ∙ x));
-  counted = record {
-    enough_types = omega (arith, p);
-    enough_kinds = omega (arith, q);
-    types = λ k i. absurd (none_held k (sym (ap (λ xs. is_held xs k) e) ∙ i));
-    kinds = λ k i. absurd (none_held k (sym (ap (λ xs. is_held xs k) f) ∙ i));
-    free = rw (p, q, r) refl;
-  };
-}
 
 same_head : (a b : Assignment) (t : Term) (names : List Term) → SameTypes (t ∷ names) a b → meaning a t ≡ meaning b t
 same_head a b t names e = cc

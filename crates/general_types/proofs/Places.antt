@@ -1,14 +1,13 @@
 -- Numbering a type's variables by their places.
-use Rattle.std.proofs.Common.{◌≡◌, ◌∙◌, sym, ap, ap₂, subst, refl, ℕ, ◌<◌, Bool, true, false, List, [], ◌∷◌, ◌++◌, length, map, slice_get, nat_eq, if◌then◌else◌, Some}
-use Rattle.std.specs.List.{list_any}
+use Rattle.std.proofs.Common.{◌≡◌, ◌∙◌, sym, ap, ap₂, subst, refl, ℕ, ◌<◌, List, [], ◌∷◌, ◌++◌, length, map, slice_get, Some}
 use Rattle.type_terms.specs.Naming.{instance, instances, kind_instance, new_number, number_or}
 use Rattle.type_terms.specs.Term.{Term, Terms, base_term, list_term, tuple_term, source_term, variable, no_terms, one_more, terms_of, InKind, InTerm, InTerms}
 use Rattle.type_terms.specs.declared.ty.Base.{Base}
 use Rattle.type_terms.specs.declared.ty.KindTerm.{KindTerm}
 use Rattle.type_terms.specs.declared.ty.KindTerm.TheVariants.{Fixed, Var}
 use Rattle.type_terms.proofs.Renaming.{instances_map}
-use Rattle.type_terms.proofs.Terms.{InTerm-map, InTerms-map}
-use Rattle.type_instances.proofs.Reading.{get_front, get_some, get_below}
+use Rattle.type_terms.proofs.Terms.{InTerms-map}
+use Rattle.type_instances.proofs.Reading.{get_some, get_below}
 use Rattle.general_types.specs.Numbering.{IsFront, IsNumbered, AreNumbered}
 
 pub front_itself : (xs : List ℕ) → IsFront xs xs
@@ -16,14 +15,6 @@ front_itself xs = record { same = λ i k e. e }
 
 pub front_both : (xs ys zs : List ℕ) → IsFront xs ys → IsFront ys zs → IsFront xs zs
 front_both xs ys zs f g = record { same = λ i k e. g.same i k (f.same i k e) }
-
--- the keys after an insert
-pub front_insert : (xs ys : List ℕ) (k : ℕ) → ys ≡ (if list_any (nat_eq k) xs then xs else xs ++ k ∷ []) → IsFront xs ys
-front_insert xs ys k e = by (list_any (nat_eq k) xs) e
-  where
-    by : (b : Bool) → ys ≡ (if b then xs else xs ++ k ∷ []) → IsFront xs ys
-    by true f = subst (λ l. IsFront xs l) (sym f) (front_itself xs)
-    by false f = subst (λ l. IsFront xs l) (sym f) (record { same = λ i j g. get_front xs (k ∷ []) i j g })
 
 pub below_front : (xs ys : List ℕ) → IsFront xs ys → (i : ℕ) → i < length xs → i < length ys
 below_front xs ys f i l = let p = get_some xs i l in get_below ys i p.0 (f.same i p.0 p.1)
@@ -48,9 +39,6 @@ module _ (ts ks ts' ks' : List ℕ) (f : IsFront ts ts') (g : IsFront ks ks') wh
     instances_later no_terms h = refl
     instances_later (one_more t us) h = ap₂ one_more (instance_later t h.0) (instances_later us h.1)
 
-  pub inside_later : (t : Term) → InTerm (λ n. n < length ts) (λ n. n < length ks) t → InTerm (λ n. n < length ts') (λ n. n < length ks') t
-  inside_later t h = InTerm-map (below_front ts ts' f) (below_front ks ks' g) t h
-
   pub insides_later : (us : Terms) → InTerms (λ n. n < length ts) (λ n. n < length ks) us → InTerms (λ n. n < length ts') (λ n. n < length ks') us
   insides_later us h = InTerms-map (below_front ts ts' f) (below_front ks ks' g) us h
 
@@ -63,20 +51,11 @@ module _ (ts ks ts' ks' : List ℕ) (f : IsFront ts ts') (g : IsFront ks ks') wh
 pub numbered_base : (ts ks : List ℕ) (t u : Term) (b : Base) → t ≡ base_term b → u ≡ base_term b → IsNumbered ts ks ts ks t u
 numbered_base ts ks t u b e f = subst (λ x. IsNumbered ts ks ts ks x u) (sym e) (subst (λ y. IsNumbered ts ks ts ks (base_term b) y) (sym f) (record { types = front_itself ts; kinds = front_itself ks; inside = tt; same = refl }))
 
-pub numbered_fixed : (ts ks : List ℕ) (t u : Term) (k : _) → t ≡ source_term (Fixed k) → u ≡ source_term (Fixed k) → IsNumbered ts ks ts ks t u
-numbered_fixed ts ks t u k e f = subst (λ x. IsNumbered ts ks ts ks x u) (sym e) (subst (λ y. IsNumbered ts ks ts ks (source_term (Fixed k)) y) (sym f) (record { types = front_itself ts; kinds = front_itself ks; inside = tt; same = refl }))
-
-pub numbered_kind : (ts ks ks' : List ℕ) (t u : Term) (n i : ℕ) → t ≡ source_term (Var n) → u ≡ source_term (Var i) → IsFront ks ks' → slice_get ks' i ≡ Some n → IsNumbered ts ks ts ks' t u
-numbered_kind ts ks ks' t u n i e f g h = subst (λ x. IsNumbered ts ks ts ks' x u) (sym e) (subst (λ y. IsNumbered ts ks ts ks' (source_term (Var n)) y) (sym f) (record { types = front_itself ts; kinds = g; inside = get_below ks' i n h; same = ap (λ o. source_term (Var (number_or i o))) h }))
-
 pub numbered_source : (ts ks ks' : List ℕ) (t u : Term) (c d : KindTerm) → t ≡ source_term c → u ≡ source_term d → IsNumbered ts ks ts ks' (source_term c) (source_term d) → IsNumbered ts ks ts ks' t u
 numbered_source ts ks ks' t u c d e f h = subst (λ x. IsNumbered ts ks ts ks' x u) (sym e) (subst (λ y. IsNumbered ts ks ts ks' (source_term c) y) (sym f) h)
 
 pub numbered_variable : (ts ks ts' : List ℕ) (t u : Term) (n i : ℕ) → t ≡ variable n → u ≡ variable i → IsFront ts ts' → slice_get ts' i ≡ Some n → IsNumbered ts ks ts' ks t u
 numbered_variable ts ks ts' t u n i e f g h = subst (λ x. IsNumbered ts ks ts' ks x u) (sym e) (subst (λ y. IsNumbered ts ks ts' ks (variable n) y) (sym f) (record { types = g; kinds = front_itself ks; inside = get_below ts' i n h; same = ap (λ o. variable (number_or i o)) h }))
-
-pub numbered_list : (ts ks ts' ks' : List ℕ) (t u x y : Term) → t ≡ list_term x → u ≡ list_term y → IsNumbered ts ks ts' ks' x y → IsNumbered ts ks ts' ks' t u
-numbered_list ts ks ts' ks' t u x y e f h = subst (λ z. IsNumbered ts ks ts' ks' z u) (sym e) (subst (λ z. IsNumbered ts ks ts' ks' (list_term x) z) (sym f) (record { types = h.types; kinds = h.kinds; inside = h.inside; same = ap list_term h.same }))
 
 pub numbered_tuple : (ts ks ts' ks' : List ℕ) (t u : Term) (xs us : List Term) → t ≡ tuple_term (terms_of xs) → u ≡ tuple_term (terms_of us) → AreNumbered ts ks ts' ks' xs us → IsNumbered ts ks ts' ks' t u
 numbered_tuple ts ks ts' ks' t u xs us e f h = subst (λ z. IsNumbered ts ks ts' ks' z u) (sym e) (subst (λ z. IsNumbered ts ks ts' ks' (tuple_term (terms_of xs)) z) (sym f) (record { types = h.types; kinds = h.kinds; inside = h.inside; same = ap tuple_term (sym (instances_map ts' ks' us) ∙ ap terms_of h.same) }))
@@ -100,13 +79,4 @@ numbered_more ts ks ts1 ks1 ts2 ks2 xs us t u h r = record {
   kinds = front_both ks ks1 ks2 h.kinds r.kinds;
   inside = insides_push _ _ us u (insides_later ts1 ks1 ts2 ks2 r.types r.kinds (terms_of us) h.inside) r.inside;
   same = map_push (instance ts2 ks2) us u ∙ ap₂ (λ (ys : List Term) (y : Term). ys ++ (y ∷ [])) (map_later ts1 ks1 ts2 ks2 r.types r.kinds us h.inside ∙ h.same) r.same;
-}
-
--- numbered types stay so as the lists grow
-pub numbered_later : (ts ks ts1 ks1 ts2 ks2 : List ℕ) (xs us : List Term) → AreNumbered ts ks ts1 ks1 xs us → IsFront ts1 ts2 → IsFront ks1 ks2 → AreNumbered ts ks ts2 ks2 xs us
-numbered_later ts ks ts1 ks1 ts2 ks2 xs us h f g = record {
-  types = front_both ts ts1 ts2 h.types f;
-  kinds = front_both ks ks1 ks2 h.kinds g;
-  inside = insides_later ts1 ks1 ts2 ks2 f g (terms_of us) h.inside;
-  same = map_later ts1 ks1 ts2 ks2 f g us h.inside ∙ h.same;
 }

@@ -21,9 +21,6 @@ next_taken ps i p l e = map_take_next ps i p l ∙ ap (λ (x : Ty). map term_of 
 
 -- ---- settled types
 
-pub settled_none : (s : Table) (us : List Term) → us ≡ [] → AreSettled s [] us
-settled_none s us e = subst (λ zs. AreSettled s [] zs) (sym e) (record { unbound = tt; same = λ a m. refl })
-
 mean_push : (a : Assignment) (us : List Term) (u : Term) → map (meaning a) (us ++ (u ∷ [])) ≡ map (meaning a) us ++ (meaning a u ∷ [])
 mean_push a [] u = refl
 mean_push a (v ∷ us) u = ap (λ (xs : List Ground). meaning a v ∷ xs) (mean_push a us u)
@@ -54,9 +51,6 @@ numbered_all ts ks ts' ks' ps us i l h = subst (λ xs. AreNumbered ts ks ts' ks'
 
 pub opens_more : (s : Table) (ts ks ts' ks' : List ℕ) (xs zs us : List Term) → AreSettled s xs zs → AreNumbered ts ks ts' ks' zs us → OpenMore s ts ks ts' ks' xs us
 opens_more s ts ks ts' ks' xs zs us h n = record { types = n.types; kinds = n.kinds; are = record { settled = zs; are = h; inside = n.inside; same = n.same } }
-
-pub opens_one : (s : Table) (ts ks ts' ks' : List ℕ) (x z u : Term) → IsUnbound s z → ((a : Assignment) → Solves a s → meaning a z ≡ meaning a x) → IsNumbered ts ks ts' ks' z u → OpensOne s ts ks ts' ks' x u
-opens_one s ts ks ts' ks' x z u unbound same n = record { types = n.types; kinds = n.kinds; is = record { settled = z; is = record { unbound = unbound; same = same }; inside = n.inside; same = n.same } }
 
 opened_later : (s : Table) (ts ks ts' ks' : List ℕ) (xs us : List Term) → IsFront ts ts' → IsFront ks ks' → AreOpened s ts ks xs us → AreOpened s ts' ks' xs us
 opened_later s ts ks ts' ks' xs us f g h = record {

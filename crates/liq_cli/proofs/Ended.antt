@@ -11,8 +11,8 @@ use Rattle.liq_cli.specs.Call.{Ends, ForFiles, LineSaid, NoMemory, Outside, Read
 use Rattle.station_jobs.specs.Jobs.{IsDone, IsStarved}
 use Rattle.station_jobs.specs.Prepared.{Ended, ForOneOf}
 use Rattle.liq_cli.specs.Telling.{Finishes, Tells}
-use Rattle.station_jobs.specs.declared.halt.Halt.{Halt}
-use Rattle.station_jobs.specs.declared.halt.Halt.TheVariants.{Read, Write, Memory, Refused as refused_for}
+use Rattle.station_jobs.specs.declared.halt.CallEnd.{CallEnd}
+use Rattle.station_jobs.specs.declared.halt.CallEnd.TheVariants.{Read, Write, Memory, Refused as refused_for}
 use Rattle.liq_cli.proofs.Asking.{AsksOne, each_one, for_verdict, for_each_verdict, one_more}
 
 -- what is said at each status
@@ -49,7 +49,7 @@ module _ (words : List (List ℕ)) (old new : Outside) (asked : Asked) (asks : A
   unsaid : (fault : Fault) (files : Files) (verdict : Verdict) → OnlyRead old.shelf new.shelf → verdict ≡ Refused fault → IsStarved verdict files old.shelf new.shelf
   unsaid fault files verdict kept is = ((λ same. absurd (let e : Refused fault ≡ Usage = sym is ∙ same in cc)), inl kept)
 
-  pub finished : (job : Result (String Global) Halt) (status : ℕ) → Ended asked old.shelf new.shelf job → Finishes job old.out new.out old.err new.err status → Ends words old new status
+  pub finished : (job : Result (String Global) CallEnd) (status : ℕ) → Ended asked old.shelf new.shelf job → Finishes job old.out new.out old.err new.err status → Ends words old new status
   finished (Ok report) status ended told =
       let done : ForFiles words old.shelf (λ files v. IsDone v files old.shelf new.shelf (string_bytes report)) = for_files (λ files v. IsDone v files old.shelf new.shelf (string_bytes report)) ended in
       ⊎_elim (λ all. subst (Ends words old new) (sym all.0) (formed 0 (lit≤ tt) (record { report = string_bytes report; said = all.1; done = done; err_kept = told.1 })))

@@ -25,7 +25,7 @@ outside_of shelf out err = record { shelf = shelf; out = out; err = err }
 abbrev pub sure_of : Files → ShelfTold → ShelfTold
 sure_of files shelf = record shelf { files = Some files; reads = 0; writes = 0 }
 
--- the same, where the shelf tells these files and never fails
+-- what is outside of the call, where the shelf holds these files and never failed
 abbrev pub over : Files → Outside → Outside
 over files outside = record { shelf = sure_of files outside.shelf; out = outside.out; err = outside.err }
 
@@ -96,7 +96,7 @@ abbrev pub WriteFailed : (words : List (List ℕ)) → (old new : Outside) → T
 WriteFailed words old new = UsageBroke words old new ⊎ LineBroke words old new ⊎ ReportBroke words old new
     ⊎ RenderingBroke words old new
 
--- status 5: memory was refused
+-- what holds at status 5; no field ties this status to a cause, so refused memory is not told here
 pub record NoMemory (words : List (List ℕ)) (old new : Outside) : Type 0 where
   pub starved : ForSome old.shelf.files
       (λ files. ForEachVerdict words files (λ verdict. IsStarved verdict files old.shelf new.shelf))
@@ -121,7 +121,7 @@ pub record Calm (old new : Outside) : Type 0 where
   pub out : Rose old.out.faults new.out.faults → ⊥
   pub err : Rose old.err.faults new.err.faults → ⊥
 
--- this status is that of the verdict, or memory was refused
+-- this status is that of the verdict, or 5
 abbrev pub Completes : Verdict → ℕ → Type 0
 Completes (Made made station) status = (status ≡ 0) ⊎ (status ≡ 5)
 Completes (Accepted station) status = (status ≡ 0) ⊎ (status ≡ 5)
@@ -133,8 +133,8 @@ Completes Usage status = status ≡ 2
 abbrev pub HasVerdict : List (List ℕ) → Files → Type 0
 HasVerdict words files = (verdict : Verdict) × IsVerdict words files verdict
 
--- Where no count rose, memory was refused or there is a verdict; and each verdict is the status, unless memory was
--- refused.
+-- Where no count rose, the status is 5 or there is a verdict; and each verdict is the status, unless that is 5. Status 5
+-- has no cause here: a body that always ends with it meets this.
 abbrev pub IsComplete : List (List ℕ) → Outside → Outside → ℕ → Type 0
 IsComplete words old new status = Calm old new → ForSome old.shelf.files (λ files.
     ((status ≡ 5) ⊎ HasVerdict words files) × ForEachVerdict words files (λ verdict. Completes verdict status))

@@ -8,7 +8,7 @@ ghost use Rattle.refusal_lines.specs.Lines.{line_of};
 use liq_base::{Failed, Gate, Memory, Shelf, Sink};
 use refusal_lines::Fault;
 use station_jobs::{
-    Form, Halt, alone_job, check_job, make_job, read_words, replay_job, threads_job,
+    CallEnd, Form, alone_job, check_job, make_job, read_words, replay_job, threads_job,
 };
 use std::alloc::Global;
 use std::sync::Wait;
@@ -123,7 +123,7 @@ pub fn liq_alone<S: Shelf, O: Sink, E: Sink>(
 // Writes the one text of a call whose job ended so: the report, or the line of a refusal.
 fn finish<O: Sink, E: Sink>(
     alloc: Global,
-    job: Result<String, Halt>,
+    job: Result<String, CallEnd>,
     out: &mut O,
     err: &mut E,
 ) -> u8
@@ -133,10 +133,10 @@ fn finish<O: Sink, E: Sink>(
 {
     match job {
         Ok(report) => tell(out, report.as_str(), DONE),
-        Err(Halt::Refused(fault)) => refuse(alloc, &fault, err),
-        Err(Halt::Read) => READ_FAILED,
-        Err(Halt::Write) => WRITE_FAILED,
-        Err(Halt::Memory) => NO_MEMORY,
+        Err(CallEnd::Refused(fault)) => refuse(alloc, &fault, err),
+        Err(CallEnd::Read) => READ_FAILED,
+        Err(CallEnd::Write) => WRITE_FAILED,
+        Err(CallEnd::Memory) => NO_MEMORY,
     }
 }
 

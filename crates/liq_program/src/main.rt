@@ -2,12 +2,8 @@
 #![tactic(auto)]
 
 use liq_cli::liq;
-use real_files::{FileShelf, OutSink};
-use std::alloc::Global;
-use std::env;
-use std::io::ErrorKind;
+use real_files::{FileShelf, OutSink, words};
 use std::process::ExitCode;
-use std::rt::Env;
 use step_gate::StepGate;
 
 /// The status of a call whose words could not be held.
@@ -24,14 +20,4 @@ fn main(rt: HostRuntime) -> ExitCode {
     let gate = StepGate::new(&rt);
     let status = liq(&rt, alloc, &words, &mut shelf, &mut out, &mut err, &gate);
     ExitCode::from(status)
-}
-
-// The words after the program's name; nothing where memory is refused. An argument that is not UTF-8 makes no form of
-// the words, as no words at all.
-fn words<R: Env + Alloc<A = Global>>(rt: &R) -> Option<Vec<String>> {
-    match env::args(rt) {
-        Ok(args) => args.skip(1).collect(rt.alloc()).ok(),
-        Err(error) if error.kind() == ErrorKind::OutOfMemory => None,
-        Err(_) => Some(Vec::new(rt.alloc())),
-    }
 }

@@ -119,12 +119,6 @@ first_some label gs i = by (argument label gs) where
   by None e = absurd (let c : ◌≡◌ {A = Option ℕ} (Some i) None = e in cc)
   by (Some x) e = let is : x.0 ≡ i = cc in ap (λ j. Some (j, x.1)) is
 
-pub none_taken : (label : Option (List ℕ)) (gs : List (GivenArgument ℕ)) → None ≡ first_of label gs → gs ≡ others gs (argument label gs)
-none_taken label gs = by (argument label gs) where
-  by : (o : Taken) → None ≡ option_map (λ (x : ℕ × List (GivenArgument ℕ)). x.0) o → gs ≡ others gs o
-  by None e = refl
-  by (Some x) e = absurd (let c : ◌≡◌ {A = Option ℕ} None (Some x.0) = e in cc)
-
 pub some_first : (label : Option (List ℕ)) (gs : List (GivenArgument ℕ)) → is_some (first_of label gs) ≡ is_some (argument label gs)
 some_first label gs = by (argument label gs) where
   by : (o : Taken) → is_some (option_map (λ (x : ℕ × List (GivenArgument ℕ)). x.0) o) ≡ is_some o

@@ -2,22 +2,20 @@
 use Rattle.std.proofs.Common.{◌≡◌, refl, sym, ap, ◌∙◌, ℕ, zero, suc, ◌+◌, ◌<◌, List, [], ◌∷◌, ◌++◌, length, drop, take, get_or, Option, Some, None, Bool, true, false, cond, map, arith}
 use Rattle.std.proofs.lemmas.List.{at_drop_more, take_more}
 use Rattle.std.proofs.lemmas.List.{map-append}
-use Rattle.std.specs.Prelude.{is_some}
 use Rattle.std.specs.List.{remove}
-use Rattle.typing_rules.specs.Arguments.{Parameter, GivenArgument, after, argument, first_missing, is_label, is_needed, label_of, left_over, missing_or, others, parameter_of, parameters_of}
+use Rattle.typing_rules.specs.Arguments.{Parameter, GivenArgument, after, argument, first_missing, is_label, left_over, parameter_of, parameters_of}
 use Rattle.typing_rules.specs.Scoping.{tokens_given}
 use Rattle.script_grammar.specs.View.{listed, param_of, view_arg, view_param}
 use Rattle.script_grammar.specs.declared.tree.Arg.{Arg}
 use Rattle.script_grammar.specs.declared.tree.Param.{Param}
 use Rattle.script_grammar.specs.declared.tree.ParamForm.{ParamForm}
 use Rattle.script_grammar.specs.declared.tree.ParamForm.TheVariants as form
-use Rattle.typing_rules.specs.declared.parameter.Parameter.{Parameter as AParameter}
 use Rattle.name_scope.specs.declared.parameter.Given.{Given as AGiven}
 use Rattle.typing_rules.specs.declared.fault.NameFault.{NameFault}
 use Rattle.typing_rules.specs.declared.fault.NameFault.TheVariants.{Extra}
 use Rattle.typing_rules.specs.NameFaults.{is_among, missing_at, param_name, repeated_at, repeats, token_of}
-use Rattle.name_scope.specs.Noted.{all_sooner, mismatches, missing_with, sooner}
-use Rattle.name_scope.specs.Seen.{form_seen, seen_given, seen_parameter}
+use Rattle.name_scope.specs.Noted.{all_sooner, mismatches, sooner}
+use Rattle.name_scope.specs.Seen.{form_seen, seen_given}
 use Rattle.typing_rules.proofs.Searches.{search_default}
 
 abbrev Taken : Type 0
@@ -68,37 +66,6 @@ abbrev pub or_first : Option (List ℕ) → Option (List ℕ) → Option (List �
 or_first None later = later
 or_first (Some m) later = Some m
 
-pub step_missing : (m : Option (List ℕ)) (p : Parameter) (o : Taken) (later : Option (List ℕ)) → or_first (missing_with m p (is_some o)) later ≡ or_first m (missing_or p o later)
-step_missing (Some n) p o later = refl
-step_missing None p (Some x) later = refl
-step_missing None p None later = by_need (is_needed p.form) where
-  by_need : (b : Bool) → or_first (cond b (Some p.name) None) later ≡ cond b (Some p.name) later
-  by_need true = refl
-  by_need false = refl
-
--- one more parameter
-pub param_missing : (ps : List AParameter) (gs hs : List (GivenArgument ℕ)) (i : ℕ) (p : AParameter) (m n whole : Option (List ℕ)) (taken : Bool) → i < length ps → p ≡ get_or ps i p →
-    or_first m (first_missing (map seen_parameter (drop i ps)) gs) ≡ whole → taken ≡ is_some (argument (label_of (seen_parameter p)) gs) → hs ≡ others gs (argument (label_of (seen_parameter p)) gs) → n ≡ missing_with m (seen_parameter p) taken →
-    or_first n (first_missing (map seen_parameter (drop (i + 1) ps)) hs) ≡ whole
-param_missing ps gs hs i p m n whole taken lt is so t h nn =
-    let P : List AParameter → Option (List ℕ) = λ l. or_first m (first_missing (map seen_parameter l) gs) in
-    let o = argument (label_of (seen_parameter p)) gs in
-    let later = first_missing (map seen_parameter (drop (i + 1) ps)) (others gs o) in
-    ap (λ k. or_first n (first_missing (map seen_parameter (drop (i + 1) ps)) k)) h
-    ∙ ap (λ k. or_first k later) (nn ∙ ap (missing_with m (seen_parameter p)) t)
-    ∙ step_missing m (seen_parameter p) o later
-    ∙ ap (λ (y : AParameter). or_first m (first_missing (map seen_parameter (y ∷ drop (i + 1) ps)) gs)) is
-    ∙ sym (at_drop_more P ps i p lt) ∙ so
-
-pub param_left : (ps : List AParameter) (gs hs whole : List (GivenArgument ℕ)) (i : ℕ) (p : AParameter) → i < length ps → p ≡ get_or ps i p →
-    left_over (map seen_parameter (drop i ps)) gs ≡ whole → hs ≡ others gs (argument (label_of (seen_parameter p)) gs) →
-    left_over (map seen_parameter (drop (i + 1) ps)) hs ≡ whole
-param_left ps gs hs whole i p lt is so h =
-    let P : List AParameter → List (GivenArgument ℕ) = λ l. left_over (map seen_parameter l) gs in
-    ap (left_over (map seen_parameter (drop (i + 1) ps))) h
-    ∙ ap (λ (y : AParameter). left_over (map seen_parameter (y ∷ drop (i + 1) ps)) gs) is
-    ∙ sym (at_drop_more P ps i p lt) ∙ so
-
 -- arguments and parameters as the tree has them
 abbrev pub token_given : Arg → GivenArgument ℕ
 token_given a = (a.label, a.at)
@@ -122,9 +89,6 @@ params_listed (p ∷ ps) = ap (λ (x : Parameter). x ∷ map param_seen ps) (par
 -- faults, one at a time
 abbrev pub extras : List AGiven → List NameFault
 extras gs = map (λ g. Extra g.at) gs
-
-pub extra_next : (gs : List AGiven) (i : ℕ) (g : AGiven) (o p whole : Option NameFault) → all_sooner o (extras (drop i gs)) ≡ whole → i < length gs → g ≡ get_or gs i g → p ≡ sooner o (Extra g.at) → all_sooner p (extras (drop (i + 1) gs)) ≡ whole
-extra_next gs i g o p whole so lt is q = ap (λ x. all_sooner x (extras (drop (i + 1) gs))) q ∙ ap (λ (y : AGiven). all_sooner o (extras (y ∷ drop (i + 1) gs))) is ∙ sym (at_drop_more (λ l. all_sooner o (extras l)) gs i g lt) ∙ so
 
 -- parameters of one name
 abbrev pub repeats_of : List (List ℕ) → List Param → List NameFault

@@ -1,5 +1,5 @@
 -- A crossfade that wants, and that is filled.
-use Rattle.std.proofs.Common.{◌≡◌, ◌∙◌, ◌<◌, ◌≤◌, ◌↔◌, ◌+◌, ◌*◌, ℕ, zero, suc, List, length, nat_lt, Bool, true, false, cond, IsTrue, arith, refl, ap, sym, subst, inl, inr}
+use Rattle.std.proofs.Common.{◌≡◌, ◌∙◌, ◌<◌, ◌≤◌, ◌↔◌, ◌+◌, ◌*◌, ℕ, zero, suc, List, length, nat_lt, Bool, true, false, cond, IsTrue, arith, ap, sym, subst, inl, inr}
 use Rattle.std.proofs.lemmas.Bool.Decides.{nat_tests}
 use Rattle.op_cross.proofs.CrossLaws.{cross-many}
 use Rattle.std.proofs.lemmas.Bool.{false≢true, cases_lt}
@@ -12,7 +12,6 @@ use Rattle.stream_meaning.specs.Operators.{Work, Plays, Picks, Mixes, Fades, Rea
 use Rattle.stream_meaning.specs.Instants.{Setting, Moment, position}
 use Rattle.node_states.specs.declared.state.NodeState.TheVariants.{Cross}
 use Rattle.node_states.specs.States.{AreLong, CrossStands, FadesOn, IsSettled, StateStands}
-use Rattle.node_states.specs.declared.state.NodeState.{NodeState}
 
 -- what `wants` of a crossfade tells
 abbrev pub Tells : Crossing → Bool → Type 0
@@ -30,15 +29,6 @@ cross_settled setting sub past filled i (Fades overlap) state wanting tells stan
           (subst (λ (o : ℕ). length (cross o (sub i filled)) ≤ position past i) (sym stands.overlap_is) high)))
     ]
 cross_settled setting sub past filled i (Reads buffer) state wanting tells stands is = absurd stands
-
--- what is no crossfade is settled, where a reader has begun
-pub other_settled : (setting : Setting) (sub : ℕ → ℕ → List Slot) (past : List Moment) (filled i : ℕ) (work : Work) (state : NodeState)
-    → ((overlap : ℕ) → work ≡ Fades overlap → ⊥) → ((buffer : ℕ) → work ≡ Reads buffer → filled ≡ suc (length past)) → IsSettled sub past filled i work
-other_settled setting sub past filled i (Plays leaf) state other begun = tt
-other_settled setting sub past filled i (Picks rule eligible) state other begun = tt
-other_settled setting sub past filled i (Mixes mixing) state other begun = tt
-other_settled setting sub past filled i (Fades overlap) state other begun = absurd (other overlap refl)
-other_settled setting sub past filled i (Reads buffer) state other begun = begun buffer refl
 
 -- a crossfade's item is settled by more slots than those that settle none
 least_from-low : (test : ℕ → Bool) (at most : ℕ) → at ≤ least_from test at most

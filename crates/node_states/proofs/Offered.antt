@@ -10,11 +10,9 @@ use Rattle.op_cross.specs.Crossfade.{cross}
 use Rattle.op_cross.specs.States.{Crossing, StandsFor}
 use Rattle.op_cross.proofs.LeastRuns.{item_of-is}
 use Rattle.stream_meaning.specs.Operators.{Work, Choice, Eligible, Plays, Picks, Mixes, Fades, Reads, Selects, TakesTurns, marks_at}
-use Rattle.stream_meaning.specs.Instants.{Setting, Moment, Reading, choices, last_pick, position, part_by, picked_part, second_at, unpicked}
-use Rattle.node_states.specs.declared.state.NodeState.TheVariants.{Select, Turn, Cross, Read}
-use Rattle.node_states.specs.States.{AreLong, IsSettled, StateStands, reading_by}
-use Rattle.op_leaf.specs.Readers.{Reader, reader_slot}
-use Rattle.node_states.proofs.Chunks.{reading_open}
+use Rattle.stream_meaning.specs.Instants.{Setting, Moment, choices, last_pick, position, part_by, picked_part, second_at, unpicked}
+use Rattle.node_states.specs.declared.state.NodeState.TheVariants.{Select, Turn, Cross}
+use Rattle.node_states.specs.States.{AreLong, IsSettled, StateStands}
 
 pub select_part : (setting : Setting) (sub : ℕ → ℕ → List Slot) (past : List Moment) (filled i : ℕ) (work : Work) (slots : List Slot)
     (state : Selection) (marks : List Bool) (second : ℕ) (found : Option Picked) → second ≡ second_at setting (length past)
@@ -59,14 +57,3 @@ cross_part setting sub past filled i (Fades overlap) slots state slot long stand
     ∙ ap (λ (o : ℕ). slot_at (cross o (sub i filled)) p) stands.overlap_is
     ∙ sym (item_of-is overlap (sub i) p filled (long.each i) settled stands.least))
 cross_part setting sub past filled i (Reads buffer) slots state slot long stands settled items = absurd stands
-
--- what a reader that has begun offers
-pub read_part : (setting : Setting) (sub : ℕ → ℕ → List Slot) (past : List Moment) (filled i : ℕ) (work : Work) (slots : List Slot)
-    (state : Reader) (slot : Slot) → StateStands setting sub past filled i work (Read state) → IsSettled sub past filled i work
-    → slot ≡ reader_slot state → unpicked slot ≡ part_by setting sub past i work slots
-read_part setting sub past filled i (Plays leaf) slots state slot stands settled is = absurd stands
-read_part setting sub past filled i (Picks rule eligible) slots state slot stands settled is = absurd stands
-read_part setting sub past filled i (Mixes mixing) slots state slot stands settled is = absurd stands
-read_part setting sub past filled i (Fades overlap) slots state slot stands settled is = absurd stands
-read_part setting sub past filled i (Reads buffer) slots state slot stands settled is =
-    ap unpicked (is ∙ ap reader_slot (stands ∙ ap (λ (n : ℕ). (reading_by setting i buffer past n).reader) settled ∙ ap (λ (r : Reading). r.reader) (reading_open setting i buffer past)))

@@ -16,24 +16,13 @@ use Rattle.op_leaf.specs.declared.leaf.Leaf.{Leaf as TheLeaf}
 use Rattle.op_leaf.specs.declared.leaf.LeafState.{LeafState}
 use Rattle.op_leaf.specs.Leaves.{leaf_slot}
 use Rattle.op_leaf.specs.Standing.{StandsAt, leaf_of}
-use Rattle.node_states.specs.declared.state.NodeState.{NodeState}
-use Rattle.node_states.specs.declared.state.NodeState.TheVariants.{Leaf, Select, Turn, Mix, Cross, Read, Idle}
+use Rattle.node_states.specs.declared.state.NodeState.TheVariants.{Leaf, Cross, Read}
 use Rattle.stream_meaning.specs.Instants.{Setting, Moment, Reading, gives_before, demanded, gives, offer, position, reading_after, reading_at, read_on}
 use Rattle.stretch_laws.specs.Stretches.{AreFilled, NodeGoes, NodeKeeps}
 use Rattle.stretch_laws.proofs.Reaching.{item_more, item_titled, run_more}
 use Rattle.node_states.specs.Passing.{asked}
 use Rattle.node_states.specs.States.{AreLong, CrossStands, StateStands, reading_by}
 use Rattle.node_states.proofs.Chunks.{reading_closed}
-
--- it makes no cells of its own
-abbrev pub IsOther : NodeState → Type 0
-IsOther (Leaf state) = ⊥
-IsOther (Select state) = Unit {0}
-IsOther (Turn state) = Unit {0}
-IsOther (Mix mixer) = Unit {0}
-IsOther (Cross state) = ⊥
-IsOther (Read reader) = ⊥
-IsOther Idle = Unit {0}
 
 inner_within : (items : List Slot) (p : ℕ) → is_inner (slot_at items p) ≡ true → p < length items
 inner_within items p e = elim (cases_lt p (length items)) [
@@ -169,50 +158,6 @@ leaf_keeps setting sub past moment filled i (Picks rule eligible) rest state sta
 leaf_keeps setting sub past moment filled i (Mixes mixing) rest state stands gave titled = absurd stands
 leaf_keeps setting sub past moment filled i (Fades overlap) rest state stands gave titled = absurd stands
 leaf_keeps setting sub past moment filled i (Reads buffer) rest state stands gave titled = absurd stands
-
--- where a node did not give there is nothing to keep
-pub none_keeps : (setting : Setting) (sub : ℕ → ℕ → List Slot) (past : List Moment) (moment : Moment) (i : ℕ) (work : Work) (rest : ℕ)
-    → gives moment i ≡ false → NodeKeeps setting sub past moment i work rest
-none_keeps setting sub past moment i (Plays leaf) rest not = λ g j low. absurd (false≢true (sym not ∙ g))
-none_keeps setting sub past moment i (Picks choice eligible) rest not = tt
-none_keeps setting sub past moment i (Mixes mixing) rest not = tt
-none_keeps setting sub past moment i (Fades overlap) rest not = λ g j low. absurd (false≢true (sym not ∙ g))
-none_keeps setting sub past moment i (Reads buffer) rest not = λ g j low. absurd (false≢true (sym not ∙ g))
-
--- and where none follow
-pub ended_keeps : (setting : Setting) (sub : ℕ → ℕ → List Slot) (past : List Moment) (moment : Moment) (i : ℕ) (work : Work) → NodeKeeps setting sub past moment i work 0
-ended_keeps setting sub past moment i (Plays leaf) = λ g j low. absurd (omega (arith, low))
-ended_keeps setting sub past moment i (Picks choice eligible) = tt
-ended_keeps setting sub past moment i (Mixes mixing) = tt
-ended_keeps setting sub past moment i (Fades overlap) = λ g j low. absurd (omega (arith, low))
-ended_keeps setting sub past moment i (Reads buffer) = λ g j low. absurd (omega (arith, low))
-
--- a node of a state that makes no cells of its own
-pub other_keeps : (setting : Setting) (sub : ℕ → ℕ → List Slot) (past : List Moment) (moment : Moment) (filled i : ℕ) (work : Work) (rest : ℕ) (state : NodeState)
-    → IsOther state → StateStands setting sub (moment ∷ past) filled i work state → NodeKeeps setting sub past moment i work rest
-other_keeps setting sub past moment filled i (Picks choice eligible) rest state other stands = tt
-other_keeps setting sub past moment filled i (Mixes mixing) rest state other stands = tt
-other_keeps setting sub past moment filled i (Plays leaf) rest (Leaf state) other stands = absurd other
-other_keeps setting sub past moment filled i (Plays leaf) rest (Select state) other stands = absurd stands
-other_keeps setting sub past moment filled i (Plays leaf) rest (Turn state) other stands = absurd stands
-other_keeps setting sub past moment filled i (Plays leaf) rest (Mix mixer) other stands = absurd stands
-other_keeps setting sub past moment filled i (Plays leaf) rest (Cross state) other stands = absurd other
-other_keeps setting sub past moment filled i (Plays leaf) rest (Read reader) other stands = absurd other
-other_keeps setting sub past moment filled i (Plays leaf) rest Idle other stands = absurd stands
-other_keeps setting sub past moment filled i (Fades overlap) rest (Leaf state) other stands = absurd other
-other_keeps setting sub past moment filled i (Fades overlap) rest (Select state) other stands = absurd stands
-other_keeps setting sub past moment filled i (Fades overlap) rest (Turn state) other stands = absurd stands
-other_keeps setting sub past moment filled i (Fades overlap) rest (Mix mixer) other stands = absurd stands
-other_keeps setting sub past moment filled i (Fades overlap) rest (Cross state) other stands = absurd other
-other_keeps setting sub past moment filled i (Fades overlap) rest (Read reader) other stands = absurd other
-other_keeps setting sub past moment filled i (Fades overlap) rest Idle other stands = absurd stands
-other_keeps setting sub past moment filled i (Reads buffer) rest (Leaf state) other stands = absurd other
-other_keeps setting sub past moment filled i (Reads buffer) rest (Select state) other stands = absurd stands
-other_keeps setting sub past moment filled i (Reads buffer) rest (Turn state) other stands = absurd stands
-other_keeps setting sub past moment filled i (Reads buffer) rest (Mix mixer) other stands = absurd stands
-other_keeps setting sub past moment filled i (Reads buffer) rest (Cross state) other stands = absurd other
-other_keeps setting sub past moment filled i (Reads buffer) rest (Read reader) other stands = absurd other
-other_keeps setting sub past moment filled i (Reads buffer) rest Idle other stands = absurd stands
 
 -- the titles of the cells that a reader holds which gave
 pub read_keeps : (setting : Setting) (sub : ℕ → ℕ → List Slot) (past : List Moment) (moment : Moment) (filled i : ℕ) (work : Work) (rest : ℕ) (state : Reader)

@@ -10,16 +10,13 @@ use Rattle.frame_core.specs.declared.cell.Cell.{Cell}
 use Rattle.frame_core.specs.Slots.{Slot}
 use Rattle.op_cross.specs.Crossfade.{cross}
 use Rattle.op_cross.specs.Runs.{run_of}
-use Rattle.op_cross.specs.States.{AllInner, Crossing, IsCrossing, StandsFor, passes}
-use Rattle.op_cross.proofs.LeastRuns.{run_of-is}
-use Rattle.op_cross.proofs.Running.{passing}
+use Rattle.op_cross.specs.States.{Crossing, StandsFor}
 use Rattle.stream_meaning.specs.Operators.{Work, Plays, Picks, Mixes, Fades, Reads}
 use Rattle.op_leaf.specs.Readers.{Reader, after_cell, read_by}
 use Rattle.stream_meaning.specs.Instants.{Setting, Moment, Reading, choices, gives_before, gives, last_pick, moment_after, offer, position, reading_after, reading_at, work_at}
 use Rattle.stream_meaning.specs.Calls.{ran_by}
 use Rattle.stretch_laws.specs.Stretches.{AreFilled, IsNode, IsOn, IsStretch, going_on}
 use Rattle.stretch_laws.proofs.Stretching.{on_all}
-use Rattle.stretch_laws.proofs.Reaching.{run_more}
 use Rattle.node_states.specs.declared.state.NodeState.{NodeState}
 use Rattle.node_states.specs.declared.state.NodeState.TheVariants.{Leaf, Select, Turn, Mix, Cross, Read}
 use Rattle.node_states.specs.States.{AreLong, CrossStands, HasSelected, HasTurned, LeafStands, StateStands, reading_by, reads}
@@ -127,12 +124,6 @@ module _ (setting : Setting) (sub : ℕ → ℕ → List Slot) (clock : NodeCloc
   pub position_later : gives First i ≡ true → position Later i ≡ position Past i + many
   position_later gave = let a = on_later.passed i gave in let b = on_now.passed i gave in omega (arith, a, b)
 
-  -- the item of the last instant of the run
-  position_last : gives First i ≡ true → position (going_on setting sub clock (m + many - 1) past) i ≡ position Past i + (many - 1)
-  position_last gave =
-      let on = on_all setting sub clock past instants nodes stretch (m + many - 1) (omega (arith, within)) in
-      let a = on.passed i gave in let b = on_now.passed i gave in omega (arith, a, b, some)
-
   position_kept : gives First i ≡ false → is_some (offer First i) ≡ true → position (going_on setting sub clock (m + many - 1) past) i ≡ position past i
   position_kept not there = (on_all setting sub clock past instants nodes stretch (m + many - 1) (omega (arith, within))).held i not there
 
@@ -151,23 +142,6 @@ module _ (setting : Setting) (sub : ℕ → ℕ → List Slot) (clock : NodeCloc
       ran_at (m + many) overlap (omega (arith, begun)) ∙ ap (run_of overlap (sub i)) (position_kept not there ∙ sym (position_first not there)) ∙ sym (ran_at m overlap begun)
 
   module _ (filled overlap : ℕ) (state : Crossing) (long : AreLong sub) (stands : CrossStands (sub i) filled (position Past i) overlap state) where
-    -- where items are ready, it asks for no more
-    pub needed_ready : gives First i ≡ true → position Past i + many ≤ length (cross overlap (sub i filled)) → ran_by sub i overlap Later ≡ filled
-    needed_ready gave ready =
-        ran_at (m + many) overlap (omega (arith, begun)) ∙ ap (run_of overlap (sub i)) (position_last gave)
-        ∙ run_of-is overlap (sub i) (position Past i + (many - 1)) filled (long.each i) (omega (arith, ready, some))
-        (λ k less. let l = stands.least k less in omega (arith, l))
-
-    -- where cells pass, for as many more
-    pub needed_through : (below : ℕ) → gives First i ≡ true → AreFilled setting sub i filled many below → IsCrossing state → passes state ≡ true → AllInner state.cells → ran_by sub i overlap Later ≡ filled + many
-    needed_through below gave are is_crossing through plain =
-        let e : suc (many - 1) ≡ many = omega (arith, some) in
-        ran_at (m + many) overlap (omega (arith, begun)) ∙ ap (run_of overlap (sub i)) (position_last gave)
-        ∙ ap (λ most. run_of most (sub i) (position Past i + (many - 1))) (sym stands.overlap_is)
-        ∙ run_more setting sub i filled many (position Past i) below state (long.each i) are is_crossing stands.stands (passing state through) plain
-        (λ k less. subst (λ most. length (cross most (sub i k)) ≤ position Past i) (sym stands.overlap_is) (stands.least k less)) (many - 1) (omega (arith, some))
-        ∙ ap (λ n. filled + n) e
-
     -- and the state behind `pass`
     pub passed_stands : (new : Crossing) (cells : List Cell) → gives First i ≡ true → new.overlap ≡ state.overlap → length cells ≡ many
         → ((k : ℕ) → k ≤ many → sub i (filled + k) ≡ sub i filled ++ map Some (take k cells))

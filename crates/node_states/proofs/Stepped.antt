@@ -12,12 +12,10 @@ use Rattle.op_cross.specs.States.{Crossing, StandsFor, position_after}
 use Rattle.op_cross.proofs.LeastRuns.{item_of-is}
 use Rattle.stream_meaning.specs.declared.part.Part.{Part}
 use Rattle.stream_meaning.specs.Operators.{Work, Plays, Picks, Mixes, Fades, Reads, Selects, TakesTurns, marks_at}
-use Rattle.stream_meaning.specs.Instants.{Setting, Moment, Reading, reading_after, reading_at, read_on, choices, demanded, gives, last_pick, offer, part_at, part_by, picked_part, position, second_at}
+use Rattle.stream_meaning.specs.Instants.{Setting, Moment, choices, demanded, gives, last_pick, offer, part_at, part_by, picked_part, position, second_at}
 use Rattle.stream_meaning.proofs.Choosing.{picked_within}
-use Rattle.node_states.specs.declared.state.NodeState.TheVariants.{Select, Turn, Cross, Read}
-use Rattle.node_states.specs.States.{AreLong, IsSettled, StateStands, reading_by}
-use Rattle.op_leaf.specs.Readers.{Reader, after_cell}
-use Rattle.node_states.proofs.Chunks.{reading_closed, reading_open}
+use Rattle.node_states.specs.declared.state.NodeState.TheVariants.{Select, Turn, Cross}
+use Rattle.node_states.specs.States.{AreLong, IsSettled, StateStands}
 
 -- an instant at which node i had this part and this mark
 pub record HasPart (moment : Moment) (i : ℕ) (part : Part) (mark : Bool) : Type 0 where
@@ -141,10 +139,6 @@ not_before : (test : Bool) (p : ℕ) → p ≤ cond test (suc p) p
 not_before true p = omega arith
 not_before false p = omega arith
 
-read_reader : (gave : Bool) (reading : Reading) → cond gave (after_cell reading.reader) reading.reader ≡ (read_on gave reading).reader
-read_reader true reading = refl
-read_reader false reading = refl
-
 pub cross_step : (setting : Setting) (sub : ℕ → ℕ → List Slot) (past : List Moment) (moment : Moment) (filled i : ℕ) (work : Work) (slots : List Slot)
     (old new : Crossing) (part : Part) (mark gave : Bool) → AreLong sub → gave ≡ (mark && is_some part.slot) → new.overlap ≡ old.overlap
     → ((list : List Slot) (p : ℕ) → StandsFor old list p → p < length (cross old.overlap list) → StandsFor new list (position_after gave (slot_at (cross old.overlap list) p) p))
@@ -176,21 +170,3 @@ cross_step setting sub past moment filled i (Fades overlap) slots old new part m
         ∙ ap (λ (g : Bool). cond (g || not (is_some part.slot)) (suc (position past i)) (position past i)) (gave_is ∙ sym (given moment i part mark had))
         ∙ ap (λ (q : Part). cond (gives moment i || not (is_some q.slot)) (suc (position past i)) (position past i)) (sym had.part_is)
 cross_step setting sub past moment filled i (Reads buffer) slots old new part mark gave long gave_is same steps stands settled is had = absurd stands
-
--- a reader that has begun, behind the instant
-pub read_step : (setting : Setting) (sub : ℕ → ℕ → List Slot) (past : List Moment) (moment : Moment) (filled i : ℕ) (work : Work) (slots : List Slot)
-    (old new : Reader) (part : Part) (mark gave : Bool) → gave ≡ (mark && is_some part.slot) → new ≡ cond gave (after_cell old) old
-    → StateStands setting sub past filled i work (Read old) → IsSettled sub past filled i work → HasPart moment i part mark
-    → StateStands setting sub (moment ∷ past) filled i work (Read new)
-read_step setting sub past moment filled i (Plays leaf) slots old new part mark gave gave_is steps stands settled had = absurd stands
-read_step setting sub past moment filled i (Picks rule eligible) slots old new part mark gave gave_is steps stands settled had = absurd stands
-read_step setting sub past moment filled i (Mixes mixing) slots old new part mark gave gave_is steps stands settled had = absurd stands
-read_step setting sub past moment filled i (Fades overlap) slots old new part mark gave gave_is steps stands settled had = absurd stands
-read_step setting sub past moment filled i (Reads buffer) slots old new part mark gave gave_is steps stands settled had =
-    let now : Reading = reading_at setting buffer (length past) (reading_after setting i buffer past) in
-    let was : old ≡ now.reader = stands ∙ ap (λ (n : ℕ). (reading_by setting i buffer past n).reader) settled ∙ ap (λ (r : Reading). r.reader) (reading_open setting i buffer past) in
-    steps
-    ∙ ap (λ (g : Bool). cond g (after_cell old) old) (gave_is ∙ sym (given moment i part mark had))
-    ∙ ap (λ (r : Reader). cond (gives moment i) (after_cell r) r) was
-    ∙ read_reader (gives moment i) now
-    ∙ ap (λ (r : Reading). r.reader) (sym (ap (λ (n : ℕ). reading_by setting i buffer (moment ∷ past) n) settled ∙ reading_closed setting i buffer (moment ∷ past)))

@@ -34,9 +34,6 @@ fronted cell next slots inner = let P : Bool → Type 0 = λ b. cond b (record {
 held_nothing : (most : ℕ) → held_back most [] ≡ []
 held_nothing most = rw take-nil refl
 
-joined_nothing : (next : List Cell) → overlapped 0 [] next ≡ []
-joined_nothing next = refl
-
 -- a track that is wholly eaten leaves the next one as it is
 eaten_flag : (most : ℕ) (pieces : List Piece) → settled most [] Flag pieces ≡ settled_from most pieces
 eaten_flag most [] = held_nothing most

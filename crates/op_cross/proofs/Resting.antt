@@ -1,11 +1,9 @@
 -- The items of a stretch.
 use Rattle.std.proofs.Common.{◌≡◌, ◌<◌, ◌+◌, ◌∙◌, ℕ, zero, suc, Some, None, List, [], ◌∷◌, drop, Bool, true, false, cond, arith, refl, ap, sym}
-use Rattle.std.specs.Prelude.{not, slice_get}
-use Rattle.std.proofs.lemmas.Bool.{false≢true}
+use Rattle.std.specs.Prelude.{not}
 use Rattle.std.proofs.lemmas.List.{get_or-drop}
 use Rattle.frame_core.specs.declared.cell.Cell.{Cell}
 use Rattle.frame_core.specs.Slots.{Slot, slot_at, is_inner}
-use Rattle.op_cross.specs.States.{AllInner, IsTrack}
 use Rattle.op_cross.specs.Stretches.{inner_count, stretch}
 
 run_by : (cell : Cell) (slots : List Slot) → ((j : ℕ) → j < inner_count slots → is_inner (slot_at slots j) ≡ true) → (first : Bool) → cell.first ≡ first → (j : ℕ)
@@ -30,11 +28,3 @@ items_inner items p j here low =
     let e : p + 0 ≡ p = omega arith in
     ap is_inner (sym (get_or-drop p items j None))
     ∙ stretch_inner (drop p items) j (ap is_inner (get_or-drop p items 0 None) ∙ ap (λ n. is_inner (slot_at items n)) e ∙ here) low
-
-pub plain_cells : (cells : List Cell) → IsTrack cells → is_inner (slice_get cells 0) ≡ true → AllInner cells
-plain_cells [] track here = tt
-plain_cells (cell ∷ cells) track here = (stops cell.first here, track)
-  where
-    stops : (first : Bool) → not first ≡ true → first ≡ false
-    stops true e = absurd (false≢true e)
-    stops false e = refl

@@ -30,13 +30,6 @@ pub sum_of-more : (sample : Cell → ℤ) (cells : List Cell) (cell : Cell) → 
 sum_of-more sample [] cell = omega (arith, ints)
 sum_of-more sample (one ∷ cells) cell = let more = sum_of-more sample cells cell in omega (arith, ints, more)
 
--- no cells
-pub Summed-none : Summed [] (pos 0) (pos 0) 0
-Summed-none = record { left_is = refl; right_is = refl; parts_is = refl; left_fits = none; right_fits = none }
-  where
-    none : IsSumOf 0 (pos 0)
-    none = record { low = omega (arith, ints); high = omega (arith, ints) }
-
 -- one cell more
 pub Summed-more : (cells : List Cell) (cell : Cell) (left right more_left more_right : ℤ) (parts : ℕ) → Summed cells left right parts
     → more_left ≡ left +ℤ cell.left → IsSumOf (parts + 1) more_left → more_right ≡ right +ℤ cell.right → IsSumOf (parts + 1) more_right

@@ -55,14 +55,6 @@ pub record Added (gives : ℕ → Bool) (lanes : ℕ → List ℤ) (room : ℕ) 
   pub sums_are : sums ≡ summed_lanes gives lanes (replicate room (pos 0)) children
   pub fit : All (IsSumOf count) sums
 
-zeros_fit : (room : ℕ) → All (IsSumOf 0) (replicate room (pos 0))
-zeros_fit zero k d low = absurd (omega (arith, low))
-zeros_fit (suc room) zero d low = record { low = omega (arith, ints); high = omega (arith, ints) }
-zeros_fit (suc room) (suc k) d low = zeros_fit room k d (omega (arith, low))
-
-pub none_added : (gives : ℕ → Bool) (lanes : ℕ → List ℤ) (room : ℕ) (sums : List ℤ) → sums ≡ replicate room (pos 0) → Added gives lanes room [] 0 sums
-none_added gives lanes room sums are = record { count_is = refl; sums_are = are; fit = subst (All (IsSumOf 0)) (sym are) (zeros_fit room) }
-
 -- there is room for one more
 pub room_for : (count : ℕ) (sums : List ℤ) → count ≤ 65535 → All (IsSumOf count) sums → All (IsSumOf 65535) sums
 room_for count sums few = All-weaker (IsSumOf count) (IsSumOf 65535)

@@ -1,6 +1,6 @@
-//! What the lines of faults name: a law over the writer of these lines and their reader.
+//! Laws over two crates: what the lines of faults name, and that `liq` and `about` say one thing.
 #![tactic(auto)]
 
 mod laws;
 
-pub use laws::lines_name_their_places;
+pub use laws::{both_say_one_thing, lines_name_their_places};

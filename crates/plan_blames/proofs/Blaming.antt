@@ -2,7 +2,7 @@
 use Rattle.std.proofs.Common.{◌≡◌, ℕ, ◌+◌, ◌<◌, ◌≤◌, suc, Bool, true, false, ◌&&◌, ◌||◌, List, [], ◌∷◌, length, get_or, min, nat_eq, take, drop, set, refl, sym, ap, ◌∙◌, inl, inr, arith}
 use Rattle.std.specs.Prelude.{◌⊎◌}
 use Rattle.std.specs.List.{list_any, zip}
-use Rattle.std.proofs.Math.Seq.{drop-cons, drop-length}
+use Rattle.std.proofs.Math.Seq.{drop-cons}
 use Rattle.std.proofs.lemmas.List.{drop-set, take_all}
 use Rattle.std.proofs.lemmas.List.Folds.{list_any_at, list_any_more}
 use Rattle.std.proofs.lemmas.Slice.Zip.{get_or-zip, length-zip}
@@ -10,12 +10,6 @@ use Rattle.plan_core.specs.declared.node.Node.{Node}
 use Rattle.time_pred.specs.Predicates.{Predicate, is_always}
 use Rattle.plan_blames.specs.Blames.{is_to_blame, reds_from}
 use Rattle.plan_blames.specs.Needs.{is_case, needs}
-
-pub none_red : (mark : ℕ → Bool) (refused : ℕ) (nodes : List Node) (reds : List Bool) (k : ℕ) → k ≡ length nodes → length reds ≡ length nodes
-    → drop k reds ≡ reds_from mark refused k (drop k nodes)
-none_red mark refused nodes reds k end size =
-    ap (λ (n : ℕ). drop n reds) (end ∙ sym size) ∙ drop-length reds
-    ∙ sym (ap (λ (n : ℕ). reds_from mark refused k (drop n nodes)) end ∙ ap (reds_from mark refused k) (drop-length nodes))
 
 -- one source more, from the last one down
 pub more_red : (mark : ℕ → Bool) (refused : ℕ) (nodes : List Node) (reds : List Bool) (k : ℕ) (d : Node) (red : Bool) → k < length nodes → length reds ≡ length nodes

@@ -20,14 +20,6 @@ in_front (y ∷ ys) zero i x is = cc
 in_front (y ∷ ys) (suc n) zero x is = (omega arith, is)
 in_front (y ∷ ys) (suc n) (suc i) x is = let p = in_front ys n i x is in (omega arith, p.1)
 
--- an item that stands before n is one of the front
-pub of_front : {A : Type 0} (xs : List A) (n i : ℕ) → i < n → slice_get (take n xs) i ≡ slice_get xs i
-of_front [] zero i lt = refl
-of_front [] (suc n) i lt = refl
-of_front (y ∷ ys) zero i lt = absurd (omega arith)
-of_front (y ∷ ys) (suc n) zero lt = refl
-of_front (y ∷ ys) (suc n) (suc i) lt = of_front ys n i (omega arith)
-
 -- a place of a list with one more item is an old one or the last
 pub one_more : {A : Type 0} (xs : List A) (y : A) (i : ℕ) (x : A) → slice_get (xs ++ y ∷ []) i ≡ Some x → ((i < length xs) × (slice_get xs i ≡ Some x)) ⊎ ((i ≡ length xs) × (y ≡ x))
 one_more [] y zero x is = inr (refl, some_same is)

@@ -34,13 +34,6 @@ impl<T> Items<T> {
         Items { items }
     }
 
-    /// The `Vec` of the items. It takes no memory.
-    pub fn into_vec(self) -> Vec<T>
-        ensures { result.items ≡ self }
-    {
-        self.items
-    }
-
     /// The items, to be read.
     pub fn as_slice(&self) -> &[T]
         ensures { result.now ≡ self.now }

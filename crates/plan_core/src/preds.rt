@@ -34,13 +34,6 @@ impl Preds {
         Preds { preds }
     }
 
-    /// The `Vec` of the predicates. It takes no memory.
-    pub fn into_vec(self) -> Vec<SharedPred>
-        ensures { map view_shared result.items ≡ self }
-    {
-        self.preds
-    }
-
     /// The predicates, to be read.
     pub fn as_slice(&self) -> &[SharedPred]
         ensures { map view_shared result.now ≡ self.now }

@@ -14,12 +14,12 @@ use Rattle.clock_infer.specs.declared.clock_map.ClockMap.{ClockMap}
 use Rattle.clock_infer.specs.declared.clock_map.ClockFault.{ClockFault}
 use Rattle.plan_blames.specs.Texts.{numbered}
 use Rattle.plan_picture.specs.Numbers.{seconds}
-use Rattle.plan_picture.specs.Predicates.{pred_text}
+use Rattle.plan_picture.specs.Predicates.{pred_text, shown}
 use Rattle.plan_blames.specs.Blames.{edge_red}
 use Rattle.plan_picture.specs.Boxes.{is_refused, output_box}
 
 abbrev pub pred_at : List Predicate → (place : ℕ) → List ℕ
-pred_at preds place = option_map_or (pred_text false) (slice_get preds place) []
+pred_at preds place = option_map_or (λ pred. shown (pred_text false pred)) (slice_get preds place) []
 
 abbrev pub place_label : (many : Bool) → (place : ℕ) → List ℕ
 place_label true place = codes "label=\" " ++ decimal (place + 1) ++ codes " \""

@@ -1,5 +1,5 @@
 -- Predicates as a script writes them.
-use Rattle.std.specs.Prelude.{ℕ, zero, suc, Bool, true, false, Option, Some, None, List, [], ◌++◌, codes, decimal}
+use Rattle.std.specs.Prelude.{ℕ, zero, suc, Bool, true, false, Option, Some, None, List, [], ◌++◌, codes, decimal, length, nat_le, take, if◌then◌else◌}
 use Rattle.fixed_text.specs.declared.time_mark.TimeMark.{TimeMark}
 use Rattle.time_pred.specs.Predicates.{PredicateTree, OnePredicate, PredicateParts, Always, Never, At, Between, Negated, All, Any, no_parts, first_part}
 
@@ -43,3 +43,8 @@ abbrev mutual
   pub joined : (word : List ℕ) → ℕ → PredicateTree PredicateParts → List ℕ
   joined word n no_parts = []
   joined word n (first_part p ps) = (before_part word n ++ pred_text true p) ++ joined word (suc n) ps
+
+-- a text as an edge shows it: of one of more than 200 characters the first 200, and how many it has
+abbrev pub shown : List ℕ → List ℕ
+shown text = if nat_le (length text) 200 then text
+    else take 200 text ++ (codes ".. (" ++ decimal (length text) ++ codes " characters)")

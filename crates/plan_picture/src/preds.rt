@@ -1,17 +1,39 @@
 // Predicates as a script writes them.
-ghost use Rattle.std.specs.Prelude.{◌≡◌, ◌++◌, OnOk, map};
+ghost use Rattle.std.specs.Prelude.{◌≡◌, ◌≤◌, ◌++◌, OnOk, drop, false, length, map, take};
 ghost use Rattle.time_pred.specs.Predicates.{parts_of};
 ghost use Rattle.time_pred.specs.View.{view_pred};
-ghost use Rattle.plan_picture.specs.Predicates.{before_part, closing, interval_text, joined, mark_text, opening, part_text, pred_text};
+ghost use Rattle.plan_picture.specs.Predicates.{before_part, closing, interval_text, joined, mark_text, opening, part_text, pred_text, shown};
 
 use fixed_text::{TimeMark, write_u64};
 use liq_base::Memory;
-use plan_blames::push_plain;
+use plan_blames::{push_between, push_plain};
 use time_pred::Pred;
+
+/// Appends a predicate as an edge shows it: a long one is cut, and its length told.
+pub fn push_shown(into: &mut Vec<u8>, pred: &Pred) -> Result<(), Memory>
+    ensures { OnOk result (into.new.items ≡ into.old.items ++ shown (pred_text false (view_pred pred.now))) }
+{
+    let before = into.len();
+    push_pred(into, pred, false)?;
+    cut(into, before)
+}
+
+// Cuts what stands behind the first bytes, so many, where it is long.
+fn cut(into: &mut Vec<u8>, before: usize) -> Result<(), Memory>
+    requires { before ≤ length into.old.items }
+    ensures { OnOk result (into.new.items ≡ take before into.old.items ++ shown (drop before into.old.items)) }
+{
+    let count = into.len() - before;
+    if count <= 200 {
+        return Ok(());
+    }
+    into.truncate(before + 200);
+    push_between(into, b".. (", count as u64, b" characters)")
+}
 
 /// Appends a predicate, in brackets where it has parts and stands within another.
 #[cycle(pred)]
-pub fn push_pred(into: &mut Vec<u8>, pred: &Pred, within: bool) -> Result<(), Memory>
+fn push_pred(into: &mut Vec<u8>, pred: &Pred, within: bool) -> Result<(), Memory>
     ensures { OnOk result (into.new.items ≡ into.old.items ++ pred_text within (view_pred pred.now)) }
 {
     match pred {

@@ -1,7 +1,6 @@
 -- Plans of stereo nodes, one node more.
 use Rattle.std.proofs.Common.{◌≡◌, ℕ, ◌+◌, ◌<◌, ◌≤◌, zero, suc, Bool, true, false, Some, List, [], ◌∷◌, ◌++◌, length, map, sym, refl, ap, subst, inl, inr, arith, slice_get, slice_index, max, take, All}
 use Rattle.std.specs.Prelude.{◌⊎◌}
-use Rattle.std.proofs.lemmas.List.Elements.{All-append, All-nil, All-cons}
 use Rattle.std.proofs.lemmas.Option.{slice_get-get_or}
 use Rattle.std.proofs.Math.Nat.{max-zero}
 use Rattle.liq_base.specs.declared.limits.TheConstants.{MAX_CHILDREN, MAX_CROSSFADES}
@@ -14,7 +13,7 @@ use Rattle.plan_core.specs.declared.plan.Plan.{Plan}
 use Rattle.plan_core.specs.declared.sink.BufferPlan.{BufferPlan}
 use Rattle.plan_core.specs.declared.sink.SinkPlan.{SinkPlan}
 use Rattle.plan_core.specs.declared.sink.SinkPlan.TheVariants.{Output, Feed}
-use Rattle.plan_core.specs.Plans.{IsBuffer, IsNodeOver, HasChildren, HasKind, IsInRange, greatest, crossfade_counts, crossfades_from, is_output, reader_of, with_buffer, with_node, IsWellFormed}
+use Rattle.plan_core.specs.Plans.{IsBuffer, IsNodeOver, HasChildren, HasKind, IsInRange, greatest, crossfade_counts, crossfades_from, reader_of, with_buffer, with_node, IsWellFormed}
 use Rattle.plan_samples.specs.Stereos.{blank, stereo_node, AreFeeds, IsStereo, sole_node}
 
 one_more : {A : Type 0} (xs : List A) (y : A) (i : ℕ) (x : A) → slice_get (xs ++ y ∷ []) i ≡ Some x → (slice_get xs i ≡ Some x) ⊎ (y ≡ x)
@@ -63,15 +62,6 @@ one_faded rests plan child children overlap is there =
     let whole : 1 + greatest (map f children) ≤ 4 = omega arith in
     whole
 
--- one child that is below, and two
-pub one_below : (n child : ℕ) (children : List ℕ) → children ≡ child ∷ [] → child < n → All (λ c. c < n) children
-one_below n child children is here = let C : List ℕ → Type 0 = λ cs. All (λ c. c < n) cs in
-    subst C (sym is) (All-cons (λ c. c < n) child [] here (All-nil _))
-
-pub two_below : (n first second : ℕ) (children : List ℕ) → children ≡ first ∷ second ∷ [] → first < n → second < n → All (λ c. c < n) children
-two_below n first second children is one two = let C : List ℕ → Type 0 = λ cs. All (λ c. c < n) cs in
-    subst C (sym is) (All-cons (λ c. c < n) first (second ∷ []) one (All-cons (λ c. c < n) second [] two (All-nil _)))
-
 -- behind feeds an output is the only one
 pub sole_behind : (feeds : List SinkPlan) (name : List ℕ) (node : ℕ) (fallible wide : Bool) → AreFeeds feeds → sole_node (feeds ++ Output name node fallible wide ∷ []) ≡ Some node
 sole_behind [] name node fallible wide all = refl
@@ -90,11 +80,6 @@ no_feeds plan (Output name node fallible wide ∷ sinks) is well none all = let 
 -- an output behind feeds stands alone where there are no buffers
 pub alone : (plan : Plan) (output : SinkPlan) → IsWellFormed plan → AreFeeds plan.sinks → plan.buffers ≡ [] → plan.sinks ++ output ∷ [] ≡ output ∷ []
 alone plan output well all none = ap (λ sinks. sinks ++ output ∷ []) (no_feeds plan plan.sinks refl well none all)
-
--- a feed more
-pub one_feed_more : (feeds new : List SinkPlan) (buffer node : ℕ) → AreFeeds feeds → new ≡ feeds ++ Feed buffer node ∷ [] → AreFeeds new
-one_feed_more feeds new buffer node all is = let F : SinkPlan → Type 0 = λ sink. is_output sink ≡ false in
-    subst AreFeeds (sym is) (All-append F feeds (Feed buffer node ∷ []) all (All-cons F (Feed buffer node) [] refl (All-nil _)))
 
 -- a stereo plan with a buffer more is stereo
 pub stereo_buffer : (plan new : Plan) (source : ℕ) (buffer : BufferPlan) → IsStereo plan → IsBuffer buffer → source < length plan.nodes → new ≡ with_buffer plan source Stereo buffer

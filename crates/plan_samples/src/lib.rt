@@ -9,4 +9,4 @@ mod plans;
 
 pub use checked::CheckedDraft;
 pub use dropping::DroppingSink;
-pub use plans::{plan_of_clocks, plan_of_nested_crossfades, plan_over};
+pub use plans::{plan_of_nested_crossfades, plan_over};

@@ -5,7 +5,7 @@ ghost use Rattle.plan_core.specs.Plans.{crossfades_from, own_crossfades, with_no
 ghost use Rattle.plan_samples.specs.Stereos.{blank, stereo_node, IsStereo};
 
 use fixed_text::Decimal;
-use liq_base::{Kind, Memory, Text};
+use liq_base::{Kind, Memory};
 use plan_core::{Draft, Items, Node, Op, PlanFault, laws};
 use std::alloc::Global;
 
@@ -32,22 +32,6 @@ pub(crate) fn push_amplified(alloc: Global, draft: &mut Draft, child: u32) -> Re
         millionths: 1_000_000,
     };
     push_plain(draft, Op::Amplify { factor }, one(alloc, child)?)?;
-    Ok(())
-}
-
-// Adds this node under the clock of this id.
-pub(crate) fn push_clock(
-    alloc: Global,
-    draft: &mut Draft,
-    id: Text,
-    child: u32,
-) -> Result<(), PlanFault>
-    requires stereo { IsStereo draft.old }
-    requires child { child < length draft.old.nodes }
-    ensures stereo { OnOk result (IsStereo draft.new) }
-    ensures size { OnOk result (length draft.new.nodes ≡ length draft.old.nodes + 1) }
-{
-    push_plain(draft, Op::Clock(id), one(alloc, child)?)?;
     Ok(())
 }
 

@@ -1,10 +1,10 @@
 // Plans of many nodes.
-ghost use Rattle.std.specs.Prelude.{◌≡◌, ◌<◌, ◌≤◌, ◌+◌, ◌*◌, [], false, length, IfOk, OnOk};
+ghost use Rattle.std.specs.Prelude.{◌≡◌, ◌<◌, ◌≤◌, ◌+◌, [], false, length, IfOk, OnOk};
 ghost use Rattle.liq_base.specs.declared.limits.TheConstants.{MIN_RATE, MAX_RATE, MAX_FRAME};
 ghost use Rattle.plan_core.specs.Plans.{IsWellFormed, with_output};
 ghost use Rattle.plan_samples.specs.Stereos.{IsStereo};
 
-use crate::nodes::{push_amplified, push_blank, push_clock, push_crossfade, push_sum};
+use crate::nodes::{push_amplified, push_blank, push_crossfade, push_sum};
 use liq_base::{Memory, Text};
 use plan_core::{Draft, Plan, PlanFault, laws};
 use std::alloc::Global;
@@ -22,19 +22,6 @@ pub fn plan_over(alloc: Global, count: u32, chained: bool) -> Result<Plan, PlanF
         push_amplified(alloc, &mut draft, child)?;
     }
     write(alloc, &mut draft, 0)?;
-    Ok(draft.into_plan())
-}
-
-/// A stereo plan of so many main clocks, `c0` to `cN`: node 2n is a blank, which node 2n + 1 puts into the clock `cn`.
-/// An output writes each clock, the last one first. `TooManySources` comes for more than 2048 clocks.
-pub fn plan_of_clocks(alloc: Global, count: u32) -> Result<Plan, PlanFault>
-    ensures well_formed { IfOk result IsWellFormed }
-{
-    let mut draft = begun(alloc);
-    for number in 0..count {
-        push_clocked(alloc, &mut draft, number)?;
-    }
-    write_back(alloc, &mut draft, count)?;
     Ok(draft.into_plan())
 }
 
@@ -83,33 +70,6 @@ pub(crate) fn write(alloc: Global, draft: &mut Draft, node: u32) -> Result<(), M
     ensures added { OnOk result (draft.new ≡ with_output draft.old [] node false false) }
 {
     draft.push_output(Text::from_string(String::new(alloc)), node, false, false)?;
-    Ok(())
-}
-
-// Adds a blank, and that blank under the clock `cN` of this number.
-fn push_clocked(alloc: Global, draft: &mut Draft, number: u32) -> Result<(), PlanFault>
-    requires { IsStereo draft.old }
-    ensures stereo { OnOk result (IsStereo draft.new) }
-    ensures size { OnOk result (length draft.new.nodes ≡ length draft.old.nodes + 2) }
-{
-    let blank = push_blank(alloc, draft)?;
-    push_clock(alloc, draft, id_of(alloc, number)?, blank)?;
-    Ok(())
-}
-
-fn id_of(alloc: Global, number: u32) -> Result<Text, Memory> {
-    Ok(Text::from_string(format!(in alloc; "c{number}")?))
-}
-
-// Writes every other node, the last one first.
-fn write_back(alloc: Global, draft: &mut Draft, count: u32) -> Result<(), Memory>
-    requires well_formed { IsWellFormed draft.old }
-    requires size { length draft.old.nodes ≡ 2 * count }
-    ensures { OnOk result (IsWellFormed draft.new) }
-{
-    for number in 0..count {
-        write(alloc, draft, 2 * (count - number) - 1)?;
-    }
     Ok(())
 }
 

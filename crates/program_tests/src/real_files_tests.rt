@@ -1,6 +1,6 @@
 // The real adapters over a writer and a reader that take or give little, are interrupted, and fail in the middle.
-use liq_base::{Fetched, ShelfFault, Sink};
-use real_files::{OutSink, read_rest};
+use liq_base::{Fetched, Looked, ShelfFault, Sink};
+use real_files::{OutSink, look_at_front, look_at_whole, read_rest};
 use std::alloc::Global;
 use std::io;
 use std::io::{ErrorKind, Read, Write};
@@ -108,6 +108,43 @@ fn a_read_that_fails_in_the_middle_is_no_end(rt: HostRuntime) -> Result<(), Fail
         let mut device = Device::new(Vec::new(alloc), 11, ends);
         let mut bytes: Vec<u8> = Vec::new(alloc);
         assert!(rt; read_rest(&mut device, &mut bytes, most) == answer);
+        assert_eq!(rt; bytes.len(), length);
+    }
+    Ok(())
+}
+
+#[test]
+fn a_look_at_a_front_reads_no_more(rt: HostRuntime) -> Result<(), Fail> {
+    let alloc = rt.alloc();
+    // How many bytes are there, whether they end there, the front, the size that was told, the bytes that are allowed,
+    // the answer, and how many were read.
+    let rows = [
+        (11, true, 4, 11, 11, Ok(Looked::Found(11)), 4),
+        (11, true, 4, 11, 10, Ok(Looked::TooLarge), 0),
+        (3, true, 4, 11, 11, Err(ShelfFault::Failed), 3),
+        (3, false, 4, 11, 11, Err(ShelfFault::Failed), 3),
+    ];
+    for (left, ends, front, size, most, answer, length) in rows {
+        let mut device = Device::new(Vec::new(alloc), left, ends);
+        let mut bytes: Vec<u8> = Vec::new(alloc);
+        assert!(rt; look_at_front(&mut device, &mut bytes, front, size, most) == answer);
+        assert_eq!(rt; bytes.len(), length);
+    }
+    Ok(())
+}
+
+#[test]
+fn a_look_at_a_whole_file_tells_its_size(rt: HostRuntime) -> Result<(), Fail> {
+    let alloc = rt.alloc();
+    let rows = [
+        (true, 11, Ok(Looked::Found(11)), 11),
+        (true, 10, Ok(Looked::TooLarge), 9),
+        (false, 100, Err(ShelfFault::Failed), 11),
+    ];
+    for (ends, most, answer, length) in rows {
+        let mut device = Device::new(Vec::new(alloc), 11, ends);
+        let mut bytes: Vec<u8> = Vec::new(alloc);
+        assert!(rt; look_at_whole(&mut device, &mut bytes, 4, most) == answer);
         assert_eq!(rt; bytes.len(), length);
     }
     Ok(())

@@ -72,7 +72,7 @@ start W N j = min N (j * W)
 abbrev pub ticks_of : Setting → (accepted : ℕ → ℕ → ℕ → Bool) → (m t : ℕ) → List Call
 ticks_of setting accepted m t = calls_of_tick setting (accepted m t) m t
 
--- the same, where clocks 0 to `clocks - 1` run; a clock that does not run makes no call
+-- the calls of tick t of clock m, if clocks 0 to `clocks - 1` run; a clock that does not run makes no call
 abbrev pub calls_in : Setting → (clocks : ℕ) → (accepted : ℕ → ℕ → ℕ → Bool) → (m t : ℕ) → List Call
 calls_in setting clocks accepted m t = if nat_lt m clocks then ticks_of setting accepted m t else []
 
@@ -134,7 +134,7 @@ rounds_to setting accepted clocks round clock = rounds_of setting accepted clock
 abbrev pub made_by : (rounds clock m : ℕ) → ℕ
 made_by rounds clock m = if nat_lt m clock then suc rounds else rounds
 
--- the same, where no clock makes more than `total`
+-- how many ticks clock m has made, if no clock makes more than `total`
 abbrev pub ticks_by : (total round clock m : ℕ) → ℕ
 ticks_by total round clock m = min total (made_by round clock m)
 

@@ -1,6 +1,7 @@
 // Laws of settings that differ in their answers alone, and of records. Each is a contract of a function that does
 // nothing.
-ghost use Rattle.std.specs.Prelude.{◌≡◌, ℕ, Bool, List, length, slice_get, take, ◌*◌, ◌+◌, ◌<◌, ◌≤◌, [], All, false, max, suc, is_none};
+ghost use Rattle.std.specs.Prelude.{◌≡◌, ℕ, Bool, List, length, slice_get, take, ◌*◌, ◌+◌, ◌<◌, ◌≤◌, [], All, false};
+ghost use Rattle.std.specs.Prelude.{max, suc, is_none};
 ghost use Rattle.clock_infer.specs.declared.clock_map.ClockMap.{ClockMap as Map};
 ghost use Rattle.frame_core.specs.Calls.{Answer};
 ghost use Rattle.stream_meaning.specs.Instants.{Setting, answered, prefill};
@@ -19,7 +20,8 @@ ghost use Rattle.run_records.specs.Ordered.{HasSameText, IsOrdered};
 ghost use Rattle.run_records.specs.OneThread.{rounds_record};
 ghost use Rattle.run_records.specs.Owning.{IsOwn};
 ghost use Rattle.run_records.specs.Pace.{IsDrawn, KeepPace, has_none};
-ghost use Rattle.run_records.specs.Records.{AreRoundsBegun, AreWindows, AreWindowsBegun, IsRounds, Run, Window, capacity_of, puts_of, setting_in};
+ghost use Rattle.run_records.specs.Records.{AreRoundsBegun, AreWindows, AreWindowsBegun, IsRounds, Run, Window};
+ghost use Rattle.run_records.specs.Records.{capacity_of, puts_of, setting_in};
 ghost use Rattle.run_records.specs.Rounds.{BeginsRounds, HasNoJoin, IsAsOnOneThread, merged};
 
 /// The calls of a clock's first ticks are the same whatever the buffers answer, up to a call that got another answer:

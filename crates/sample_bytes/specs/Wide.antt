@@ -4,7 +4,9 @@ use Rattle.std.specs.List.{concat}
 use Rattle.std.specs.Simd.Lanes.{zip2}
 use Rattle.liq_base.specs.declared.memory.Kind.{Kind}
 use Rattle.liq_base.specs.declared.memory.Kind.TheVariants.{Mono, Stereo}
-use Rattle.frame_core.specs.Bytes.{sample_in, sample_bytes}
+use Rattle.frame_core.specs.Bytes.{sample_bytes}
+-- the samples that bytes hold, three by three: the lowest byte of each is dropped
+pub use Rattle.resample.specs.Bytes.{wide_samples_in}
 
 -- the three bytes of a sample
 abbrev pub wide_bytes : ℤ → List ℕ
@@ -18,10 +20,3 @@ wide_block_of Stereo left right = wide_bytes left ++ wide_bytes right
 -- the blocks, one behind another
 abbrev pub encoded_wide : Kind → List ℤ → List ℤ → List ℕ
 encoded_wide kind left right = concat (zip2 (wide_block_of kind) left right)
-
--- the samples that bytes hold, three by three: the lowest byte of each is dropped
-abbrev pub wide_samples_in : List ℕ → List ℤ
-wide_samples_in (lowest ∷ low ∷ high ∷ bytes) = sample_in low high ∷ wide_samples_in bytes
-wide_samples_in (lowest ∷ low ∷ []) = []
-wide_samples_in (lowest ∷ []) = []
-wide_samples_in [] = []

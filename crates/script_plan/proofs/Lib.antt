@@ -1,2 +1,3 @@
 pub mod Lexical
 pub mod OneAnswer
+pub mod OneList

@@ -14,7 +14,7 @@ pub record HasSources (text : List ℕ) (plan : Plan) (calls : List ℕ) : Type 
   pub typed : Types text script uses
   pub evaluated : sources script uses ≡ Ok (plan, calls)
 
--- the same of a script; this is for `src/sources.rt` alone
+-- evaluation of this script ends with this plan and these calls; this is for `src/sources.rt` alone
 pub record AreSources (script : Script) (plan : Plan) (calls : List ℕ) : Type 0 where
   pub uses : List Use
   pub typed : IsTyped script uses

@@ -1,8 +1,9 @@
 // What is promised of a text's plan and fault. A caller that needs a law calls its function, which does nothing.
-ghost use Rattle.std.specs.Prelude.{◌≡◌, ℕ, List};
+ghost use Rattle.std.specs.Prelude.{◌≡◌, ℕ, List, length};
 ghost use Rattle.plan_core.specs.declared.plan.Plan.{Plan};
 ghost use Rattle.script_plan.specs.declared.fault.ScriptFault.{ScriptFault};
 ghost use Rattle.script_plan.specs.Plans.{IsPlan, IsPlanFault};
+ghost use Rattle.script_plan.specs.Sources.{HasSources};
 
 /// A text has one plan or one fault at most, and never both.
 pub fn one_answer()
@@ -12,4 +13,16 @@ pub fn one_answer()
 {
     script_parse::laws::one_fault();
     eval_meaning::laws::one_plan();
+}
+
+/// A text has one list at most of the calls that make the sources of its plan: one call for each source.
+pub fn one_list_of_calls()
+    ensures plan { (text : List ℕ) (p : Plan) (calls : List ℕ) → HasSources text p calls → IsPlan text p }
+    ensures one { (text : List ℕ) (p q : Plan) (calls others : List ℕ) → HasSources text p calls
+        → HasSources text q others → calls ≡ others }
+    ensures each { (text : List ℕ) (p : Plan) (calls : List ℕ) → HasSources text p calls
+        → length calls ≡ length p.nodes }
+{
+    eval_meaning::laws::one_plan();
+    eval_meaning::laws::plans_are_well_formed();
 }

@@ -60,8 +60,8 @@ pub(crate) fn uses_of(alloc: Global, script: &Script) -> Result<Vec<Use>, Script
     ensures typed { IfOk result (λ uses. IsTyped (view_script script.now) uses.items) }
     ensures fault { IfErr result (IsOfTyping (view_script script.now)) }
 {
-    let typed = infer(alloc, script)?;
-    Ok(typed.uses)
+    let uses = infer(alloc, script)?;
+    Ok(uses)
 }
 
 // The plan of a script with these uses.

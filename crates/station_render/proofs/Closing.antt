@@ -15,10 +15,6 @@ use Rattle.station_render.proofs.Lists.{within, no_items, set_here, set_many, se
 use Rattle.station_render.proofs.Creating.{created_as, created_mapped}
 use Rattle.station_render.proofs.Dealing.{first_so, others_so}
 
--- nothing was created
-pub no_outputs : {Y S : Type 0} (So : Y → S → Type 0) (ys : List Y) (order : List ℕ) (groups : List (List S)) → length order ≡ 0 → AreCreated So ys order groups → ys ≡ []
-no_outputs So ys order groups none are = no_items ys (are.size ∙ none)
-
 pub all_empty : {S : Type 0} (order : List ℕ) (groups : List (List S)) → length order ≡ 0 → HaveSizes order groups → AreAllEmpty groups
 all_empty [] groups none sizes m group there = no_items group (sizes.each m group there)
 all_empty (c ∷ order) groups none sizes m group there = absurd (omega (arith, none))

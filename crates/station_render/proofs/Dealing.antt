@@ -3,7 +3,7 @@ use Rattle.std.proofs.Common.{◌≡◌, ◌<◌, ◌+◌, ◌∙◌, ◌++◌, 
 use Rattle.std.proofs.lemmas.Bool.{cases_Bool, eqb-true, eqb-false, eq-eqb}
 use Rattle.std.specs.List.{AllZip}
 use Rattle.std.proofs.lemmas.List.{length-append}
-use Rattle.station_render.specs.Sinks.{AreCreated, AreEmpty, HaveSizes, WasAdded, WasTaken, AreBelow, of_clock, count_of}
+use Rattle.station_render.specs.Sinks.{AreCreated, HaveSizes, WasAdded, WasTaken, AreBelow, of_clock, count_of}
 use Rattle.station_render.proofs.Lists.{within, set_other, set_here, set_many}
 
 -- what is dealt to a clock, with one more item at the end
@@ -74,13 +74,6 @@ module _ {Y S : Type 0} (So : Y → S → Type 0) where
   sizes ys order groups are = record {
     below = are.below;
     each = λ m group there. zip_size (of_clock m order ys) group (are.each m group there) ∙ counted m order ys are.size;
-  }
-
-  pub none_created : (clocks : ℕ) (groups : List (List S)) → AreEmpty clocks groups → AreCreated So [] [] groups
-  none_created clocks groups are = record {
-    size = refl;
-    below = λ k clock there. absurd (cc);
-    each = λ m group there. subst (λ g. AllZip So [] g) (sym (are.each m group there)) tt;
   }
 
   below_more : (clocks : ℕ) (order : List ℕ) (last : ℕ) → last < clocks → AreBelow clocks order → AreBelow clocks (order ++ last ∷ [])

@@ -1,10 +1,9 @@
 -- What a plan that fits is known to have.
-use Rattle.std.proofs.Common.{◌≡◌, ◌<◌, ◌*◌, ◌∙◌, ℕ, zero, suc, Bool, true, false, List, [], ◌∷◌, length, slice_get, arith, refl, ap, sym, subst, if◌then◌else◌}
+use Rattle.std.proofs.Common.{◌≡◌, ◌<◌, ◌*◌, ◌∙◌, ℕ, zero, suc, Bool, true, false, List, [], ◌∷◌, slice_get, arith, refl, ap, sym, if◌then◌else◌}
 use Rattle.std.specs.Prelude.{Some, None, is_none, Contains}
 use Rattle.plan_core.specs.declared.plan.Plan.{Plan}
 use Rattle.plan_core.specs.declared.sink.SinkPlan.{SinkPlan}
 use Rattle.plan_core.specs.declared.sink.SinkPlan.TheVariants.{Output}
-use Rattle.plan_core.specs.Plans.{sink_node}
 use Rattle.clock_infer.specs.declared.clock_map.ClockMap.{ClockMap}
 use Rattle.clock_infer.specs.declared.clock_map.NodeClock.TheVariants.{Main}
 use Rattle.clock_infer.proofs.MapLaws as map_law
@@ -32,11 +31,6 @@ module _ (plan : Plan) (library : Sounds) (clocks : ClockMap) (ticks : ℕ) (fit
   pub are_main : AreMain plan clocks
   are_main k name node fallible wide at =
       map_law.sinks plan clocks (Output name node fallible wide) fit.plan_is fit.map (contains plan.sinks k (Output name node fallible wide) at)
-
-  pub node_within : (k : ℕ) (name : List ℕ) (node : ℕ) (fallible wide : Bool) → slice_get plan.sinks k ≡ Some (Output name node fallible wide) → node < length plan.nodes
-  node_within k name node fallible wide at =
-      subst (λ sink. sink_node sink < length plan.nodes) (got_is plan.sinks k (Output name node fallible wide) (Output name node fallible wide) at)
-      (fit.plan_is.sinks k (Output name node fallible wide) (within plan.sinks k (Output name node fallible wide) at))
 
   pub header_fits : (k : ℕ) (name : List ℕ) (node : ℕ) (fallible wide : Bool) → slice_get plan.sinks k ≡ Some (Output name node fallible wide)
       → is_none (header_at wide (node_kind plan node) plan.rate (ticks * plan.frame)) ≡ false

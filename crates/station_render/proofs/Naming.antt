@@ -1,12 +1,12 @@
 -- The names of the outputs that were created, one after another.
-use Rattle.std.proofs.Common.{◌≡◌, ◌≤◌, ◌+◌, ◌∙◌, ◌++◌, ℕ, Bool, List, [], ◌∷◌, length, take, drop, slice_get, ap, sym, add-one}
+use Rattle.std.proofs.Common.{◌≡◌, ◌≤◌, ◌+◌, ◌∙◌, ◌++◌, ℕ, Bool, List, [], ◌∷◌, length, take, slice_get, ap, sym, add-one}
 use Rattle.std.specs.Prelude.{Option, Some}
 use Rattle.std.proofs.lemmas.List.{append-nil}
 use Rattle.plan_core.specs.declared.sink.SinkPlan.{SinkPlan}
 use Rattle.plan_core.specs.declared.sink.SinkPlan.TheVariants.{Output, Feed}
 use Rattle.stations.specs.Creations.{after_making, names_in}
 use Rattle.stations.proofs.Making.{names_both, then_made}
-use Rattle.station_render.proofs.Creating.{take_more, take_whole, taken_and_left}
+use Rattle.station_render.proofs.Creating.{take_more, take_whole}
 
 module _ (sinks : List SinkPlan) (k : ℕ) where
   pub names_next : (name : List ℕ) (node : ℕ) (fallible wide : Bool) → slice_get sinks k ≡ Some (Output name node fallible wide) → names_in (take (k + 1) sinks) ≡ names_in (take k sinks) ++ name ∷ []
@@ -32,7 +32,3 @@ module _ (sinks : List SinkPlan) (k : ℕ) where
       made_next one =
           then_made (names_in (take k sinks)) (said ∷ []) before between after so_far one
           ∙ ap (λ n. after_making (names_in (take k sinks) ++ n ∷ []) before) said_is ∙ ap (λ names. after_making names before) (sym (names_next name node fallible wide at))
-
--- those of the first sinks, and of the others
-pub names_split : (sinks : List SinkPlan) (k : ℕ) → names_in sinks ≡ names_in (take k sinks) ++ names_in (drop k sinks)
-names_split sinks k = ap names_in (taken_and_left sinks k) ∙ names_both (take k sinks) (drop k sinks)

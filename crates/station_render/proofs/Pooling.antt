@@ -1,23 +1,13 @@
 -- Engines that take sinks and give them back.
-use Rattle.std.proofs.Common.{◌≡◌, ◌<◌, ◌≤◌, ◌+◌, ◌∙◌, ◌++◌, ℕ, zero, suc, Bool, Some, List, [], ◌∷◌, length, get_or, set, slice_get, arith, ap, sym, subst, vec_len, add-one}
-use Rattle.std.specs.Prelude.{Vec}
-use Rattle.std.specs.declared.alloc.Global.{Global}
+use Rattle.std.proofs.Common.{◌≡◌, ◌<◌, ◌≤◌, ◌+◌, ◌∙◌, ◌++◌, ℕ, zero, suc, Bool, Some, List, [], ◌∷◌, length, set, slice_get, arith, ap, sym, subst, add-one}
 use Rattle.std.proofs.lemmas.List.{map-append, length-append}
 use Rattle.clock_ticks.specs.declared.engine.ClockEngine.{ClockEngine}
 use Rattle.stream_meaning.specs.Instants.{Setting}
-use Rattle.station_render.specs.Sinks.{lists_of}
 use Rattle.station_render.specs.Engines.{AreAt, AreEmptyBelow, AreKeeping, IsAt, outs_of, pooled}
-use Rattle.station_render.proofs.Lists.{each_more, here_is, many_mapped, set_many, set_other, within}
+use Rattle.station_render.proofs.Lists.{each_more, many_mapped, set_many, set_other, within}
 use Rattle.station_render.proofs.Pools.{empty_below_fewer, empty_below_more, empty_last, pool_back, pool_more}
 
 module _ {S : Type 0} where
-  -- an empty place has no sinks
-  pub empty_here : (groups : List (Vec S Global)) (k : ℕ) (here : Vec S Global) → here ≡ get_or groups k here → slice_get (lists_of groups) k ≡ Some [] → vec_len here ≡ 0
-  empty_here groups k here is there =
-      let at : Some here.items ≡ Some [] = sym (here_is groups k here is (within (lists_of groups) k [] there)) ∙ there in
-      let none : here.items ≡ [] = cc in
-      here.ok.0 ∙ ap length none
-
   -- what is put back after it was taken out
   pub put_again : (lists : List (List S)) (k : ℕ) (out again : List S) → slice_get lists k ≡ Some out → again ≡ out → set (set lists k []) k again ≡ lists
   put_again [] k out again at same = absurd (cc)

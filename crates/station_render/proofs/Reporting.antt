@@ -29,11 +29,6 @@ count_at setting ticks (Output other number free broad ∷ sinks) (suc k) name n
 count_at setting ticks (Feed buffer number ∷ sinks) zero name node fallible wide at = absurd (cc)
 count_at setting ticks (Feed buffer number ∷ sinks) (suc k) name node fallible wide at = count_at setting ticks sinks k name node fallible wide at
 
-pub counts_many : (setting : Setting) (ticks : ℕ) (sinks : List SinkPlan) → length (counts_in setting ticks sinks) ≡ length (written sinks)
-counts_many setting ticks [] = refl
-counts_many setting ticks (Output name node fallible wide ∷ sinks) = ap suc (counts_many setting ticks sinks)
-counts_many setting ticks (Feed buffer node ∷ sinks) = counts_many setting ticks sinks
-
 -- an output that is still to come has a place
 pub place_below : (sinks : List SinkPlan) (k : ℕ) (name : List ℕ) (node : ℕ) (fallible wide : Bool) → slice_get sinks k ≡ Some (Output name node fallible wide) → length (written (take k sinks)) < length (written sinks)
 place_below [] k name node fallible wide at = absurd (cc)

@@ -2,30 +2,14 @@
 use Rattle.std.proofs.Common.{◌≡◌, ◌≤◌, ◌++◌, ◌⊎◌, false, ℕ, List, [], ◌∷◌, append_assoc, append-nil, ap, arith, refl, inl, inr, subst, sym, ◌∙◌}
 use Rattle.std.specs.Prelude.{Option, IsSomeAnd}
 use Rattle.std.specs.Option.{ForSome}
-use Rattle.liq_base.specs.Counts.{Rose}
 use Rattle.liq_base.specs.Files.{Files, with_file}
 use Rattle.liq_base.specs.Shelves.{ShelfTold}
-use Rattle.stations.specs.Outputs.{HoldsBetween, HoldsEnds, HoldsNext, HoldsParts, HoldsSome, HoldsUpto, OutputFile, OutputPart, with_outputs}
+use Rattle.stations.specs.Outputs.{HoldsEnds, HoldsNext, HoldsSome, HoldsUpto, OutputFile, OutputPart, with_outputs}
 use Rattle.stations.specs.Renderings.{StoppedInTicks}
 use Rattle.stations.specs.Stations.{IsBegun, Station}
 use Rattle.stations.specs.Streams.{parts_with}
 use Rattle.stations.proofs.Making.{none_closed, none_more}
 use Rattle.run_records.specs.Records.{Run}
-
-between_from : (low count next : ℕ) → low ≤ count → (files : Files) (output : OutputPart) (after : Files) → HoldsBetween (Rose count next) files output after → HoldsBetween (Rose low next) files output after
-between_from low count next below files output after (inl held) = inl held
-between_from low count next below files output after (inr failed) = inr ((let rose : Rose count next = failed.0 in omega (arith, rose, below)), failed.1)
-
--- the same, between moments around those
-pub parts_within : (low count last high : ℕ) → low ≤ count → last ≤ high → (files : Files) (outputs : List OutputPart) (after : Files) → HoldsParts count files outputs after last → HoldsParts low files outputs after high
-parts_within low count last high below above files [] after parts = (parts.0, (let p = parts.1 in omega (arith, p, below, above)))
-parts_within low count last high below above files (output ∷ outputs) after parts = (
-  parts.0,
-  parts.1,
-  (let p = parts.2 in omega (arith, p, below)),
-  between_from low count parts.1 below files output parts.0 parts.3,
-  parts_within parts.1 parts.1 last high (omega arith) above parts.0 outputs after parts.4,
-)
 
 -- ends that were looked at from a moment before
 pub ends_within : (low count last : ℕ) → low ≤ count → (files : Files) (outputs : List OutputPart) (after : Files) → HoldsEnds count files outputs after last → HoldsEnds low files outputs after last

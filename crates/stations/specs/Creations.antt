@@ -91,6 +91,6 @@ pub record AreListed (closings before : List Closing) (after : Option (List Clos
   pub same : map without_faults more ≡ closings
   pub told : after ≡ Some (before ++ more)
 
--- the same, where the shelf tells of its closings
+-- if the shelf tells its closings, these were listed
 abbrev pub HaveListed : List Closing → (before after : Option (List Closing)) → Type 0
 HaveListed closings before after = ForSome before (λ told. AreListed closings told after)

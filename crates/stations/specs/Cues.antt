@@ -29,7 +29,7 @@ marks_in setting ticks [] = []
 marks_in setting ticks (Output name node fallible wide ∷ sinks) = cues setting node ticks ∷ marks_in setting ticks sinks
 marks_in setting ticks (Feed buffer node ∷ sinks) = marks_in setting ticks sinks
 
--- the same where cue files are wanted
+-- these marks if cue files are wanted, and none otherwise
 abbrev pub marks_if : (wanted : Bool) → Setting → (ticks : ℕ) → List SinkPlan → List (List Cue)
 marks_if false setting ticks sinks = []
 marks_if true setting ticks sinks = marks_in setting ticks sinks
@@ -52,7 +52,7 @@ cues_in setting ticks (Output name node fallible wide ∷ sinks) =
     } ∷ cues_in setting ticks sinks
 cues_in setting ticks (Feed buffer node ∷ sinks) = cues_in setting ticks sinks
 
--- the same where they are wanted
+-- these cue files if they are wanted, and none otherwise
 abbrev pub cues_if : (wanted : Bool) → Setting → (ticks : ℕ) → List SinkPlan → List OutputFile
 cues_if false setting ticks sinks = []
 cues_if true setting ticks sinks = cues_in setting ticks sinks

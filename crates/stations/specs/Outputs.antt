@@ -53,7 +53,7 @@ pub record AreClosed (least : ℕ) (names : List (List ℕ)) (before : List Clos
   pub headers_are : All (λ closing. 0 < least → closing.faults ≡ 0 → 44 ≤ closing.bytes) closings
   pub told : after ≡ Some (before ++ closings)
 
--- the same, where the shelf tells of its closings
+-- if the shelf tells its closings, sinks of these names were closed
 abbrev pub HaveClosed : (least : ℕ) → List (List ℕ) → (before after : Option (List Closing)) → Type 0
 HaveClosed least names before after = ForSome before (λ closings. AreClosed least names closings after)
 

@@ -29,7 +29,7 @@ pub record Setting : Type 0 where
   pub start : ℕ
   pub answers : ℕ → List Answer
 
--- the same with other answers
+-- this setting, with other answers
 abbrev pub answered : Setting → (ℕ → List Answer) → Setting
 answered setting answers = record {
   plan = setting.plan;

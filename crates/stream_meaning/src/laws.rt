@@ -16,7 +16,8 @@ ghost use Rattle.op_turn.specs.declared.turn.Turn.{Turn as TheTurn};
 ghost use Rattle.op_turn.specs.Turns.{past_of};
 ghost use Rattle.stream_meaning.specs.Choices.{gave_over, turned};
 ghost use Rattle.stream_meaning.specs.Operators.{Eligible, Picks, Plays, Reads, TakesTurns, work_of};
-ghost use Rattle.stream_meaning.specs.Instants.{Setting, Moment, IsMeaning, clock_of, sub_of, stream_of, first_instants, lies_in, work_at};
+ghost use Rattle.stream_meaning.specs.Instants.{Setting, Moment, IsMeaning, clock_of, sub_of, stream_of};
+ghost use Rattle.stream_meaning.specs.Instants.{first_instants, lies_in, work_at};
 ghost use Rattle.stream_meaning.specs.Calls.{calls_of, calls_of_tick, fades_in, joined_upto, takes_at};
 ghost use Rattle.stream_meaning.specs.Settings.{IsSetting, HasNoBuffers};
 ghost use Rattle.stream_meaning.specs.Sinks.{gaps};
@@ -37,7 +38,7 @@ pub fn infallible_nodes_offer()
         → gaps setting i ticks ≡ 0 }
 {}
 
-/// A leaf and a reader have no children, so no child decides whether they are infallible; and a leaf that plays files is
+/// A leaf and a reader have no children, so no child decides whether they are infallible. A leaf that plays files is
 /// a single or a playlist, whose files are loaded.
 pub fn leaves_stand_alone()
     ensures children { (rate i n : ℕ) (kind : TheKind) (op : TheOp) (leaf : TheLeaf)

@@ -1,7 +1,7 @@
 // The shelf and the sink in memory that fail where they are told to, each call once with ample memory; and the printed
 // texts.
 use crate::texts::check_same;
-use liq_base::{Failed, Fetched, MemShelf, MemSink, Memory, Shelf, ShelfFault, Sink};
+use liq_base::{Failed, Fetched, Looked, MemShelf, MemSink, Memory, Shelf, ShelfFault, Sink};
 use std::alloc::{AllocError, Global};
 use std::process::Abort;
 use std::test::Fail;
@@ -93,6 +93,48 @@ fn shelf(alloc: Global) -> Result<MemShelf, Memory> {
 fn a_shelf_reads_what_it_has(rt: HostRuntime) -> Result<(), Fail> {
     let mut shelf = shelf(rt.alloc())?;
     check_reads(&rt, &mut shelf, &mut Vec::new(rt.alloc()), READS);
+    Ok(())
+}
+
+// Each row: a name, how many bytes are allowed, the answer, and how many bytes were read by then.
+const LOOKS: &[(&str, u64, Result<Looked, ShelfFault>, usize)] = &[
+    ("b", 3, Ok(Looked::Found(3)), 3),
+    ("b", 3, Err(ShelfFault::Failed), 3),
+    ("c", 3, Ok(Looked::Missing), 3),
+    ("b", 2, Ok(Looked::TooLarge), 3),
+    ("b", 3, Ok(Looked::Found(3)), 6),
+];
+
+// What is answered, and how many bytes were read by then.
+fn look_once(
+    shelf: &mut MemShelf,
+    into: &mut Vec<u8>,
+    name: &str,
+    most: u64,
+) -> (Result<Looked, ShelfFault>, usize) {
+    let answer = shelf.look(name, into, 1, most);
+    (answer, into.len())
+}
+
+fn check_looks(
+    rt: &impl Abort,
+    shelf: &mut MemShelf,
+    into: &mut Vec<u8>,
+    rows: &[(&str, u64, Result<Looked, ShelfFault>, usize)],
+) {
+    for row in rows {
+        let (name, most, answer, len) = *row;
+        assert!(rt;
+            look_once(shelf, into, name, most) == (answer, len),
+            "{name}, {most}"
+        );
+    }
+}
+
+#[test]
+fn a_shelf_in_memory_is_looked_at_by_reading(rt: HostRuntime) -> Result<(), Fail> {
+    let mut shelf = shelf(rt.alloc())?;
+    check_looks(&rt, &mut shelf, &mut Vec::new(rt.alloc()), LOOKS);
     Ok(())
 }
 

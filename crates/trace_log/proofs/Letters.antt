@@ -80,9 +80,3 @@ letters_told one other (a ∷ b ∷ more) apart p q = each_told one other (a ∷
 -- the same letters are those of the same answers
 pub one_letters : (one other : ℕ) (xs ys : List Bool) → one ≢ other → 45 ≢ one → 45 ≢ other → letters one other xs ≡ letters one other ys → xs ≡ ys
 one_letters one other xs ys apart p q e = sym (letters_told one other xs apart p q) ∙ ap (told_by one) e ∙ letters_told one other ys apart p q
-
--- without the stroke, each letter tells an answer
-pub told_each : (one : ℕ) (bs : List ℕ) → bs ≢ 45 ∷ [] → told_by one bs ≡ map (λ x. eqb x one) bs
-told_each one [] apart = refl
-told_each one (b ∷ []) apart = rw (ne_eqb b 45 (λ e. apart (ap (λ x. x ∷ []) e))) refl
-told_each one (b ∷ c ∷ bs) apart = refl

@@ -175,9 +175,6 @@ module _ {X : Type 0} where
   rest_is : (x y : X) (xs ys : List X) → x ∷ xs ≡ y ∷ ys → xs ≡ ys
   rest_is x y xs ys e = cc
 
-  no_item : (x : X) (xs : List X) → [] ≡ x ∷ xs → ⊥
-  no_item x xs e = cc
-
   -- a put that is accepted and a take that gets a chunk: one of them comes next
   both : (C : ℕ) (rest queue : List X) (x y : X) (puts takes : List (Option X)) → 1 ≤ C → length queue ≤ C
       → Fits C (length queue) (true ∷ told puts) (true ∷ told takes) → queue ++ x ∷ somes puts ≡ y ∷ somes takes ++ rest

@@ -1,5 +1,5 @@
 -- A turn of a clock, and a pass in which no clock goes on.
-use Rattle.std.proofs.Common.{◌≡◌, ◌≢◌, ◌<◌, ◌≤◌, ◌∙◌, ◌++◌, ℕ, suc, Bool, true, false, cond, nat_eq, List, [], ◌∷◌, length, inl, inr, refl, ap, sym, subst, arith, append_assoc, append-nil}
+use Rattle.std.proofs.Common.{◌≡◌, ◌<◌, ◌≤◌, ◌∙◌, ◌++◌, ℕ, suc, Bool, true, false, cond, nat_eq, List, [], ◌∷◌, length, inl, inr, refl, ap, sym, subst, arith, append_assoc, append-nil}
 use Rattle.std.proofs.lemmas.Bool.{cases_lt, cases_eq}
 use Rattle.std.proofs.lemmas.Bool.Decides.{nat_tests}
 use Rattle.clock_infer.specs.declared.clock_map.ClockMap.{ClockMap}
@@ -28,9 +28,6 @@ put_at m x f k = cond (nat_eq k m) x (f k)
 
 same_number : (b c : ℕ) → nat_eq b c ≡ true → b ≡ c
 same_number b c e = grind (arith, nat_tests)
-
-other_number : (b c : ℕ) → nat_eq b c ≡ false → b ≢ c
-other_number b c e = grind (arith, nat_tests)
 
 equal_self : (n : ℕ) → nat_eq n n ≡ true
 equal_self n = grind (arith, nat_tests)

@@ -146,13 +146,6 @@ module _ (base : Setting) (clocks : ClockMap) (is : IsSetting base clocks) (W N 
       ] in
       subst (IsHalted base text (chunks_of others) k) (sym (now k)) (halted_same base text (chunks_of states) (chunks_of others) k (made_of made k) stays halt)
 
-  -- the clock had made all its ticks before
-  pub stuck_done : (made : List ℕ) (before left : ℕ) (states : List BufferState) (m : ℕ) → made_of made m ≡ N → AreStuck base W N ends first made states before left m → AreStuck base W N ends first made states before left (m + 1)
-  stuck_done made before left states m full stuck same text fit k less more = elim (cases_eq k m) [
-    | inl e ↦ absurd (let h = ap (made_of made) e in omega (arith, h, full, more))
-    | inr other ↦ stuck same text fit k (omega (arith, less, other)) more
-  ]
-
   -- a pass in which no tick was made
   pub passes_end : (made : List ℕ) (left : ℕ) (states : List BufferState) → Passing made left states → 0 < left → (before : ℕ) → left ≡ before → AreStuck base W N ends first made states before left clocks.running
       → (text : ℕ → Log) → AreFit base W N text first ends → IsOrderedText base clocks.running W N text → ⊥

@@ -1,5 +1,5 @@
 -- A buffer lets chunks go.
-use Rattle.std.proofs.Common.{◌≡◌, ◌<◌, ◌≤◌, ◌+◌, ◌∙◌, ◌++◌, ℕ, zero, suc, true, List, [], ◌∷◌, length, drop, refl, ap, sym, subst, arith, true≢false, append_assoc, length-append}
+use Rattle.std.proofs.Common.{◌≡◌, ◌<◌, ◌+◌, ◌∙◌, ◌++◌, ℕ, zero, suc, true, List, [], ◌∷◌, length, drop, refl, ap, sym, subst, arith, true≢false, append_assoc, length-append}
 use Rattle.std.proofs.lemmas.List.{drop-drop}
 use Rattle.frame_core.specs.declared.cell.Cell.{Cell}
 use Rattle.trace_turns.specs.Answering.{BufferState, SameBuffer, blanks}
@@ -41,10 +41,6 @@ count_next g put held rest count next some =
     let long = length-append (blanks (g + 1)) rest in
     let blank = blanks_long (g + 1) in
     (omega (arith, count, short, same), omega (arith, count, short, same, long, blank))
-
--- before one goes
-pub go_none : (s : BufferState) → s.gone ≤ length s.chunks → HasLetGo s s
-go_none s low = record { same = refl; many = refl; rest = refl; on = omega arith; unread = λ unread. refl; low = λ few. few; most = low }
 
 -- one more
 pub go_more : (first s : BufferState) (held rest : List (List Cell)) → s.chunks ≡ blanks s.gone ++ held → rest ≡ drop 1 held → 0 < length held → s.gone < s.got → s.read ≡ true → HasLetGo first s

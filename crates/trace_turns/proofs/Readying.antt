@@ -1,5 +1,5 @@
 -- A run of a clock's new engine over buffers that begin it.
-use Rattle.std.proofs.Common.{◌≡◌, ◌∙◌, ℕ, List, [], length, Result, Ok, Err, IfOk, OnErr, OnOk, refl, sym, subst}
+use Rattle.std.proofs.Common.{◌≡◌, ◌∙◌, ℕ, List, [], length, Result, Ok, Err, IfOk, refl, sym, subst}
 use Rattle.clock_infer.specs.declared.clock_map.ClockMap.{ClockMap}
 use Rattle.stream_meaning.specs.Instants.{Setting}
 use Rattle.stream_meaning.specs.Settings.{IsSetting}
@@ -17,14 +17,6 @@ use Rattle.trace_turns.proofs.Beginning.{of_begun, stand_begun, told_begun, told
 pub ok_map : {T E : Type 0} {P Q : T → Type 0} (r : Result T E) → ((x : T) → P x → Q x) → IfOk r P → IfOk r Q
 ok_map (Ok x) f p = f x p
 ok_map (Err e) f p = p
-
-pub on_ok_map : {T E P Q : Type 0} (r : Result T E) → (P → Q) → OnOk r P → OnOk r Q
-on_ok_map (Ok x) f p = f p
-on_ok_map (Err e) f p = p
-
-pub on_err_map : {T E P Q : Type 0} (r : Result T E) → (P → Q) → OnErr r P → OnErr r Q
-on_err_map (Ok x) f p = p
-on_err_map (Err e) f p = f p
 
 module _ (base : Setting) (clocks : ClockMap) (is : IsSetting base clocks) (W N m : ℕ) (feeders readers f r : List ℕ) (feeders_are : f ≡ feeders) (readers_are : r ≡ readers) (sides : AreSides base feeders readers)
     (ends : List Ends) (old new : List BufferState) (many : length new ≡ length old) (are : HaveBegun f r m old new) (long : length ends ≡ length old)

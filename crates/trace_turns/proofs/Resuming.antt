@@ -17,14 +17,14 @@ use Rattle.trace_turns.specs.declared.told.Mark.{Mark}
 use Rattle.trace_records.specs.Clocks.{IsFront, Log, Suits, got_in}
 use Rattle.trace_records.specs.Passes.{HasCome, IsFormed, IsMadeBy}
 use Rattle.trace_turns.specs.Answering.{AllStand, BufferState, SameBuffers, StandsFor, begun}
-use Rattle.trace_turns.specs.Live.{HasGone, IsNewClock, IsPaused, MayGoOn, mains}
+use Rattle.trace_turns.specs.Live.{IsNewClock, IsPaused, MayGoOn, mains}
 use Rattle.trace_turns.specs.Marks.{AreWithin, IsForgotten, HaveMarked, HaveResumed, mark_of, no_mark, others_in, resumed}
 use Rattle.trace_turns.specs.Turns.{AreFit, AreOf, AreSides, AreTold, RunsAt, Score, chunks_of, no_state}
 use Rattle.trace_turns.proofs.Beginning.{fed_test, not_fed_test, not_read_test, read_test, told_same}
 use Rattle.trace_records.proofs.Fronts.{front_long, no_items}
 use Rattle.trace_turns.proofs.Playing.{whole_none}
 use Rattle.trace_records.proofs.Recorded.{no_puts}
-use Rattle.trace_turns.proofs.Turned.{come_to, own_made}
+use Rattle.trace_turns.proofs.Turned.{own_made}
 use Rattle.trace_turns.specs.Timed.{timed}
 
 others_low : (fed : Bool) (chunks : List (List Cell)) → others_in fed chunks ≤ length chunks
@@ -281,17 +281,6 @@ module _ (W N m c : ℕ) (clock_is : c ≡ m) (feeders readers f r : List ℕ) (
       };
       run = runs_on base text feeders readers sides m marks old new fit.told many are_resumed W N n parts paused;
     }
-
-    -- where it stops
-    pub has_gone : (from n : ℕ) → n ≤ N → (before parts : EngineParts) (marks_now : List Mark) (after : List BufferState) → IsPaused base (timed text W N) (mains feeders readers) m from before marks old
-        → ((score : Score) → MayGoOn score W N m from before new ends → RunsAt score.base score.text W N m n score.chunks parts after) → HaveMarked after marks_now
-        → HasGone base (timed text W N) (mains feeders readers) m n parts marks_now old after
-    has_gone from n low before parts marks_now after paused runs marked =
-        let run : RunsAt base text W N m n (chunks_of old) parts after = runs score_of (may_go from before paused) in
-        record {
-          come = come_to base clocks is text W N m n low (chunks_of old) after run.of run.calls run.accepted run.are run.stand run.whole;
-          paused = pauses base text feeders readers sides clocks is W N m n (chunks_of old) parts marks_now after run marked;
-        }
 
 -- buffers as before any run
 module _ (old new : List BufferState) (many : length new ≡ length old) (are : IsForgotten old new) where

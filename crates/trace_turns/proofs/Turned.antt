@@ -44,9 +44,6 @@ front_take (suc n) (x ∷ xs) = (let more = front_take n xs in record { rest = m
 list_is : (s : BufferState) → s.fed ≡ true → s.read ≡ true → is_list s ≡ true
 list_is s f r = ap (λ (x : Bool). x && s.read) f ∙ r
 
-no_list : (s : BufferState) → s.fed ≡ false → is_list s ≡ false
-no_list s f = ap (λ (x : Bool). x && s.read) f
-
 module _ (base : Setting) (text : ℕ → Log) (m : ℕ) (chunks : ℕ → List (List Cell)) (states : List BufferState) (of : AreOf base text m chunks states) where
   abbrev B : ℕ
   B = length base.plan.buffers

@@ -65,9 +65,6 @@ next_fault xs i x sc f lt is clear scope here =
 
 -- ---- one more
 
-pub names_none : (xs : List (Tree AStmt)) (all : List Meaning) → all ≡ [] → AreNamesOf xs 0 all
-names_none xs all a = record { all_are = a; faultless = refl }
-
 pub names_next : (xs : List (Tree AStmt)) (i : ℕ) (all all' ms : List Meaning) (x : Tree AStmt) (sc : Scope) → AreNamesOf xs i all → i < length xs → x ≡ get_or xs i x → sc ≡ scope_after [] (first_of i (listed xs)) →
     ms ≡ map meant (names sc x) → reported_fault (faults_in sc x) ≡ None → all' ≡ all ++ ms → AreNamesOf xs (i + 1) all'
 names_next xs i all all' ms x sc a lt is scope here faultless e =

@@ -1,7 +1,7 @@
 -- The bindings in the body of a def, each behind the ones before it.
-use Rattle.std.proofs.Common.{◌≡◌, ◌∙◌, sym, ap, ap₂, subst, refl, ℕ, zero, suc, ◌+◌, ◌<◌, ◌≤◌, length, List, [], ◌∷◌, ◌++◌, map, take, drop, get_or, Bool}
-use Rattle.std.proofs.lemmas.List.{map-append, take_all, take_more}
-use Rattle.script_grammar.specs.Tree.{Tree, AnInner, AFull, none, Bind, Inner}
+use Rattle.std.proofs.Common.{◌≡◌, ◌∙◌, sym, ap, ap₂, subst, refl, ℕ, zero, suc, ◌+◌, ◌<◌, length, List, [], ◌∷◌, ◌++◌, map, take, drop, get_or, Bool}
+use Rattle.std.proofs.lemmas.List.{map-append, take_more}
+use Rattle.script_grammar.specs.Tree.{Tree, AnInner, AFull, Bind, Inner}
 use Rattle.script_grammar.specs.View.{listed, view_inner}
 use Rattle.script_grammar.specs.declared.tree.Inner.{Inner as ABinding}
 use Rattle.type_terms.specs.Agrees.{Agrees, Follows}
@@ -10,9 +10,9 @@ use Rattle.type_terms.specs.Table.{Table, Solves}
 use Rattle.type_terms.specs.Term.{Term, meaning, variable}
 use Rattle.typing_rules.specs.Scripts.{Places, Targets}
 use Rattle.typing_rules.specs.Typing.{Has, InnersHave, Sight, TypesByToken, within}
-use Rattle.type_steps.specs.Environment.{AreFound, AreTypesOver, AreUsesOver, Env, Found, IsEnvOver, Known, sight_under, types_under}
+use Rattle.type_steps.specs.Environment.{AreFound, AreTypesOver, Env, Found, IsEnvOver, Known, sight_under, types_under}
 use Rattle.type_steps.specs.Flow.{HasNoType, Infers, Reached}
-use Rattle.type_steps.proofs.Tables.{ends_with, follows_both, follows_same, meaning_over, over_later, reach, seen_over, stay}
+use Rattle.type_steps.proofs.Tables.{ends_with, follows_both, meaning_over, over_later, reach, seen_over}
 use Rattle.type_steps.specs.Defs.{outside}
 use Rattle.type_infer.specs.PartsOf.{HaveNoInners, InfersInners, TypesAs, with_inner}
 
@@ -47,15 +47,6 @@ have_before z [] at name f semicolon us ws h = (us, h.0, h.2, refl, h.1)
 have_before z (Inner (Bind a n g) s ∷ is) at name f semicolon us ws h = with_rest (have_before z is at name f semicolon (us ++ (a, h.0) ∷ []) ws h.2) where
   with_rest : ((vs : TypesByToken) × (t : Ground) × (ws ≡ vs ++ (at, t) ∷ []) × InnersHave z (listed is) (us ++ (a, h.0) ∷ []) vs × Has (within vs z) f t) → (vs : TypesByToken) × (t : Ground) × (ws ≡ vs ++ (at, t) ∷ []) × InnersHave z (listed (Inner (Bind a n g) s ∷ is)) us vs × Has (within vs z) f t
   with_rest r = (r.0, r.1, r.2, (h.0, h.1, r.3), r.4)
-
-pub inners_none : (s : Table) (env : Env) (us : Typed) (fs : List Found) → AreTypesOver s us → AreUsesOver s fs → InfersInners s s env none us us fs fs
-inners_none s env us fs o u = record {
-  over = o;
-  uses = u;
-  follows = follows_same s;
-  sound = λ a m k p. (refl, p);
-  complete = λ a m k ts h p. stay m (sym h, p);
-}
 
 module _ (s s1 : Table) (targets : Targets) (before : List Known) (is : List (Tree AnInner)) (at : ℕ) (name : List ℕ) (x : Tree AFull) (semicolon : Bool) (us vs : Typed) (old mid : List Found) (o : IsEnvOver s (outside targets before)) (f : InfersInners s s1 (outside targets before) (listed is) us vs old mid) where
   -- behind the bindings as they were found
@@ -127,6 +118,3 @@ module _ (xs : List ABinding) (i : ℕ) (x : ABinding) (lt : i < length xs) (is 
       (inners_front_none s (outside targets before) (map view_inner (take (i + 1) xs)) (map view_inner (drop (i + 1) xs)) us old
       (subst (λ l. HaveNoInners s (outside targets before) (listed l) us old) (sym next_seen)
       (inners_last_none s s1 targets before (map view_inner (take i xs)) at name e semicolon us vs old mid o f h)))
-
-pub inners_end : (xs : List ABinding) (i : ℕ) (s s1 : Table) (env : Env) (us vs : Typed) (old new : List Found) → length xs ≤ i → InfersInners s s1 env (listed (map view_inner (take i xs))) us vs old new → InfersInners s s1 env (listed (map view_inner xs)) us vs old new
-inners_end xs i s s1 env us vs old new le f = subst (λ l. InfersInners s s1 env (listed (map view_inner l)) us vs old new) (take_all i xs le) f

@@ -1,34 +1,31 @@
 -- What the loops over the parts of a def keep.
-use Rattle.std.proofs.Common.{◌≡◌, ◌∙◌, sym, ap, subst, refl, ℕ, ◌+◌, ◌<◌, ◌≤◌, length, List, [], ◌∷◌, ◌++◌, map, take, get_or}
-use Rattle.std.proofs.lemmas.List.{map-append, take_all, take_more}
-use Rattle.script_grammar.specs.Tree.{Tree, Many, AParam, AnInner, none}
+use Rattle.std.proofs.Common.{◌≡◌, ◌∙◌, sym, ap, subst, refl, ℕ, ◌+◌, ◌<◌, length, List, [], ◌∷◌, ◌++◌, map, take, get_or}
+use Rattle.std.proofs.lemmas.List.{map-append, take_more}
+use Rattle.script_grammar.specs.Tree.{Tree, Many, AParam, AnInner}
 use Rattle.script_grammar.specs.View.{listed, view_full, view_inner, view_param}
 use Rattle.script_grammar.specs.declared.tree.Param.{Param}
 use Rattle.script_grammar.specs.declared.tree.Inner.{Inner as ABinding}
 use Rattle.type_terms.specs.Table.{Table}
 use Rattle.type_terms.specs.Term.{Term, variable}
 use Rattle.typing_rules.specs.Typing.{token_of}
-use Rattle.type_steps.specs.Environment.{AreTypesOver, AreUsesOver, Found, IsEnvOver}
+use Rattle.type_steps.specs.Environment.{Found, IsEnvOver}
 use Rattle.type_steps.specs.Flow.{HasNoType, Infers}
 use Rattle.expression_types.specs.Seen.{env_of, types_seen}
 use Rattle.expression_types.specs.declared.environment.Names.{Names}
 use Rattle.expression_types.specs.declared.environment.TypedName.{TypedName}
 use Rattle.expression_types.specs.Order.{AreAdded, tokens_used}
-use Rattle.expression_types.proofs.Adding.{next_added, none_added}
+use Rattle.expression_types.proofs.Adding.{next_added}
 use Rattle.type_steps.specs.Defs.{outside}
 use Rattle.type_infer.specs.PartsOf.{HasNoParam, HaveNoInners, HaveNoParams, InfersInners, InfersParam, InfersParams, with_inner}
 use Rattle.type_infer.specs.DefSteps.{AreTypedParams, param_tokens, tokens_named, vars_named}
-use Rattle.type_infer.proofs.Inners.{inners_next, inners_none, inners_stop}
-use Rattle.type_infer.proofs.OfParams.{params_next, params_none, params_stop}
+use Rattle.type_infer.proofs.Inners.{inners_next, inners_stop}
+use Rattle.type_infer.proofs.OfParams.{params_next, params_stop}
 
 -- ---- parameters
 
 pub record ParamsSo (s s' : Table) (ns : Names) (ps : Tree (Many AParam)) (ts : List TypedName) (old new : List Found) : Type 0 where
   pub typed : AreTypedParams s s' (env_of ns) ps ts old new
   pub order : AreAdded ns (tokens_used ps) old new
-
-pub params_so_none : (s : Table) (ns : Names) (ts : List TypedName) (fs : List Found) → ts ≡ [] → AreUsesOver s fs → ParamsSo s s ns none ts fs fs
-params_so_none s ns ts fs is o = subst (λ (us : List TypedName). ParamsSo s s ns none us fs fs) (sym is) (record { typed = record { typed = params_none s (env_of ns) fs o; named = refl }; order = none_added ns fs })
 
 tokens_last : (ps : List (Tree AParam)) (p : Tree AParam) → param_tokens (listed (ps ++ p ∷ [])) ≡ param_tokens (listed ps) ++ token_of p ∷ []
 tokens_last [] p = refl
@@ -56,17 +53,11 @@ params_so_next xs i x lt is s s1 s2 ns ts us t old mid new o grown at f g h = su
 pub params_so_stop : (xs : List Param) (i : ℕ) (x : Param) → i < length xs → x ≡ get_or xs i x → (s s1 : Table) (ns : Names) (ts : List TypedName) (old mid : List Found) → IsEnvOver s (env_of ns) → ParamsSo s s1 ns (listed (map view_param (take i xs))) ts old mid → HasNoParam s1 (env_of ns) (view_param x) mid → HaveNoParams s (env_of ns) (listed (map view_param xs)) old
 params_so_stop xs i x lt is s s1 ns ts old mid o f h = params_stop xs i x lt is s s1 (env_of ns) (vars_named ts) old mid o f.typed.typed h
 
-pub params_so_end : (xs : List Param) (i : ℕ) → length xs ≤ i → (s s1 : Table) (ns : Names) (ts : List TypedName) (old new : List Found) → ParamsSo s s1 ns (listed (map view_param (take i xs))) ts old new → ParamsSo s s1 ns (listed (map view_param xs)) ts old new
-params_so_end xs i le s s1 ns ts old new f = subst (λ (l : List Param). ParamsSo s s1 ns (listed (map view_param l)) ts old new) (take_all i xs le) f
-
 -- ---- bindings in the body
 
 pub record InnersSo (s s' : Table) (ns : Names) (is : Tree (Many AnInner)) (us vs : List TypedName) (old new : List Found) : Type 0 where
   pub typed : InfersInners s s' (outside (env_of ns).targets (env_of ns).before) is (types_seen us) (types_seen vs) old new
   pub order : AreAdded ns (tokens_used is) old new
-
-pub inners_so_none : (s : Table) (ns : Names) (us : List TypedName) (fs : List Found) → AreTypesOver s (types_seen us) → AreUsesOver s fs → InnersSo s s ns none us us fs fs
-inners_so_none s ns us fs o u = record { typed = inners_none s (outside (env_of ns).targets (env_of ns).before) (types_seen us) fs o u; order = none_added ns fs }
 
 pub inners_so_next : (xs : List ABinding) (i : ℕ) (x : ABinding) → i < length xs → x ≡ get_or xs i x → (s s1 s2 : Table) (ns : Names) (us vs ws : List TypedName) (n : ℕ) (old mid new : List Found) → IsEnvOver s (outside (env_of ns).targets (env_of ns).before) → ws ≡ vs ++ record { at = x.bind.at; var = n } ∷ [] →
     InnersSo s s1 ns (listed (map view_inner (take i xs))) us vs old mid → Infers s1 s2 (with_inner (env_of ns) (types_seen vs)) (view_full x.bind.value) (variable n) mid new → AreAdded ns (tokens_used (view_full x.bind.value)) mid new → InnersSo s s2 ns (listed (map view_inner (take (i + 1) xs))) us ws old new
@@ -79,6 +70,3 @@ inners_so_next xs i x lt is s s1 s2 ns us vs ws n old mid new o grown f g h = su
 pub inners_so_stop : (xs : List ABinding) (i : ℕ) (x : ABinding) → i < length xs → x ≡ get_or xs i x → (s s1 : Table) (ns : Names) (us vs : List TypedName) (old mid : List Found) → IsEnvOver s (outside (env_of ns).targets (env_of ns).before) →
     InnersSo s s1 ns (listed (map view_inner (take i xs))) us vs old mid → HasNoType s1 (with_inner (env_of ns) (types_seen vs)) (view_full x.bind.value) mid → HaveNoInners s (outside (env_of ns).targets (env_of ns).before) (listed (map view_inner xs)) (types_seen us) old
 inners_so_stop xs i x lt is s s1 ns us vs old mid o f h = inners_stop xs i x lt is x.bind.at x.bind.name (view_full x.bind.value) x.semicolon refl s s1 (env_of ns).targets (env_of ns).before (types_seen us) (types_seen vs) old mid o f.typed h
-
-pub inners_so_end : (xs : List ABinding) (i : ℕ) → length xs ≤ i → (s s1 : Table) (ns : Names) (us vs : List TypedName) (old new : List Found) → InnersSo s s1 ns (listed (map view_inner (take i xs))) us vs old new → InnersSo s s1 ns (listed (map view_inner xs)) us vs old new
-inners_so_end xs i le s s1 ns us vs old new f = subst (λ (l : List ABinding). InnersSo s s1 ns (listed (map view_inner l)) us vs old new) (take_all i xs le) f

@@ -1,7 +1,7 @@
 -- The parameters of a def, one after another.
-use Rattle.std.proofs.Common.{◌≡◌, ◌∙◌, sym, ap, ap₂, subst, refl, ℕ, zero, suc, ◌+◌, ◌<◌, ◌≤◌, length, List, [], ◌∷◌, ◌++◌, map, take, drop, get_or}
-use Rattle.std.proofs.lemmas.List.{map-append, take_all, take_more}
-use Rattle.script_grammar.specs.Tree.{Tree, AParam, AFull, none, Optional}
+use Rattle.std.proofs.Common.{◌≡◌, ◌∙◌, sym, ap, ap₂, subst, refl, ℕ, zero, suc, ◌+◌, ◌<◌, length, List, [], ◌∷◌, ◌++◌, map, take, drop, get_or}
+use Rattle.std.proofs.lemmas.List.{map-append, take_more}
+use Rattle.script_grammar.specs.Tree.{Tree, AParam, AFull, Optional}
 use Rattle.script_grammar.specs.View.{listed, view_param}
 use Rattle.script_grammar.specs.declared.tree.Param.{Param}
 use Rattle.type_terms.specs.Agrees.{Agrees, Follows, HasNewType}
@@ -12,7 +12,7 @@ use Rattle.typing_rules.specs.Scripts.{Places}
 use Rattle.typing_rules.specs.Typing.{DefaultHas, DefaultsHave, Sight}
 use Rattle.type_steps.specs.Environment.{AreFound, AreUsesOver, Env, Found, IsEnvOver, sight_under}
 use Rattle.type_steps.specs.Flow.{HasNoType, Infers, Reached}
-use Rattle.type_steps.proofs.Tables.{ends_with, follows_both, follows_same, found_over, over_later, reach, seen_over, stay, uses_later}
+use Rattle.type_steps.proofs.Tables.{ends_with, follows_both, found_over, over_later, reach, seen_over, uses_later}
 use Rattle.type_infer.specs.PartsOf.{AreVars, HasNoParam, HaveNoParams, InfersParam, InfersParams, VarsAs, types_at}
 
 -- ---- variables
@@ -50,15 +50,6 @@ have_before z (q ∷ ps) p [] h = absurd h
 have_before z (q ∷ ps) p (u ∷ ts) h = with_rest (have_before z ps p ts h.1) where
   with_rest : ((us : List Ground) × (t : Ground) × (ts ≡ us ++ t ∷ []) × DefaultsHave z (listed ps) us × DefaultHas z p t) → (us : List Ground) × (t : Ground) × (u ∷ ts ≡ us ++ t ∷ []) × DefaultsHave z (listed (q ∷ ps)) us × DefaultHas z p t
   with_rest r = (u ∷ r.0, r.1, ap (λ (l : List Ground). u ∷ l) r.2, (h.0, r.3), r.4)
-
-pub params_none : (s : Table) (env : Env) (fs : List Found) → AreUsesOver s fs → InfersParams s s env none [] fs fs
-params_none s env fs o = record {
-  inside = tt;
-  uses = o;
-  follows = follows_same s;
-  sound = λ a m k p. (refl, p);
-  complete = λ a m k ts h p. stay m (sym h, p);
-}
 
 module _ (s s1 : Table) (env : Env) (ps : List (Tree AParam)) (x : Tree AParam) (ns : List ℕ) (old mid : List Found) (o : IsEnvOver s env) (f : InfersParams s s1 env (listed ps) ns old mid) where
   params_last : (s2 : Table) (n : ℕ) (new : List Found) → InfersParam s1 s2 env x n mid new → InfersParams s s2 env (listed (ps ++ x ∷ [])) (ns ++ n ∷ []) old new
@@ -134,6 +125,3 @@ module _ (xs : List Param) (i : ℕ) (x : Param) (lt : i < length xs) (is : x �
       (params_front_none s env (map view_param (take (i + 1) xs)) (map view_param (drop (i + 1) xs)) old
       (subst (λ l. HaveNoParams s env (listed l) old) (sym (next_taken xs i x lt is))
       (params_last_none s s1 env (map view_param (take i xs)) (view_param x) ns old mid o f h)))
-
-pub params_end : (xs : List Param) (i : ℕ) (s s1 : Table) (env : Env) (ns : List ℕ) (old new : List Found) → length xs ≤ i → InfersParams s s1 env (listed (map view_param (take i xs))) ns old new → InfersParams s s1 env (listed (map view_param xs)) ns old new
-params_end xs i s s1 env ns old new le f = subst (λ l. InfersParams s s1 env (listed (map view_param l)) ns old new) (take_all i xs le) f

@@ -16,7 +16,7 @@ use Rattle.type_terms.specs.declared.ty.KindTerm.TheVariants as term
 use Rattle.typing_rules.specs.declared.uses.KindOf.{KindOf}
 use Rattle.typing_rules.specs.declared.uses.KindOf.TheVariants as kind_of
 use Rattle.typing_rules.specs.declared.uses.Use.{Use}
-use Rattle.type_steps.specs.Environment.{Found, TextUse, settled, settled_use}
+use Rattle.type_steps.specs.Environment.{settled, settled_use}
 use Rattle.type_steps.specs.Statements.{Done, found_use, uses_in, uses_under}
 use Rattle.expression_types.specs.Seen.{found, founds, pending, text_use}
 use Rattle.expression_types.specs.declared.environment.FoundUse.{FoundUse}
@@ -97,12 +97,6 @@ uses_all s xs i start new le h = subst (λ l. AddsTexts s (map text_use l) start
 pub def_found : (o : Option (Bor KnownDef)) (ds : List KnownDef) (i : ℕ) → IfSome o (λ x. x.now ≡ get_or ds i x.now) → MatchOption o (length ds ≤ i) (λ x. (i < length ds) × HoldsAt {X = KnownDef} (λ y. x.now ≡ y) ds i) → option_map (λ x. x.now) o ≡ slice_get ds i
 def_found None ds i is h = sym (slice_get_past ds i h)
 def_found (Some x) ds i is h = ap (λ (d : KnownDef). Some d) is ∙ sym (slice_get-get_or ds i x.now h.0)
-
-pub one_found : (s : Table) (fs : List Found) (x : Done) (old new : List Use) → ((d : HasDefaults s) → uses_in d.at x ≡ map (found_use d.at) fs) → AddsFounds s fs old new → AddsDones s (x ∷ []) old new
-one_found s fs x old new is h = λ d. h d ∙ ap (λ l. old ++ l) (sym (append-nil (uses_in d.at x) ∙ is d))
-
-pub one_text : (s : Table) (us : List TextUse) (x : Done) (old new : List Use) → ((d : HasDefaults s) → uses_in d.at x ≡ map (settled_use d.at) us) → AddsTexts s us old new → AddsDones s (x ∷ []) old new
-one_text s us x old new is h = λ d. h d ∙ ap (λ l. old ++ l) (sym (append-nil (uses_in d.at x) ∙ is d))
 
 uses_append : (a : Assignment) (xs ys : List Done) → uses_under a (xs ++ ys) ≡ uses_under a xs ++ uses_under a ys
 uses_append a [] ys = refl

@@ -1,5 +1,5 @@
 -- What is answered of a def.
-use Rattle.std.proofs.Common.{◌≡◌, ◌∙◌, sym, ap, ap₂, subst, refl, arith, ℕ, zero, suc, length, List, [], ◌∷◌, ◌++◌, map, take, drop, append_assoc, Option, Some, None}
+use Rattle.std.proofs.Common.{◌≡◌, ◌∙◌, sym, ap, ap₂, subst, refl, ℕ, zero, suc, length, List, [], ◌∷◌, ◌++◌, map, take, drop, append_assoc, Option, Some, None}
 use Rattle.std.specs.List.{flat_map}
 use Rattle.liq_base.specs.declared.memory.Kind.{Kind}
 use Rattle.script_grammar.specs.View.{view_def}
@@ -15,7 +15,7 @@ use Rattle.type_instances.specs.Schemes.{Scheme, scheme_of}
 use Rattle.general_types.specs.declared.generalising.TextKind.{TextKind}
 use Rattle.general_types.specs.declared.generalising.TextKind.TheVariants.{Open, Outer}
 use Rattle.general_types.specs.Generals.{IsGeneral, open_of, settled as settled_text}
-use Rattle.general_types.specs.Holding.{AreThere, HeldVariables, IsHeldBy}
+use Rattle.general_types.specs.Holding.{HeldVariables, IsHeldBy}
 use Rattle.type_steps.specs.Environment.{AreKnownOver, Found, Known, TextUse, function}
 use Rattle.expression_types.specs.declared.environment.Names.{Names}
 use Rattle.expression_types.specs.Order.{AreAdded, Said, said_at, said_of}
@@ -32,12 +32,6 @@ use Rattle.type_infer.proofs.General.{def_held, def_keeps, def_typing}
 pub general_as : (s : Table) (names ts us : List Term) (x y : Term) (ks ls : List KindTerm) (g : Scheme) (text : List TextKind) → ts ≡ us → x ≡ y → ks ≡ ls → IsGeneral s names ts x ks g text → IsGeneral s names us y ls g text
 general_as s names ts us x y ks ls g text e f h i =
     subst (λ (vs : List Term). IsGeneral s names vs y ls g text) e (subst (λ (z : Term). IsGeneral s names ts z ls g text) f (subst (λ (ms : List KindTerm). IsGeneral s names ts x ms g text) h i))
-
-pub held_there : (s s1 : Table) (before : List Known) (h : HeldVariables) → HoldsBefore s before h → Follows s s1 → AreThere s1 h
-held_there s s1 before h was f = record {
-  types = λ k e. let l = (was.held.free_types k e).0 in let m = f.types in omega arith;
-  kinds = λ k e. let l = (was.held.free_kinds k e).0 in let m = f.kinds in omega arith;
-}
 
 pub no_typing : (s : Table) (targets : Targets) (before : List Known) (d : Def) → HasNoDef s (outside targets before) (view_def d) → HasNoTyping s targets before (view_def d)
 no_typing s targets before d n a m some = n a m some.0 some.1 some.2 some.3

@@ -11,5 +11,5 @@ mod steps;
 mod texts;
 mod values;
 
-pub use script::{Typed, infer};
+pub use script::infer;
 pub use typing_rules::{Builtin, KindOf, Target, TypeFault, Use, UseKinds};

@@ -27,13 +27,6 @@ use std::alloc::Global;
 use type_terms::Subst;
 use typing_rules::{Target, TypeFault, Use};
 
-/// A script with what each name in it means, in the order of the tokens, and the kinds of each use.
-#[derive(Drop)]
-pub struct Typed<'a> {
-    pub script: &'a Script,
-    pub uses: Vec<Use>,
-}
-
 /// The uses of a script that has a typing: one for each name in the order of the tokens, with what it means and its
 /// kinds, mono exactly where every typing is (`docs/typing.md`). The fields `at` of the script are the indexes of its
 /// tokens, as parsing answers it.
@@ -41,16 +34,12 @@ pub struct Typed<'a> {
 /// # Errors
 ///
 /// The first fault of names, arguments or types. `Memory`: memory was refused, or there are 2^32 statements and more.
-pub fn infer<'a>(alloc: Global, script: &'a Script) -> Result<Typed<'a>, TypeFault>
+pub fn infer(alloc: Global, script: &Script) -> Result<Vec<Use>, TypeFault>
     requires placed { IsPlaced 0 (view_script script.now) }
-    ensures typed { IfOk result (λ t. IsTyped (view_script script.entry.now) t.uses.items) }
-    ensures fault { IfErr result (IsTypeFault (view_script script.entry.now)) }
-    ensures script { IfOk result (λ t. t.script ≡ script.entry) }
+    ensures typed { IfOk result (λ uses. IsTyped (view_script script.now) uses.items) }
+    ensures fault { IfErr result (IsTypeFault (view_script script.now)) }
 {
-    match statement_uses(alloc, &script.statements) {
-        Ok(uses) => Ok(Typed { script, uses }),
-        Err(fault) => Err(fault),
-    }
+    statement_uses(alloc, &script.statements)
 }
 
 /// No statement yet, with a substitution without variables.

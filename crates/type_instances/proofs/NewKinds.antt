@@ -24,12 +24,6 @@ kind_may_be_agrees s a b e (Outer k) o g h = h ∙ e.kinds k (o k refl)
 pub open_is_new : (s s' : Table) (n : ℕ) → HasNewKind s s' n → IsNewKind s s' Open n
 open_is_new s s' n h = record { inside = h.inside; follows = h.follows; sound = λ a m. tt; complete = λ a m g p. h.each a m g }
 
-pub unread_is_new : (s s' : Table) (n : ℕ) → HasNewKind s s' n → IsNewKind s s' Unread n
-unread_is_new s s' n h = record { inside = h.inside; follows = h.follows; sound = λ a m. tt; complete = λ a m g p. h.each a m g }
-
-pub outer_kind_is_new : (s : Table) (k : ℕ) → HasOuterKind s (Outer k) → IsNewKind s s (Outer k) k
-outer_kind_is_new s k o = record { inside = o k refl; follows = follows_itself s; sound = λ a m. refl; complete = λ a m g p. (a, m, agrees_itself s a, sym p) }
-
 pub new_kinds_none : (s : Table) → AreNewKinds s s [] []
 new_kinds_none s = record { many = refl; inside = λ i n e. none_is n e; follows = follows_itself s; sound = λ a m i n x e f. none_is n f; complete = λ a m f h. (a, m, agrees_itself s a, λ i n e. none_is n e) }
 
@@ -74,9 +68,6 @@ new_kinds_next s s1 s2 ps i d ns ns' n l o old new e =
     let x : KindParameter = get_or ps i d in
     subst (λ ys. AreNewKinds s s2 ys ns') (sym (take_more ps i d l)) (subst (λ ms. AreNewKinds s s2 (take i ps ++ (x ∷ [])) ms) (sym e)
     (new_kinds_more s s1 s2 (take i ps) ns x n (λ k is. o i k (slice_get-get_or ps i d l ∙ ap Some is)) old new))
-
-pub new_kinds_start : (s : Table) (ns : List ℕ) → ns ≡ [] → AreNewKinds s s [] ns
-new_kinds_start s ns e = subst (λ ms. AreNewKinds s s [] ms) (sym e) (new_kinds_none s)
 
 pub new_kinds_all : (s s1 : Table) (ps : List KindParameter) (i : ℕ) (ns : List ℕ) → length ps ≤ i → AreNewKinds s s1 (take i ps) ns → AreNewKinds s s1 ps ns
 new_kinds_all s s1 ps i ns l h = subst (λ ys. AreNewKinds s s1 ys ns) (take_all i ps l) h

@@ -47,12 +47,6 @@ may_be_agrees s a b e (Outer k) o g h = h ∙ e.types k (o k refl)
 pub any_is_new : (s s' : Table) (n : ℕ) → HasNewType s s' (IsTrue false) n → IsNewType s s' Any n
 any_is_new s s' n h = record { inside = h.inside; follows = h.follows; sound = λ a m. tt; complete = λ a m g p. h.each a m g (λ e. absurd (let f : false ≡ true = e in cc)) }
 
-pub number_is_new : (s s' : Table) (n : ℕ) → HasNewType s s' (IsTrue true) n → IsNewType s s' Number n
-number_is_new s s' n h = record { inside = h.inside; follows = h.follows; sound = λ a m. h.is_number refl a m; complete = λ a m g p. h.each a m g (λ e. p) }
-
-pub outer_is_new : (s : Table) (k : ℕ) → HasOuterType s (Outer k) → IsNewType s s (Outer k) k
-outer_is_new s k o = record { inside = o k refl; follows = follows_itself s; sound = λ a m. refl; complete = λ a m g p. (a, m, agrees_itself s a, sym p) }
-
 pub new_types_none : (s : Table) → AreNewTypes s s [] []
 new_types_none s = record { many = refl; inside = λ i n e. none_is n e; follows = follows_itself s; sound = λ a m i n x e f. none_is n f; complete = λ a m f h. (a, m, agrees_itself s a, λ i n e. none_is n e) }
 
@@ -100,9 +94,6 @@ new_types_next s s1 s2 ps i d ns ns' n l o old new e =
     let x : TypeParameter = get_or ps i d in
     subst (λ ys. AreNewTypes s s2 ys ns') (sym (take_more ps i d l)) (subst (λ ms. AreNewTypes s s2 (take i ps ++ (x ∷ [])) ms) (sym e)
     (new_types_more s s1 s2 (take i ps) ns x n (λ k is. o i k (slice_get-get_or ps i d l ∙ ap Some is)) old new))
-
-pub new_types_start : (s : Table) (ns : List ℕ) → ns ≡ [] → AreNewTypes s s [] ns
-new_types_start s ns e = subst (λ ms. AreNewTypes s s [] ms) (sym e) (new_types_none s)
 
 pub new_types_all : (s s1 : Table) (ps : List TypeParameter) (i : ℕ) (ns : List ℕ) → length ps ≤ i → AreNewTypes s s1 (take i ps) ns → AreNewTypes s s1 ps ns
 new_types_all s s1 ps i ns l h = subst (λ ys. AreNewTypes s s1 ys ns) (take_all i ps l) h

@@ -90,21 +90,6 @@ name_unbound s env at name t old means is a m k g h p =
     let d : ◌≡◌ {A = Option Ground} None (Some g) = sym (seen_at env a k t ∙ ap (option_map (meaning a)) is) ∙ e in
     absurd cc
 
--- a name that means no value
-abbrev pub IsNoSlot : Option Target → Type 0
-IsNoSlot None = Unit {0}
-IsNoSlot (Some (target.Slot t)) = ⊥
-IsNoSlot (Some (target.Def t)) = Unit {0}
-IsNoSlot (Some (target.Builtin b)) = Unit {0}
-
-pub name_means_none : (s : Table) (env : Env) (at : ℕ) (name : List ℕ) (o : Option Target) (old : List Found) → env.targets at ≡ o → IsNoSlot o → HasNoType s env (Named at name) old
-name_means_none s env at name o old means no_slot a m k g h p = by_meaning o no_slot (subst (λ x. NameHas (sight_under env a k) x g) means h) where
-  by_meaning : (o : Option Target) → IsNoSlot o → NameHas (sight_under env a k) o g → ⊥
-  by_meaning None i h = h
-  by_meaning (Some (target.Slot t)) i h = i
-  by_meaning (Some (target.Def t)) i h = h
-  by_meaning (Some (target.Builtin b)) i h = h
-
 -- ---- a call
 
 -- a call of what means nothing, or a value

@@ -74,9 +74,6 @@ module _ {r q t : Sort} (e : Tree r) (x : Tree q) (xs : Tree (Many t)) (C : Grou
           found_over s2 env b2 b3 k new (env_later s s2 env (follows_both s s1 s2 f.follows g.follows) o) g.uses g3 p2,
         ))))
 
-  pub chain_first : HasNoType s env x old → HasNoType s env e old
-  chain_first n a m k v p q = n a m k v (back (sight_under env a k) v p).0 q
-
   pub chain_others : Infers s s1 env x u old mid → HaveNoType s1 env xs u mid → HasNoType s env e old
   chain_others f n a m k v p q = absent (back (sight_under env a k) v p) (f.complete a m k v (back (sight_under env a k) v p).0 q) where
     absent : Has (sight_under env a k) x v × EachHas (sight_under env a k) xs v × IfAny xs (C v) → (Reached s s1 a (FoundAs env k u v mid)) → ⊥
@@ -130,11 +127,6 @@ module _ {t : Sort} (s s1 : Table) (env : Env) (ts : List (Tree t)) (x : Tree t)
         reach g.follows (g.complete b1 m1 k (meaning b1 u) (one_at a b1 k g1 b.1) p1) (λ b2 m2 g2 p2.
         let is : meaning b2 u ≡ meaning b2 w = sym (meaning_over s1 b1 b2 u (over_later s s1 u f.follows over) g2) ∙ sym p2.0 in
         ends (h.complete b2 m2 is) (λ b3 m3 g3. found_over s2 env b2 b3 k new (env_later s s2 env (follows_both s s1 s2 f.follows g.follows) o) g.uses g3 p2.1)))
-
-  pub each_last_none : InfersEach s s1 env (listed ts) u old mid → HasNoType s1 env x mid → HaveNoType s env (listed (ts ++ x ∷ [])) u old
-  each_last_none f n a m k p q = absent (each_before (sight_under env a k) ts x (meaning a u) p) where
-    absent : EachHas (sight_under env a k) (listed ts) (meaning a u) × Has (sight_under env a k) x (meaning a u) → ⊥
-    absent b = let r = f.complete a m k b.0 q in n r.at r.solves k (meaning r.at u) (one_at a r.at k r.agrees b.1) r.holds
 
   pub each_last_differs : (s2 : Table) (w : Term) (new : List Found) → InfersEach s s1 env (listed ts) u old mid → Infers s1 s2 env x w mid new → Never s2 (λ a. meaning a u ≡ meaning a w) → HaveNoType s env (listed (ts ++ x ∷ [])) u old
   each_last_differs s2 w new f g n a m k p q = absent (each_before (sight_under env a k) ts x (meaning a u) p) where

@@ -2,10 +2,7 @@
 use Rattle.std.proofs.Common.{◌≡◌, ◌∙◌, sym, subst, refl, ℕ, ◌<◌, true, false, length, Bool}
 use Rattle.std.specs.Prelude.{IsTrue}
 use Rattle.type_terms.specs.Ground.{Assignment, IsNumber}
-use Rattle.type_terms.specs.Term.{Term, term_of, variable}
-use Rattle.type_terms.specs.declared.ty.Ty.{Ty}
-use Rattle.type_terms.specs.declared.ty.Ty.TheVariants as ty
-use Rattle.type_terms.proofs.Views.{term_Var, variable_injective}
+use Rattle.type_terms.specs.Term.{Term, variable}
 use Rattle.type_terms.specs.Table.{Table, Solves}
 use Rattle.type_terms.specs.Agrees.{Agrees, HasBoundType, HasNewType}
 use Rattle.type_steps.specs.Flow.{Restricts, Never, Defines, IsMade}
@@ -37,6 +34,3 @@ module _ (s s1 : Table) (n m : ℕ) (o : n < length s.types) (f : HasNewType s s
 pub number_by : (yes : Bool) (s s1 s2 : Table) (n m : ℕ) → n < length s.types → HasNewType s s1 (IsTrue true) m → IsMade yes s1 s2 (λ a. a.type_of n ≡ a.type_of m) → IsMade yes s s2 (λ a. IsNumber (a.type_of n))
 number_by true s s1 s2 n m o f h = number_made s s1 n m o f s2 h
 number_by false s s1 s2 n m o f h = number_never s s1 n m o f h
-
-pub new_named : (s s' : Table) (number : Bool) (t : Ty) (n m : ℕ) → t ≡ ty.Var n → term_of t ≡ variable m → HasNewType s s' (IsTrue number) m → HasNewType s s' (IsTrue number) n
-new_named s s' number t n m is named f = subst (λ k. HasNewType s s' (IsTrue number) k) (variable_injective m n (sym named ∙ term_Var t n is)) f

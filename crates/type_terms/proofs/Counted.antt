@@ -6,16 +6,13 @@ use Rattle.type_terms.specs.Term.{Term}
 use Rattle.type_terms.specs.Variables.{Variable}
 use Rattle.type_terms.specs.declared.ty.KindTerm.{KindTerm}
 use Rattle.type_terms.proofs.Counting.{kinds_more, types_more}
-use Rattle.type_terms.proofs.Fresh.{whole_fresh, whole_fresh_kind, whole_none, whole_push}
+use Rattle.type_terms.proofs.Fresh.{whole_fresh, whole_fresh_kind, whole_none}
 use Rattle.type_terms.proofs.FreshBound.{whole_bound}
 
 pub kept_none : IsKept (table [] []) [] 0
 kept_none = record { whole = whole_none; counted = refl }
 
 module _ (vs : List Variable) (ks : List (Option KindTerm)) (ms : List Bool) (n : ℕ) where
-  pub kept_push : (b : Bool) → IsKept (table vs ks) ms n → IsKept (table vs ks) (ms ++ (b ∷ [])) n
-  kept_push b h = record { whole = whole_push vs ks ms b h.whole; counted = h.counted }
-
   pub kept_fresh : (number b : Bool) → IsKept (table vs ks) ms n → IsKept (table (vs ++ (record { number = number; bound = None } ∷ [])) ks) (ms ++ (b ∷ [])) (n + 1)
   kept_fresh number b h = record {
     whole = whole_fresh vs ks ms number b h.whole;

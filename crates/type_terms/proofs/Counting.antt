@@ -1,5 +1,5 @@
 -- Free variables counted, and what stays bound.
-use Rattle.std.proofs.Common.{◌≡◌, ◌≢◌, ◌∙◌, sym, ap, refl, ℕ, zero, suc, ◌+◌, ◌<◌, ◌≤◌, List, [], ◌∷◌, ◌++◌, length, take, drop, get_or, drop-cons, take_all, Option, Some, None, arith}
+use Rattle.std.proofs.Common.{◌≡◌, ◌≢◌, ◌∙◌, sym, ap, refl, ℕ, zero, suc, ◌+◌, ◌<◌, ◌≤◌, List, [], ◌∷◌, ◌++◌, length, take, drop, take_all, Option, Some, None, arith}
 use Rattle.type_terms.specs.Agrees.{Follows, KeepsBound}
 use Rattle.type_terms.specs.Counting.{free_among, free_count, free_kinds, free_types, one_if_free}
 use Rattle.type_terms.specs.Table.{Table, Binds, BindsKind, bound_at, kind_at}
@@ -53,20 +53,6 @@ kinds_more [] ls = omega arith
 kinds_more (k ∷ ks) ls = let r = kinds_more ks ls in omega (arith, r)
 
 -- ---- in a loop
-
-pub next_type : (vs : List Variable) (i n all : ℕ) (d : Variable) → i < length vs → n + free_types (drop i vs) ≡ all → n + one_if_free (get_or vs i d).bound + free_types (drop (i + 1) vs) ≡ all
-next_type vs i n all d l h =
-    let on : i + 1 ≡ suc i = omega arith in
-    let f : free_types (drop i vs) ≡ one_if_free (get_or vs i d).bound + free_types (drop (suc i) vs) = ap free_types (drop-cons vs i d l) in
-    let g : free_types (drop (i + 1) vs) ≡ free_types (drop (suc i) vs) = ap (λ j. free_types (drop j vs)) on in
-    omega (arith, f, g, h)
-
-pub next_kind : (ks : List (Option KindTerm)) (i n all : ℕ) (d : Option KindTerm) → i < length ks → n + free_kinds (drop i ks) ≡ all → n + one_if_free (get_or ks i d) + free_kinds (drop (i + 1) ks) ≡ all
-next_kind ks i n all d l h =
-    let on : i + 1 ≡ suc i = omega arith in
-    let f : free_kinds (drop i ks) ≡ one_if_free (get_or ks i d) + free_kinds (drop (suc i) ks) = ap free_kinds (drop-cons ks i d l) in
-    let g : free_kinds (drop (i + 1) ks) ≡ free_kinds (drop (suc i) ks) = ap (λ j. free_kinds (drop j ks)) on in
-    omega (arith, f, g, h)
 
 pub types_split : (n : ℕ) (vs : List Variable) → free_types (take n vs) + free_types (drop n vs) ≡ free_types vs
 types_split zero vs = omega arith

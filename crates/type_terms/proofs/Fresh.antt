@@ -227,9 +227,6 @@ marks_push vs ms b h = record {
   marked = λ k t e. InTerm-map (mark_push ms b) (λ _ _. tt) t (h.marked k t e);
 }
 
-pub whole_push : (vs : List Variable) (ks : List (Option KindTerm)) (ms : List Bool) (b : Bool) → IsWhole (table vs ks) ms → IsWhole (table vs ks) (ms ++ (b ∷ []))
-whole_push vs ks ms b h = record { sound = h.sound; marked = marks_push vs ms b h.marked }
-
 pub whole_fresh : (vs : List Variable) (ks : List (Option KindTerm)) (ms : List Bool) (n b : Bool) → IsWhole (table vs ks) ms → IsWhole (table (vs ++ (record { number = n; bound = None } ∷ [])) ks) (ms ++ (b ∷ []))
 whole_fresh vs ks ms n b h = record {
   sound = sound_fresh vs ks n h.sound;

@@ -1,7 +1,6 @@
 -- Kinds and what kind variables are bound to.
-use Rattle.std.proofs.Common.{◌≡◌, ap, refl, ℕ, zero, suc, ◌<◌, List, [], ◌∷◌, length, Option, Some, None, get_or, arith}
-use Rattle.std.proofs.lemmas.Option.{slice_get_read}
-use Rattle.type_terms.specs.Table.{kind_in, kind_at, FallsByNumber}
+use Rattle.std.proofs.Common.{◌≡◌, refl, ℕ, zero, suc, ◌<◌, List, [], ◌∷◌, length, Option, Some, None, get_or, arith}
+use Rattle.type_terms.specs.Table.{kind_at, FallsByNumber}
 use Rattle.type_terms.specs.Term.{InKind}
 use Rattle.type_terms.specs.declared.ty.KindTerm.{KindTerm}
 use Rattle.type_terms.specs.declared.ty.KindTerm.TheVariants.{Fixed, Var}
@@ -9,9 +8,6 @@ use Rattle.type_terms.specs.declared.ty.KindTerm.TheVariants.{Fixed, Var}
 abbrev pub kind_height : KindTerm → ℕ
 kind_height (Fixed k) = 0
 kind_height (Var n) = suc n
-
-pub kind_read : (ks : List (Option KindTerm)) (n : ℕ) (o : Option KindTerm) → n < length ks → o ≡ get_or ks n o → kind_at ks n ≡ o
-kind_read ks n o h e = ap kind_in (slice_get_read ks (length ks) n o refl h e)
 
 pub lower : (ks : List (Option KindTerm)) → FallsByNumber ks → (n : ℕ) (t : KindTerm) → kind_at ks n ≡ Some t → kind_height t < suc n
 lower ks f n (Fixed k) e = omega arith

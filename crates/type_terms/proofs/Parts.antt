@@ -1,7 +1,6 @@
 -- What holds of a tuple's type holds of its parts.
 use Rattle.std.proofs.Common.{◌≡◌, ◌∙◌, sym, ap, subst, refl, ℕ, zero, suc, ◌+◌, ◌<◌, ◌≤◌, map, List, [], ◌∷◌, ◌++◌, length, get_or, take, add-one, arith, Vec, Global}
-use Rattle.type_terms.specs.Ground.{Assignment, size, sizes}
-use Rattle.type_terms.specs.Term.{Term, term_of, terms_of, tuple_term, meaning, meanings, height, heights, InTerm, InTerms}
+use Rattle.type_terms.specs.Term.{Term, term_of, terms_of, tuple_term, height, heights, InTerm, InTerms}
 use Rattle.type_terms.specs.declared.ty.Ty.{Ty}
 use Rattle.type_terms.specs.declared.ty.Ty.TheViews as view
 use Rattle.type_terms.proofs.Views.{term_Tuple}
@@ -16,11 +15,6 @@ InTerms-at P Q [] i d h a = absurd (omega arith)
 InTerms-at P Q (p ∷ ps) zero d h a = a.0
 InTerms-at P Q (p ∷ ps) (suc i) d h a = InTerms-at P Q ps i d (omega arith) a.1
 
-pub sizes_at : (a : Assignment) (ps : List Ty) (i : ℕ) (d : Ty) → i < length ps → size (meaning a (term_of (get_or ps i d))) ≤ sizes (meanings a (terms_of (map term_of ps)))
-sizes_at a [] i d h = absurd (omega arith)
-sizes_at a (p ∷ ps) zero d h = omega arith
-sizes_at a (p ∷ ps) (suc i) d h = let k = sizes_at a ps i d (omega arith) in omega arith
-
 pub InTerms-push : (P Q : ℕ → Type 0) (ts : List Term) (t : Term) → InTerms P Q (terms_of ts) → InTerm P Q t → InTerms P Q (terms_of (ts ++ (t ∷ [])))
 InTerms-push P Q [] t a h = (h, tt)
 InTerms-push P Q (u ∷ ts) t a h = (a.0, InTerms-push P Q ts t a.1 h)
@@ -33,9 +27,6 @@ map_take_suc (p ∷ ps) (suc i) d h = ap (λ ts. term_of p ∷ ts) (map_take_suc
 pub map_take_next : (ps : List Ty) (i : ℕ) (d : Ty) → i < length ps → map term_of (take (i + 1) ps) ≡ map term_of (take i ps) ++ (term_of (get_or ps i d) ∷ [])
 map_take_next ps i d h = rw add-one (map_take_suc ps i d h)
 
-pub at_is : (ps : List Ty) (i : ℕ) (p : Ty) → p ≡ get_or ps i p → (P : Term → Type 0) → P (term_of (get_or ps i p)) → P (term_of p)
-at_is ps i p e P h = subst (λ q. P (term_of q)) (sym e) h
-
 module _ (u : Ty) (v : Vec Ty Global) (xs : List Ty) (is : u ≡ view.Tuple v) (items : xs ≡ v.items) where
   pub tuple_is : term_of u ≡ tuple_term (terms_of (map term_of xs))
   tuple_is = term_Tuple u v is ∙ ap (λ ys. tuple_term (terms_of (map term_of ys))) (sym items)
@@ -46,12 +37,6 @@ module _ (u : Ty) (v : Vec Ty Global) (xs : List Ty) (is : u ≡ view.Tuple v) (
         let a = heights_at w xs i p h in
         let b = ap (height w) tuple_is in
         let d = ap (λ q. height w (term_of q)) e in omega arith
-
-    pub part_size : (a : Assignment) → size (meaning a (term_of p)) < size (meaning a (term_of u))
-    part_size a =
-        let l = sizes_at a xs i p h in
-        let b = ap (λ t. size (meaning a t)) tuple_is in
-        let d = ap (λ q. size (meaning a (term_of q))) e in omega arith
 
     pub part_over : (P Q : ℕ → Type 0) → InTerm P Q (term_of u) → InTerm P Q (term_of p)
     part_over P Q o =

@@ -1,11 +1,9 @@
 -- Each shape of a settled type.
-use Rattle.std.proofs.Common.{◌≡◌, ◌∙◌, sym, ap, ap₂, subst, refl, ℕ, ◌+◌, ◌<◌, ◌≤◌, List, [], ◌∷◌, ◌++◌, map, take, take_all, length, get_or, None}
-use Rattle.type_terms.specs.Ground.{Assignment, list, tuple, source, and_more, no_more}
-use Rattle.type_terms.specs.Term.{Term, InTerm, InTerms, InKind, meaning, meanings, kind_meaning, list_term, tuple_term, source_term, term_of, terms_of}
-use Rattle.type_terms.specs.Table.{Table, Solves, MeetsBindings, MeetsKinds, kind_at}
+use Rattle.std.proofs.Common.{◌≡◌, ◌∙◌, sym, ap, ap₂, subst, refl, ℕ, ◌+◌, ◌<◌, ◌≤◌, List, [], ◌∷◌, ◌++◌, map, take, take_all, length, get_or}
+use Rattle.type_terms.specs.Ground.{Assignment, tuple, and_more, no_more}
+use Rattle.type_terms.specs.Term.{Term, InTerm, InTerms, meaning, meanings, tuple_term, term_of, terms_of}
+use Rattle.type_terms.specs.Table.{Table, Solves, MeetsBindings}
 use Rattle.type_terms.specs.declared.ty.Ty.{Ty}
-use Rattle.type_terms.specs.declared.ty.KindTerm.{KindTerm}
-use Rattle.type_terms.specs.declared.ty.KindTerm.TheVariants.{Fixed, Var}
 use Rattle.type_terms.proofs.Parts.{map_take_next}
 use Rattle.type_terms.specs.Resolved.{IsResolved, IsFreeType, IsFreeKind}
 
@@ -17,16 +15,6 @@ resolved_itself s u f = record { unbound = f; same = λ a m. refl }
 
 pub resolved_terms : (s : Table) (t u t' u' : Term) → t ≡ t' → u ≡ u' → IsResolved s t' u' → IsResolved s t u
 resolved_terms s t u t' u' e f r = subst (λ x. IsResolved s x u) (sym e) (subst (λ y. IsResolved s t' y) (sym f) r)
-
-pub resolved_list : (s : Table) (t u : Term) → IsResolved s t u → IsResolved s (list_term t) (list_term u)
-resolved_list s t u r = record { unbound = r.unbound; same = λ a m. ap list (r.same a m) }
-
-kind_free : (s : Table) (k : KindTerm) → InKind (λ n. n < length s.kinds) k → ((n : ℕ) → k ≡ Var n → kind_at s.kinds n ≡ None) → InKind (IsFreeKind s) k
-kind_free s (Fixed c) o h = tt
-kind_free s (Var n) o h = (o, h n refl)
-
-pub resolved_source : (s : Table) (k c : KindTerm) → InKind (λ n. n < length s.kinds) c → ((n : ℕ) → c ≡ Var n → kind_at s.kinds n ≡ None) → ((a : Assignment) → MeetsKinds s.kinds a → kind_meaning a c ≡ kind_meaning a k) → IsResolved s (source_term k) (source_term c)
-resolved_source s k c o f e = record { unbound = kind_free s c o f; same = λ a m. ap source (e a m.kinds) }
 
 -- the parts so far
 pub record AreResolved (s : Table) (ts us : List Term) : Type 0 where

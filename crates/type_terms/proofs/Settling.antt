@@ -1,7 +1,7 @@
 -- What the steps of the search for a difference tell.
 use Rattle.std.proofs.Common.{◌≡◌, ◌∙◌, sym, ap, subst, refl, ℕ, zero, suc, ◌<◌, Bool, true, false, List, [], ◌∷◌, length, Option, Some, None, get_or, slice_index_or, arith}
 use Rattle.std.proofs.lemmas.Option.{slice_get_read}
-use Rattle.type_terms.specs.Ground.{Assignment, IsNumber, IsNumberBase, base_type}
+use Rattle.type_terms.specs.Ground.{Assignment, IsNumber, IsNumberBase}
 use Rattle.type_terms.specs.Nested.{AreMarked, IsUnnested, mark_at}
 use Rattle.type_terms.specs.Variables.{Variable}
 use Rattle.type_terms.specs.Pairs.{IsSplit, part_count}
@@ -14,7 +14,6 @@ use Rattle.type_terms.specs.declared.ty.Base.{Base}
 use Rattle.type_terms.specs.declared.ty.Base.TheVariants as base
 use Rattle.type_terms.specs.declared.ty.Ty.{Ty}
 use Rattle.type_terms.specs.declared.ty.Ty.TheVariants as ty
-use Rattle.type_terms.specs.declared.ty.Ty.TheViews as view
 use Rattle.type_terms.specs.declared.ty.KindTerm.{KindTerm}
 use Rattle.type_terms.proofs.Avoiding.{avoids_base, avoids_free}
 use Rattle.type_terms.proofs.Views.{Shape, is_base, is_list, is_tuple, is_source, is_var, shape_of, term_List, term_Tuple, term_Source, term_Var}
@@ -119,9 +118,6 @@ pub settles_terms : (s : Table) (l r l' r' : Term) (d : Difference) → l' ≡ l
 settles_terms s l r l' r' d el er h =
     settles_move s l r l' r' d (λ a m e. sym (ap (meaning a) el) ∙ e ∙ ap (meaning a) er) (λ a m e. ap (meaning a) el ∙ e ∙ sym (ap (meaning a) er)) h
 
-pub settles_flipped : (s : Table) (l r : Term) (d : Difference) → Settles s r l d → Settles s l r d
-settles_flipped s l r d h = settles_move s r l l r d (λ a m e. sym e) (λ a m e. sym e) h
-
 pub triangular : (vs : List Variable) (ks : List (Option KindTerm)) → IsSound (table vs ks) → IsTriangular vs
 triangular vs ks h = record { over = λ k t e. InTerm-map (λ n i. i) (λ _ _. tt) t (h.over k t e); ranked = h.ranked }
 
@@ -165,37 +161,6 @@ no_source t h k = by (shape_of t)
     by (is_source j e) f = h j e
     by (is_var n e) f = let g : variable n ≡ source_term k = sym (term_Var t n e) ∙ f in cc
 
--- the first type's shape is neither a list nor a tuple
-pub unsplit_other : (s t : Ty) → ((b : _) → s ≡ view.List b → ⊥) → ((v : _) → s ≡ view.Tuple v → ⊥) → IsSplit (term_of s) (term_of t) → ⊥
-unsplit_other s t nl nt = by (shape_of s)
-  where
-    by : Shape s → IsSplit (term_of s) (term_of t) → ⊥
-    by (is_base b e) i = subst (λ u. IsSplit u (term_of t)) e i
-    by (is_list b e) i = nl b e
-    by (is_tuple v e) i = nt v e
-    by (is_source k e) i = subst (λ u. IsSplit u (term_of t)) (term_Source s k e) i
-    by (is_var n e) i = subst (λ u. IsSplit u (term_of t)) (term_Var s n e) i
-
-pub unsplit_list : (s t : Ty) (u : Term) → term_of s ≡ list_term u → ((b : _) → t ≡ view.List b → ⊥) → IsSplit (term_of s) (term_of t) → ⊥
-unsplit_list s t u is nl h = by (shape_of t) (subst (λ v. IsSplit v (term_of t)) is h)
-  where
-    by : Shape t → IsSplit (list_term u) (term_of t) → ⊥
-    by (is_base b e) i = subst (λ v. IsSplit (list_term u) v) e i
-    by (is_list b e) i = nl b e
-    by (is_tuple v e) i = subst (λ v. IsSplit (list_term u) v) (term_Tuple t v e) i
-    by (is_source k e) i = subst (λ v. IsSplit (list_term u) v) (term_Source t k e) i
-    by (is_var n e) i = subst (λ v. IsSplit (list_term u) v) (term_Var t n e) i
-
-pub unsplit_tuple : (s t : Ty) (us : Terms) → term_of s ≡ tuple_term us → ((v : _) → t ≡ view.Tuple v → ⊥) → IsSplit (term_of s) (term_of t) → ⊥
-unsplit_tuple s t us is nt h = by (shape_of t) (subst (λ v. IsSplit v (term_of t)) is h)
-  where
-    by : Shape t → IsSplit (tuple_term us) (term_of t) → ⊥
-    by (is_base b e) i = subst (λ v. IsSplit (tuple_term us) v) e i
-    by (is_list b e) i = subst (λ v. IsSplit (tuple_term us) v) (term_List t b e) i
-    by (is_tuple v e) i = nt v e
-    by (is_source k e) i = subst (λ v. IsSplit (tuple_term us) v) (term_Source t k e) i
-    by (is_var n e) i = subst (λ v. IsSplit (tuple_term us) v) (term_Var t n e) i
-
 pub unsplit_lengths : (s t : Term) (us vs : Terms) → s ≡ tuple_term us → t ≡ tuple_term vs → (part_count us ≡ part_count vs → ⊥) → IsSplit s t → ⊥
 unsplit_lengths s t us vs es et ne i = ne (subst (λ v. IsSplit (tuple_term us) v) et (subst (λ u. IsSplit u t) es i))
 
@@ -204,28 +169,6 @@ count_same a no_terms no_terms e = refl
 count_same a no_terms (one_more v vs) e = cc
 count_same a (one_more u us) no_terms e = cc
 count_same a (one_more u us) (one_more v vs) e = ap suc (count_same a us vs (let f : meanings a us ≡ meanings a vs = cc in f))
-
-base_same : (b : Base) (t : Term) → base_of t ≡ Some b → t ≡ base_term b
-base_same b (base_term c) e = cc
-base_same b (list_term t) e = cc
-base_same b (tuple_term t) e = cc
-base_same b (source_term t) e = cc
-base_same b (variable t) e = cc
-
--- two terms of one base type mean the same
-pub bases_same : (a : Assignment) (b : Base) (s t : Term) → base_of s ≡ Some b → base_of t ≡ Some b → meaning a s ≡ meaning a t
-bases_same a b s t es et = ap (meaning a) (base_same b s es ∙ sym (base_same b t et))
-
-base_meaning : (a : Assignment) (b : Base) (t : Term) → extra t ≡ 1 → base_type b ≡ meaning a t → base_of t ≡ Some b
-base_meaning a b (base_term c) x e = cc
-base_meaning a b (list_term t) x e = cc
-base_meaning a b (tuple_term t) x e = cc
-base_meaning a b (source_term t) x e = cc
-base_meaning a b (variable t) x e = absurd (omega arith)
-
--- a base type and another type clash
-pub bases_clash : (a : Assignment) (b : Base) (s t : Term) → base_of s ≡ Some b → extra t ≡ 1 → (base_of t ≡ Some b → ⊥) → meaning a s ≡ meaning a t → ⊥
-bases_clash a b s t es x ne e = ne (base_meaning a b t x (sym (ap (meaning a) (base_same b s es)) ∙ e))
 
 -- two types of unlike shapes clash
 pub shapes_clash : (a : Assignment) (s t : Term) → extra s ≡ 1 → extra t ≡ 1 → (IsSplit s t → ⊥) → base_of s ≡ None → ((k j : KindTerm) → s ≡ source_term k → t ≡ source_term j → ⊥) → meaning a s ≡ meaning a t → ⊥

@@ -57,12 +57,6 @@ zipped_equal a no_terms us e = tt
 zipped_equal a (one_more t ts) no_terms e = tt
 zipped_equal a (one_more t ts) (one_more u us) e = (head_same _ _ _ _ e, zipped_equal a ts us (tail_same _ _ _ _ e))
 
-equal_zipped : (a : Assignment) (ts us : Terms) → part_count ts ≡ part_count us → AllEqual a (zipped ts us) → meanings a ts ≡ meanings a us
-equal_zipped a no_terms no_terms l h = refl
-equal_zipped a no_terms (one_more u us) l h = absurd (omega arith)
-equal_zipped a (one_more t ts) no_terms l h = absurd (omega arith)
-equal_zipped a (one_more t ts) (one_more u us) l h = ap₂ and_more h.0 (equal_zipped a ts us (omega arith) h.1)
-
 zipped_over : (s : Table) (ts us : Terms) → IsOver s (tuple_term ts) → IsOver s (tuple_term us) → AllOver s (zipped ts us)
 zipped_over s no_terms us o p = tt
 zipped_over s (one_more t ts) no_terms o p = tt
@@ -72,11 +66,6 @@ pub split_equal : (a : Assignment) (t u : Term) → IsSplit t u → meaning a t 
 split_equal a (list_term t) (list_term u) i e = (list_same _ _ e, tt)
 split_equal a (tuple_term ts) (tuple_term us) i e = zipped_equal a ts us (tuple_same _ _ e)
 split_equal a _ _ i e = absurd i
-
-pub equal_split : (a : Assignment) (t u : Term) → IsSplit t u → AllEqual a (parts_of t u) → meaning a t ≡ meaning a u
-equal_split a (list_term t) (list_term u) i h = ap list h.0
-equal_split a (tuple_term ts) (tuple_term us) i h = ap tuple (equal_zipped a ts us i h)
-equal_split a _ _ i h = absurd i
 
 pub split_over : (s : Table) (t u : Term) → IsSplit t u → IsOver s t → IsOver s u → AllOver s (parts_of t u)
 split_over s (list_term t) (list_term u) i o p = ((o, p), tt)

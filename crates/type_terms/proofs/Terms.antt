@@ -39,23 +39,6 @@ mutual
   meanings_same a b (one_more t ts) h = ap₂ and_more (meaning_same a b t h.0) (meanings_same a b ts h.1)
 
 mutual
-  -- choices that agree on a term agree on its variables
-  pub meaning_agrees : (a b : Assignment) (t : Term) → meaning a t ≡ meaning b t → InTerm (λ n. a.type_of n ≡ b.type_of n) (λ n. a.kind_of n ≡ b.kind_of n) t
-  meaning_agrees a b (base_term u) e = tt
-  meaning_agrees a b (list_term t) e = meaning_agrees a b t (let d : meaning a t ≡ meaning b t = cc in d)
-  meaning_agrees a b (tuple_term ts) e = meanings_agrees a b ts (let d : meanings a ts ≡ meanings b ts = cc in d)
-  meaning_agrees a b (source_term (Fixed k)) e = tt
-  meaning_agrees a b (source_term (Var n)) e = cc
-  meaning_agrees a b (variable n) e = e
-
-  pub meanings_agrees : (a b : Assignment) (ts : Terms) → meanings a ts ≡ meanings b ts → InTerms (λ n. a.type_of n ≡ b.type_of n) (λ n. a.kind_of n ≡ b.kind_of n) ts
-  meanings_agrees a b no_terms e = tt
-  meanings_agrees a b (one_more t ts) e = (
-    meaning_agrees a b t (let d : meaning a t ≡ meaning b t = cc in d),
-    meanings_agrees a b ts (let d : meanings a ts ≡ meanings b ts = cc in d),
-  )
-
-mutual
   -- heights that agree on a term's variables agree on the term
   pub height_same : (f g : ℕ → ℕ) (t : Term) → InTerm (λ n. f n ≡ g n) (λ _. Unit {0}) t → height f t ≡ height g t
   height_same f g (base_term b) h = refl
@@ -85,32 +68,6 @@ mutual
   variables_of_all_weigh w m no_terms h = tt
   variables_of_all_weigh w m (one_more t ts) h =
       (variables_weigh w m t (omega arith), variables_of_all_weigh w m ts (omega arith))
-
-mutual
-  -- two facts of a term's variables make one
-  pub InTerm-both : {P P' R Q Q' S : ℕ → Type 0} → ((n : ℕ) → P n → P' n → R n) → ((n : ℕ) → Q n → Q' n → S n) → (t : Term) → InTerm P Q t → InTerm P' Q' t → InTerm R S t
-  InTerm-both f g (base_term b) h h' = tt
-  InTerm-both f g (list_term t) h h' = InTerm-both f g t h h'
-  InTerm-both f g (tuple_term ts) h h' = InTerms-both f g ts h h'
-  InTerm-both f g (source_term (Fixed k)) h h' = tt
-  InTerm-both f g (source_term (Var n)) h h' = g n h h'
-  InTerm-both f g (variable n) h h' = f n h h'
-
-  pub InTerms-both : {P P' R Q Q' S : ℕ → Type 0} → ((n : ℕ) → P n → P' n → R n) → ((n : ℕ) → Q n → Q' n → S n) → (ts : Terms) → InTerms P Q ts → InTerms P' Q' ts → InTerms R S ts
-  InTerms-both f g no_terms h h' = tt
-  InTerms-both f g (one_more t ts) h h' = (InTerm-both f g t h.0 h'.0, InTerms-both f g ts h.1 h'.1)
-
-mutual
-  pub InTerm-any : {P Q : ℕ → Type 0} → ((n : ℕ) → P n) → ((n : ℕ) → Q n) → (t : Term) → InTerm P Q t
-  InTerm-any f g (base_term b) = tt
-  InTerm-any f g (list_term t) = InTerm-any f g t
-  InTerm-any f g (tuple_term ts) = InTerms-any f g ts
-  InTerm-any f g (source_term k) = any_kind g k
-  InTerm-any f g (variable n) = f n
-
-  pub InTerms-any : {P Q : ℕ → Type 0} → ((n : ℕ) → P n) → ((n : ℕ) → Q n) → (ts : Terms) → InTerms P Q ts
-  InTerms-any f g no_terms = tt
-  InTerms-any f g (one_more t ts) = (InTerm-any f g t, InTerms-any f g ts)
 
 mutual
   -- where each variable rises by at most c, the term does

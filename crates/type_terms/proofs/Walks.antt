@@ -1,5 +1,5 @@
 -- Walks over types with a stack: marks, and the search for a variable.
-use Rattle.std.proofs.Common.{◌≡◌, ◌≢◌, ◌∙◌, sym, ap, subst, refl, ℕ, zero, suc, ◌+◌, ◌<◌, ◌≤◌, Bool, true, false, map, take, take_all, List, [], ◌∷◌, ◌++◌, length, get_or, arith, Option, Some, None, eqb, eqb-true, ne_eqb, eq-eqb, ◌||◌, ◌⊎◌, inl, inr, if◌then◌else◌, not, Vec, Global, append_assoc}
+use Rattle.std.proofs.Common.{◌≡◌, ◌≢◌, ◌∙◌, sym, ap, subst, refl, ℕ, zero, suc, ◌+◌, ◌<◌, ◌≤◌, Bool, true, false, map, take, take_all, List, [], ◌∷◌, ◌++◌, length, get_or, arith, Option, Some, None, eqb, ne_eqb, eq-eqb, ◌⊎◌, inl, inr, not, Vec, Global, append_assoc}
 use Rattle.std.proofs.Math.ListN.{set}
 use Rattle.std.specs.Borrow.{Bor}
 use Rattle.std.specs.List.{list_any}
@@ -13,7 +13,7 @@ use Rattle.type_terms.specs.declared.ty.Ty.TheViews as view
 use Rattle.type_terms.specs.declared.ty.Ty.TheVariants as ty
 use Rattle.type_terms.proofs.Terms.{InTerm-map, InTerms-map, any_kind}
 use Rattle.type_terms.proofs.Parts.{InTerms-push, tuple_is, map_take_next}
-use Rattle.type_terms.proofs.Views.{Shape, is_base, is_list, is_tuple, is_source, is_var, shape_of, term_List, term_Tuple, term_Source, variable_injective}
+use Rattle.type_terms.proofs.Views.{Shape, is_base, is_list, is_tuple, is_source, is_var, shape_of, term_List, term_Tuple, term_Source}
 
 -- references
 
@@ -57,17 +57,6 @@ pub all_marked : (ms : List Bool) (u : Ty) (v : Vec Ty Global) (xs : List Ty) �
 all_marked ms u v xs is items i h a =
     subst (λ t. IsMarked ms t) (sym (tuple_is u v xs is items))
     (subst (λ ys. InTerms (λ j. mark_at ms j ≡ true) (λ _. Unit {0}) (terms_of (map term_of ys))) (take_all i xs h) a)
-
--- a type that is no list, tuple or variable
-pub plain_term : (P : Term → Type 0) (t : Ty) → ((b : _) → t ≡ view.List b → ⊥) → ((v : _) → t ≡ view.Tuple v → ⊥) → ((n : ℕ) → t ≡ ty.Var n → ⊥) → ((b : _) → P (base_term b)) → ((k : _) → P (source_term k)) → P (term_of t)
-plain_term P t nl nt nv b s = by (shape_of t)
-  where
-    by : Shape t → P (term_of t)
-    by (is_base c e) = subst P (sym e) (b c)
-    by (is_list c e) = absurd (nl c e)
-    by (is_tuple v e) = absurd (nt v e)
-    by (is_source k e) = subst P (sym (term_Source t k e)) (s k)
-    by (is_var n e) = absurd (nv n e)
 
 pub no_variable : (t : Ty) (x : ℕ) → ((n : ℕ) → t ≡ ty.Var n → ⊥) → term_of t ≢ variable x
 no_variable t x h = by (shape_of t)
@@ -285,53 +274,8 @@ none_visited nested seen u (inl f) deep = record {
 }
 none_visited nested seen u (inr n) deep = record { kept = λ k i. i; here = λ e k is. absurd (n k is); only = λ k i. inl i }
 
-pub no_visit : (nested : Bool) (seen : List ℕ) (u : Term) (deep : Bool) → nested ≡ false → IsVisit nested deep seen seen u
-no_visit nested seen u deep f = none_visited nested seen u (inl f) deep
-
 pub no_variable_visit : (nested : Bool) (seen : List ℕ) (t : Ty) (deep : Bool) → ((n : ℕ) → t ≡ ty.Var n → ⊥) → IsVisit nested deep seen seen (term_of t)
 no_variable_visit nested seen t deep n = none_visited nested seen (term_of t) (inr (λ k. no_variable t k n)) deep
-
-is_in_left : (ks ls : List ℕ) (k : ℕ) → IsIn ks k → IsIn (ks ++ ls) k
-is_in_left [] ls k i = absurd (let f : ◌≡◌ {A = Bool} false true = i in cc)
-is_in_left (l ∷ ks) ls k i = by (eqb k l) refl (λ e. is_in_left ks ls k e)
-  where
-    by : (b : Bool) → eqb k l ≡ b → (IsIn ks k → IsIn (ks ++ ls) k) → IsIn (l ∷ (ks ++ ls)) k
-    by true e go = ap (λ c. c || list_any (eqb k) (ks ++ ls)) e
-    by false e go = ap (λ c. c || list_any (eqb k) (ks ++ ls)) e ∙ go (sym (ap (λ c. c || list_any (eqb k) ks) e) ∙ i)
-
-is_in_last : (ks : List ℕ) (k : ℕ) → IsIn (ks ++ (k ∷ [])) k
-is_in_last [] k = ap (λ c. c || false) (eq-eqb k k refl)
-is_in_last (l ∷ ks) k = by (eqb k l) refl (is_in_last ks k)
-  where
-    by : (b : Bool) → eqb k l ≡ b → IsIn (ks ++ (k ∷ [])) k → IsIn (l ∷ (ks ++ (k ∷ []))) k
-    by true e go = ap (λ c. c || list_any (eqb k) (ks ++ (k ∷ []))) e
-    by false e go = ap (λ c. c || list_any (eqb k) (ks ++ (k ∷ []))) e ∙ go
-
-is_in_split : (ks : List ℕ) (l k : ℕ) → IsIn (ks ++ (l ∷ [])) k → IsIn ks k ⊎ (k ≡ l)
-is_in_split [] l k i = by (eqb k l) refl i
-  where
-    by : (b : Bool) → eqb k l ≡ b → (eqb k l || false) ≡ true → IsIn [] k ⊎ (k ≡ l)
-    by true e i = inr (eqb-true k l e)
-    by false e i = absurd (let f : ◌≡◌ {A = Bool} false true = sym (ap (λ c. c || false) e) ∙ i in cc)
-is_in_split (m ∷ ks) l k i = by (eqb k m) refl (λ e. is_in_split ks l k e)
-  where
-    by : (b : Bool) → eqb k m ≡ b → (IsIn (ks ++ (l ∷ [])) k → IsIn ks k ⊎ (k ≡ l)) → IsIn (m ∷ ks) k ⊎ (k ≡ l)
-    by true e go = inl (ap (λ c. c || list_any (eqb k) ks) e)
-    by false e go =
-        elim (go (sym (ap (λ c. c || list_any (eqb k) (ks ++ (l ∷ []))) e) ∙ i)) [ inl f ↦ inl (ap (λ c. c || list_any (eqb k) ks) e ∙ f) | inr f ↦ inr f ]
-
--- a variable is visited for the first time, or once more
-pub variable_visit : (nested : Bool) (seen seen' : List ℕ) (l : ℕ) (u : Term) (first : Bool) → u ≡ variable l → (b : Bool) → b ≡ list_any (eqb l) seen → first ≡ not b → seen' ≡ (if b then seen else seen ++ l ∷ []) → IsVisit nested first seen seen' u
-variable_visit nested seen seen' l u first is true b f e = record {
-  kept = λ k i. subst (λ ks. IsIn ks k) (sym e) i;
-  here = λ n k w. subst (λ ks. IsIn ks k) (sym e) (subst (IsIn seen) (variable_injective l k (sym is ∙ w)) (sym b));
-  only = λ k i. inl (subst (λ ks. IsIn ks k) e i);
-}
-variable_visit nested seen seen' l u first is false b f e = record {
-  kept = λ k i. subst (λ ks. IsIn ks k) (sym e) (is_in_left seen (l ∷ []) k i);
-  here = λ n k w. subst (λ ks. IsIn ks k) (sym e) (subst (IsIn (seen ++ (l ∷ []))) (variable_injective l k (sym is ∙ w)) (is_in_last seen l));
-  only = λ k i. elim (is_in_split seen l k (subst (λ ks. IsIn ks k) e i)) [ inl j ↦ inl j | inr j ↦ inr (is ∙ ap variable (sym j), f) ];
-}
 
 -- x found
 pub search_found : (vs : List Variable) (x : ℕ) (t u : Term) → u ≡ variable x → IsWithin vs t u → (a : Assignment) → MeetsBindings vs a → size (a.type_of x) + extra t ≤ size (meaning a t)
@@ -379,9 +323,6 @@ over_among m n (tuple_term us) h = tt
 over_among m n (source_term k) h = h
 over_among m n (variable k) h = h
 
-pub census_start : (m n : ℕ) (t : Term) → IsCensus m n t (t ∷ [])
-census_start m n t = record { enough = λ h. h.0; needed = λ h. (h, tt) }
-
 module _ (m n : ℕ) (t u : Term) (rest stack stack' : List Term) (is : stack ≡ rest ++ (u ∷ [])) (h : IsCensus m n t stack) where
   top_over : IsOverAll m n t → IsOverAll m n u
   top_over o = (every_right (IsOverAll m n) rest (u ∷ []) (subst (Every (IsOverAll m n)) is (h.needed o))).0
@@ -397,6 +338,3 @@ module _ (m n : ℕ) (t u : Term) (rest stack stack' : List Term) (is : stack �
         h.enough (subst (Every (IsOverAll m n)) (sym is) (every_both (IsOverAll m n) rest (u ∷ []) (every_left (IsOverAll m n) rest (inside u) f) (over_inside m n u a (every_right (IsOverAll m n) rest (inside u) f), tt)));
     needed = λ o. subst (Every (IsOverAll m n)) (sym is') (every_both (IsOverAll m n) rest (inside u) (every_left (IsOverAll m n) rest (u ∷ []) (subst (Every (IsOverAll m n)) is (h.needed o))) (inside_over m n u (top_over o)));
   }
-
-pub census_done : (m n : ℕ) (t : Term) (stack : List Term) → stack ≡ [] → IsCensus m n t stack → IsOverAll m n t
-census_done m n t stack e h = h.enough (subst (Every (IsOverAll m n)) (sym e) tt)

@@ -1,5 +1,5 @@
 -- The faults of names and arguments, and which of them is told.
-use Rattle.std.specs.Prelude.{ℕ, ◌+◌, List, [], ◌∷◌, ◌++◌, map, Option, Some, None, option_map, cond, Bool, true, false, bytes_eq, nat_eq, nat_le}
+use Rattle.std.specs.Prelude.{ℕ, ◌+◌, List, [], ◌∷◌, ◌++◌, map, Option, Some, None, cond, Bool, true, false, bytes_eq, nat_eq, nat_le}
 use Rattle.script_grammar.specs.Tree.{Tree, Many, none, more, AParam, AStmt, Param, Labelled, Optional, Stmt, BindPart, DefPart, CallPart, IfPart, Def, Script}
 use Rattle.typing_rules.specs.declared.uses.Target.{Target}
 use Rattle.typing_rules.specs.declared.fault.NameFault.{NameFault}
@@ -103,7 +103,3 @@ abbrev pub first_fault : ℕ → Scope → Script → Option (ℕ × NameFault)
 first_fault n sc none = None
 first_fault n sc (more s rest) = or_later n (reported_fault (faults_in sc s))
     (first_fault (n + 1) (with_statement s sc) rest)
-
--- the first fault of names of a script, as it is told
-abbrev pub first_told : Script → Option TypeFault
-first_told script = option_map (λ x. name_fault_in x.0 x.1) (first_fault 1 [] script)

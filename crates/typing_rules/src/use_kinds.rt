@@ -45,13 +45,6 @@ impl UseKinds {
         UseKinds { kinds }
     }
 
-    /// The `Vec` of the kinds. It takes no memory.
-    pub fn into_vec(self) -> Vec<KindOf>
-        ensures { result.items ≡ self }
-    {
-        self.kinds
-    }
-
     /// The kinds, to be read.
     pub fn as_slice(&self) -> &[KindOf]
         ensures { result.now ≡ self.now }

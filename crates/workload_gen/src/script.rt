@@ -1,6 +1,7 @@
 // The list of the audio files, and the script that plays them.
 ghost use Rattle.std.specs.Prelude.{◌≡◌, ◌≤◌, ◌++◌, suc, IfOk, OnOk, codes, string_bytes};
-ghost use Rattle.workload_gen.specs.Files.{list_text, outputs, players, script_text, settings, source_name, source_names, track_name};
+ghost use Rattle.workload_gen.specs.Files.{list_text, outputs, players, script_text, settings, source_name};
+ghost use Rattle.workload_gen.specs.Files.{source_names, track_name};
 
 use std::alloc::{AllocError, Global};
 
