@@ -1,0 +1,79 @@
+"""What was on the air, by the clock of the wall: a line of CSV for each track when it is over."""
+import contextlib
+import csv
+import io
+import os
+from datetime import datetime
+from typing import Any, Dict, List, Optional
+
+from liq.airing.say import Say
+from liq.pages.forms import HEAD, one_line
+from liq.pages.titles import Told
+
+LEAST = 0.05           # seconds of a track that are told
+
+
+class Log:
+    """A file to which lines are added. One that cannot be written is told, and the stream goes on."""
+
+    def __init__(self, path: str, say: Say):
+        self.path, self.say, self.trouble = path, say, ""
+        self.row: Optional[List[str]] = None   # of the track that is on the air, without its seconds
+        self.seconds = 0.0
+
+    def begin(self, moment: float, name: str, told: Told) -> None:
+        """A track begins; the one before is over."""
+        self.end()
+        at = datetime.fromtimestamp(round(moment))
+        self.row = [f"{at:%Y-%m-%d}", f"{at:%H:%M:%S}", told.artist, told.title, told.album, told.isrc, told.label,
+                    one_line(name)]
+        self.seconds = 0.0
+
+    def end(self) -> None:
+        """The track is over."""
+        if self.row and self.seconds >= LEAST:
+            self.add(self.row, self.seconds)
+        self.row = None
+
+    def state(self) -> Dict[str, Any]:
+        """What a run that is killed leaves to the next one."""
+        row: List[Any] = list(self.row or ())
+        return {"track": row and [*row, round(self.seconds, 1)]}
+
+    def resume(self, state: Dict[str, Any]) -> None:
+        """Adds the track that was on the air when the run before was killed."""
+        track = state.get("track")
+        if isinstance(track, list) and len(track) == len(HEAD) and isinstance(track[-1], (int, float)):
+            self.add(list(map(str, track[:-1])), float(track[-1]))
+
+    def add(self, row: List[str], seconds: float) -> None:
+        """Adds a line, with the head before the first one."""
+        if not self.path:
+            return
+        text = io.StringIO()
+        table = csv.writer(text, lineterminator="\n")
+        if not os.path.exists(self.path) or not os.path.getsize(self.path):
+            table.writerow(HEAD)
+        table.writerow([*row[:2], f"{seconds:.1f}", *row[2:]])
+        try:
+            self.append(text.getvalue().encode("utf-8", "replace"))
+            self.trouble = ""
+        except OSError as error:
+            if self.trouble != error.strerror:
+                self.say(f"{self.path}: {error.strerror}; what is on the air is not logged")
+            self.trouble = error.strerror or "fault"
+
+    def append(self, data: bytes) -> None:
+        """Adds bytes, all or none."""
+        with open(self.path, "ab", buffering=0) as file:
+            before = file.seek(0, os.SEEK_END)
+            try:
+                if file.write(data) == len(data):
+                    os.fsync(file.fileno())
+                    return
+            except OSError:
+                with contextlib.suppress(OSError):
+                    file.truncate(before)
+                raise
+            file.truncate(before)
+            raise OSError(28, "No space left on device", self.path)

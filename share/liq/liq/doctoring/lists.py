@@ -1,0 +1,88 @@
+"""What becomes of the entries of a list, in lines."""
+import collections
+import os
+import re
+from typing import Iterator, Optional
+
+from liq.doctoring.findings import SHOWN, Finding, Told, counted, weighed
+from liq.doctoring.paths import absence_of, trouble_of
+from liq.doctoring.sounds import trouble_of_sound
+from liq.reading.facts import Facts, Listed
+from liq.watching.names import shown
+
+SILENCE = "; where the list is to be played there is silence, or what stands behind it"
+ADDRESS = "is an address, and nothing is fetched"
+
+
+class Entries:
+    """The entries of a list that are played, and those that are not, by the reason: those that are left out, and those
+    that end a call with status 3."""
+
+    def __init__(self, listed: Listed, facts: Facts):
+        self.listed, self.played = listed, 0
+        self.skipped, self.ending = collections.defaultdict(list), collections.defaultdict(list)
+        for entry in listed.entries:
+            sound = facts.sounds[entry]
+            trouble = trouble_of_sound(sound, facts)
+            if trouble is None:
+                self.played += 1
+            elif sound.state == "unread" and not is_address(entry):
+                self.ending[trouble].append(entry)
+            else:
+                self.skipped[self.reason(entry, trouble, sound.state == "missing")].append(entry)
+
+    def reason(self, entry: str, trouble: str, is_missing: bool) -> str:
+        """Why an entry is left out."""
+        folder = os.path.dirname(self.listed.name)
+        if is_address(entry):
+            return ADDRESS
+        if is_missing and folder and "\0" not in entry and os.path.exists(os.path.join(folder, entry)):
+            return f"is not there, but beside the list; names count from the folder of the call, so write {folder}/ before it"
+        return trouble
+
+    def lines(self) -> Iterator[str]:
+        """What is told of the list: that it has no entry that is played stops a run, as what cannot be read does."""
+        name, lines = shown(self.listed.name), self.listed.skipped
+        skipped = sum(map(len, self.skipped.values())) + lines
+        ending = sum(map(len, self.ending.values()))
+        told = ", ".join([counted(self.played, "entry is", "entries are") + " played"]
+                         + ([counted(skipped, "is", "are") + " skipped"] if skipped else [])
+                         + ([counted(ending, "ends", "end") + " a call with status 3"] if ending else []))
+        line = f"list {name}: {told}{'' if self.played else SILENCE}"
+        yield weighed(line, bool(self.played and not ending)) if skipped or ending or not self.played else line
+        for why, entries in self.ending.items():
+            yield Finding(f"list {name} cannot be read to its end, at {some_of(entries)}: {why}")
+        for why, entries in self.skipped.items():
+            yield Told(f"list {name} skips {some_of(entries)}: {why}")
+        if lines:
+            yield Told(f"list {name} skips {counted(lines, 'line', 'lines')}: no UTF-8; save the list as UTF-8")
+
+
+def is_address(entry: str) -> bool:
+    return re.match(r"\w+://", entry) is not None
+
+
+def some_of(entries: "list[str]") -> str:
+    """The first of some names, each once, and how many more there are."""
+    names = list(dict.fromkeys(entries))
+    return ", ".join(map(shown, names[:SHOWN])) + (f" and {len(names) - SHOWN} more" if len(names) > SHOWN else "")
+
+
+def trouble_of_list(listed: Listed, facts: Facts) -> Optional[str]:
+    """Why a list cannot be read, or nothing."""
+    if listed.state == "read":
+        return None
+    if listed.state == "missing":
+        return absence_of(listed.name)
+    if listed.state == "too large":
+        return f"has more than {facts.list_most} bytes, and a list may have no more"
+    return trouble_of(listed.name) or "could not be read"
+
+
+def findings_of_lists(facts: Facts) -> Iterator[str]:
+    for listed in facts.lists:
+        trouble = trouble_of_list(listed, facts)
+        if trouble:
+            yield Finding(f"list {shown(listed.name)}: {trouble}")
+        else:
+            yield from Entries(listed, facts).lines()

@@ -1,0 +1,122 @@
+"""The work of a station: the night ahead each day, and the air all the time."""
+import datetime
+import json
+import os
+import time
+from typing import Any, Callable, Dict, List, Optional
+
+from liq.failed import Failed
+from liq.keeping import children, settings, shelf
+from liq.nights.rooms import numbered
+
+REPORT = "nights.jsonl"
+TICK = 1.0             # seconds between looks
+AGAIN = 600            # seconds between tries of a night
+DAY = datetime.timedelta(days=1)
+
+
+class Keeper:
+    """A station in the folder in which this process is."""
+
+    def __init__(self, say: Callable[[str], None], tell: Callable[[str], None]):
+        self.say, self.tell = say, tell        # prints a line on what is wrong, and one on what is done
+        self.settings = settings.read(".")
+        self.trouble = ""
+        self.air = children.Kept("liq-air", say)
+        self.tried: Dict[datetime.datetime, float] = {}    # when each night was last tried
+
+    def look(self) -> None:
+        """Reads the settings anew. Where they are wrong the ones before stay."""
+        try:
+            self.settings, self.trouble = settings.read("."), ""
+        except Failed as error:
+            if str(error) != self.trouble:
+                self.say(f"{error}; the settings before stay")
+            self.trouble = str(error)
+
+    def due(self, now: datetime.datetime) -> Optional[datetime.datetime]:
+        """The start of the night that is to be rendered now: one that is heard now, or the next one if it is time."""
+        for day in (now.date() - DAY, now.date(), now.date() + DAY):
+            start = datetime.datetime.combine(day, self.settings.start)
+            is_time = start - datetime.timedelta(hours=self.settings.ahead) <= now < start + datetime.timedelta(hours=self.settings.hours)
+            if is_time and not shelf.has(start) and time.monotonic() - self.tried.get(start, -AGAIN) >= AGAIN:
+                return start
+        return None
+
+    def keep_air(self) -> None:
+        """Sees to it that the air is kept."""
+        self.air.keep(settings.words_of_air(self.settings, [shelf.FOLDER]) if self.settings.address else [])
+
+    def call(self, name: str, words: List[str]) -> int:
+        """Calls a command, and keeps the air meanwhile."""
+        return children.ended(children.begun(name, words), self.keep_air)
+
+    def make(self, start: datetime.datetime) -> bool:
+        """Does the work of a day; whether the night is there. It is told in a line."""
+        self.tried = {start: time.monotonic()}
+        said = []
+        if self.settings.music:
+            status = self.call("liq-prepare", settings.words_of_prepare(self.settings))
+            said += [f"liq-prepare ended with {status}"] if status else []
+        status = self.call("liq-night", settings.words_of_night(self.settings, start, REPORT))
+        report = last_of(REPORT)
+        if status == 0:
+            shelf.take(start, self.aired(report))
+        removed = shelf.prune(datetime.datetime.now(), self.settings.keep)
+        said += [f"{removed} old night{'s' * (removed != 1)} removed"] if removed else []
+        self.tell(f"{start:%Y-%m-%d %H:%M}: {told_of(report, status)}" + "".join(f"; {text}" for text in said))
+        return status == 0
+
+    def aired(self, report: Dict[str, Any]) -> List[str]:
+        """The files of a night that go on the air: those of one output."""
+        names = [str(name) for name in report.get("outputs", [])]
+        output = self.settings.output or (names[0] if names else "")
+        return [name for name in names if name == output or name in numbered(output)] or names[:1]
+
+    def once(self) -> bool:
+        """Does the work that is due, and that of the night ahead; whether all nights are there."""
+        now = datetime.datetime.now()
+        start = datetime.datetime.combine(now.date(), self.settings.start)
+        nights = [start - DAY, start] + ([start + DAY] if now >= start else [])
+        wanted = [night for night in nights if night + datetime.timedelta(hours=self.settings.hours) > now and not shelf.has(night)]
+        if not wanted:
+            self.tell(f"{nights[-1]:%Y-%m-%d %H:%M}: is there")
+        return all([self.make(night) for night in wanted])
+
+    def run(self, nights: Optional[int]) -> None:
+        """Keeps the station, for so many nights or for ever."""
+        made = 0
+        while nights is None or made < nights:
+            self.keep_air()
+            start = self.due(datetime.datetime.now())
+            if start is None:
+                time.sleep(TICK)
+                continue
+            self.look()
+            made += self.make(start)
+
+    def end(self) -> None:
+        """Ends what runs."""
+        self.air.end()
+
+
+def last_of(path: str) -> Dict[str, Any]:
+    """The last line of a report; nothing where there is none."""
+    try:
+        with open(path, "rb") as file:
+            file.seek(max(0, os.path.getsize(path) - (1 << 20)))
+            told = json.loads(file.read().rstrip(b"\n").rpartition(b"\n")[2])
+        return told if isinstance(told, dict) else {}
+    except (OSError, ValueError):
+        return {}
+
+
+def told_of(report: Dict[str, Any], status: int) -> str:
+    """What the line of a day says of its night."""
+    if status:
+        return f"no night (status {status}): {report.get('error', 'see ' + children.LOG)}"
+    found = report.get("found", [])
+    seconds = int(report.get("length", 0))
+    text = f"{seconds // 3600}:{seconds // 60 % 60:02}:{seconds % 60:02}, {report.get('tracks', 0)} tracks"
+    text += f", {report['gaps']} s of silence" if report.get("gaps") else ""
+    return text + (f"; found {len(found)}: {found[0]}" + ", .." * (len(found) > 1) if found else "")

@@ -1,0 +1,97 @@
+"""Where a night left its lists: NAME.next, put in place together with the outputs.
+
+It has the places of the lists behind the night, those before it, and when it began. So the same night once more begins
+where it began before. The places of lists that another script plays are kept.
+"""
+import json
+import os
+from typing import Any, Dict, List, NamedTuple, Optional
+
+from liq.nights.lists import Turns
+from liq.watching.names import shown
+
+KIND = "lists of a night"
+MOST = 1000            # lists of which the places are kept
+LARGEST = 1 << 24      # bytes of such a file
+
+
+class Place(NamedTuple):
+    """The entry of a list that is next, and its number."""
+    entry: str
+    number: int
+
+
+class Foreign(Exception):
+    """A file that no night made."""
+
+
+def path_of(output: str) -> str:
+    return os.path.join(os.path.dirname(output), os.path.basename(output) + ".next")
+
+
+def places_in(told: Any) -> Dict[str, Place]:
+    """The places of lists in what a file tells."""
+    return {name: Place(str(left["entry"]), int(left["place"])) for name, left in told.items()}
+
+
+class Places:
+    """The places that the night before left, from which one goes on that begins at `start`, where that is known."""
+
+    def __init__(self, path: str, start: Optional[str] = None):
+        self.path, self.start = path, start
+        self.before: Dict[str, Place] = {}
+        self.trouble, self.is_again = "", False
+        try:
+            self.read()
+        except FileNotFoundError:
+            pass
+        except OSError as error:
+            self.trouble = error.strerror or "cannot be read"
+        except (ValueError, KeyError, TypeError, AttributeError, OverflowError, RecursionError):
+            self.trouble = "is none of a night"
+
+    def read(self) -> None:
+        """Reads the places before this night."""
+        with open(self.path, "rb") as file:
+            told = json.loads(file.read(LARGEST))
+        if told["is"] != KIND:
+            raise ValueError
+        self.is_again = self.start is not None and told.get("start") == self.start
+        self.before = places_in(told.get("before", {}) if self.is_again else told["next"])
+
+    def go_on(self, lists: Dict[str, Turns]) -> List[str]:
+        """Brings the lists to their places; lines on what is not as it was."""
+        found = [f"{shown(self.path)}: {self.trouble}; the lists begin anew, and it is kept as "
+                 f"{shown(self.kept_path())}"] if self.trouble else []
+        for name, turns in lists.items():
+            if name in self.before and turns.entries:
+                entry, number = self.before[name]
+                turns.go_to(entry, number)
+                if turns.next != entry:
+                    found.append(f"list {shown(name)}: {shown(entry)} was next, and is no entry now; it goes on with "
+                                 f"{shown(turns.next or '')}")
+        return found
+
+    def text_of(self, lists: Dict[str, Turns]) -> str:
+        """What the next night has to know."""
+        left = {name: Place(turns.next, turns.at) for name, turns in lists.items() if turns.next is not None}
+        others = {name: place for name, place in self.before.items() if name not in left}
+        behind = dict([*others.items(), *left.items()][-MOST:])
+
+        def told(places: Dict[str, Place]) -> Dict[str, Dict[str, object]]:
+            return {name: {"entry": place.entry, "place": place.number} for name, place in places.items()}
+        return json.dumps({"is": KIND, "start": self.start, "next": told(behind), "before": told(self.before)},
+                          indent=1) + "\n"
+
+    def kept_path(self) -> str:
+        """Where a file is kept that no night made."""
+        return next(path for k in range(1, 1 << 30) if not os.path.lexists(path := f"{self.path}.kept{k}"))
+
+    def free_path(self) -> str:
+        """The path for the new places. A file of others that stands there is kept under another name."""
+        if self.trouble and os.path.lexists(self.path):
+            try:
+                os.link(self.path, self.kept_path(), follow_symlinks=False)
+            except OSError:
+                os.rename(self.path, self.kept_path())
+        return self.path

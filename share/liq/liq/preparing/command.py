@@ -1,0 +1,167 @@
+"""What bin/liq-prepare does."""
+import os
+import re
+import shutil
+from typing import Any, Callable, Dict, Iterator, List, Optional, Tuple
+
+from liq.command import Stopped, tell
+from liq.failed import Broken, Failed, Usage
+from liq.preparing import names, sources, waves
+from liq.preparing.programs import Programs
+from liq.preparing.record import NAME, ROOM
+from liq.preparing.work import Found, Work
+from liq.reading.companion import Companion, companion_of
+from liq.reading.facts import Facts, Refused
+from liq.watching.names import shown
+
+USAGE = ("usage: liq-prepare [--rate=HERTZ] [--loudness=LUFS] [--whole-seconds] [--shuffle=SEED] [--jobs=N] [--prune] "
+         "[--strict] [--all-gone] FOLDER|LIST.m3u OUT")
+BOUNDS = {"shuffle": (0, (1 << 64) - 1), "jobs": (1, 64)}
+LOUDNESS = (-40, -5)           # LUFS
+FLAGS = {"--whole-seconds": "whole", "--prune": "prune", "--strict": "strict", "--all-gone": "all_gone"}
+Options = Dict[str, Any]
+LISTS, FILES = 20, 1000        # how many lists and files are told each by a line
+
+
+def examined(source: str, out: str) -> None:
+    """Fails where a run cannot begin."""
+    for program in ("ffmpeg", "ffprobe"):
+        if not shutil.which(program):
+            raise Failed(f"{program} is missing: install the package ffmpeg", 3)
+    if not os.path.exists(source):
+        raise Failed(f"{shown(source)}: is not there", 3)
+    if not names.is_held(out):
+        raise Failed(f"{shown(out)}: no list can hold this name", 2)
+    if out.startswith("#"):
+        raise Failed(f"{shown(out)}: a line of a list that begins so is a remark; write ./ before it", 2)
+    inner, outer = os.path.realpath(source), os.path.realpath(out)
+    if os.path.isdir(source) and f"{inner}/".startswith(outer.rstrip("/") + "/"):
+        raise Failed(f"{shown(out)}: holds what it is made of", 2)
+    if not os.path.isdir(source) and not os.path.isfile(source):
+        raise Failed(f"{shown(source)}: is neither a folder nor a list", 3)
+    if os.path.isdir(out) and os.listdir(out) and not os.path.exists(os.path.join(out, NAME)):
+        raise Failed(f"{shown(out)}: holds files that were not made by prepare; name a new folder", 4)
+
+
+def found_in(source: str, out: str) -> Tuple[Found, int, List[str], str, Callable[[str], bool]]:
+    """The sounds, how many other files lie between them, what is left out, how the list of all is called, and which other
+    sounds may be there, since their folder could not be read."""
+    try:
+        if os.path.isdir(source):
+            below = sources.Below(source, out)
+            return below.found, below.others, below.told, "all.m3u", below.is_unread
+        whole = names.plain(os.path.splitext(os.path.basename(source))[0]) + ".m3u"
+        return sources.of_list(source), 0, [], whole, lambda _: False
+    except OSError as error:
+        raise Failed(f"{shown(str(error.filename or source))}: {error.strerror}", 3) from None
+
+
+def some_of(lines: List[str], most: int, what: str) -> Iterator[str]:
+    """The first of some lines, and how many more there are."""
+    yield from lines[:most]
+    if len(lines) > most:
+        yield f"and {len(lines) - most} more {what}"
+
+
+def gone_text(work: Work, found: Found, prunes: bool) -> str:
+    """What is told of sounds that are no more there; nothing where there are none."""
+    gone = len(work.gone(found))
+    if prunes and not found:
+        return "no sound is there, so nothing is removed"
+    if prunes and any(map(work.is_unread, work.record.sources)):
+        return "a folder could not be read, so nothing is removed"
+    if prunes:
+        removed = work.prune(found)
+        return f"{removed} file{'s' * (removed != 1)} removed, of sounds that are gone" if removed else ""
+    if not gone:
+        return ""
+    return (f"{gone} sound{'s are' if gone > 1 else ' is'} no more there; what was made is left, in no list; "
+            "--prune removes it")
+
+
+def prepared(source: str, out: str, options: Options, companion: Companion, limits: Facts) -> Tuple[List[str], int]:
+    """Does the work, by the limits of liq, and answers the lines that are told and the status."""
+    examined(source, out)
+    os.makedirs(out, exist_ok=True)
+    found, others, told, whole, is_unread = found_in(source, out)
+    form = waves.Form(limits.rate, options["loudness"], options["whole"], limits.file_most)
+    work = Work(out, form, Programs(), companion)
+    try:
+        work.told += told
+        found = work.with_unseen(found, is_unread)
+        work.examine(found, options["all_gone"])
+        work.run(found, options["jobs"])
+        lines, size = work.write_lists(found, options["shuffle"], whole, os.path.isdir(source), limits)
+        long_ones, gone = work.long_ones(found), gone_text(work, found, options["prune"])
+    finally:
+        work.end()
+    more = [*some_of(work.told, FILES, "files"), *some_of(long_ones, LISTS, "long sounds"), *some_of(lines, LISTS, "lists")]
+    if gone:
+        more.append(gone)
+    rest = f", {others} other files passed over" if others else ""
+    more.append(f"{work.made} made, {work.kept} as before, {len(work.told)} to look at{rest}; "
+                f"{size.seconds / 3600:.1f} h, {size.bytes / 1e9:.1f} GB")
+    is_bad = work.left or not size.bytes or options["strict"] and work.told
+    return more, 1 if is_bad else 0
+
+
+def number_of(word: str) -> Optional[Tuple[str, float]]:
+    """An option with a number: its name and value; nothing where it is none."""
+    match = re.fullmatch(r"--(rate|shuffle|jobs)=([0-9]{1,20})", word)
+    if match:
+        least, most = BOUNDS.get(match[1], (0, int(match[2])))
+        return (match[1], int(match[2])) if least <= int(match[2]) <= most else None
+    match = re.fullmatch(r"--loudness=(-[0-9]{1,2}(\.[0-9])?)", word)
+    if match and LOUDNESS[0] <= float(match[1]) <= LOUDNESS[1]:
+        return "loudness", float(match[1])
+    return None
+
+
+def words_of(words: List[str]) -> Optional[Tuple[str, str, Options]]:
+    """The source, the folder and the options; nothing where the words are wrong."""
+    options: Options = {"rate": None, "loudness": None, "shuffle": None, "jobs": min(4, os.cpu_count() or 1),
+               **dict.fromkeys(FLAGS.values(), False)}
+    rest: List[str] = []
+    for word in words:
+        pair: Optional[Tuple[str, object]] = (FLAGS[word], True) if word in FLAGS else number_of(word)
+        if pair:
+            options[pair[0]] = pair[1]
+        elif word.startswith("--"):
+            return None
+        else:
+            rest.append(word)
+    return (rest[0], rest[1].rstrip("/") or "/", options) if len(rest) == 2 and all(rest) else None
+
+
+def written(lines: List[str]) -> bool:
+    """Prints lines; whether that was possible."""
+    data = "".join(line + "\n" for line in lines).encode(errors="backslashreplace")
+    try:
+        while data:
+            data = data[os.write(1, data):]
+        return True
+    except OSError as error:
+        tell(f"prepare: standard output: {error.strerror}")
+        return False
+
+
+def main(words: List[str]) -> int:
+    """Makes a library; the exit status."""
+    call = words_of(words)
+    if call is None:
+        raise Usage(USAGE)
+    companion = companion_of()
+    limits = companion.limits(call[2]["rate"])
+    if isinstance(limits, Refused):
+        raise Usage(USAGE)
+    try:
+        lines, status = prepared(*call, companion, limits)
+        return status if written(lines) else 4
+    except OSError as error:
+        place = str(error.filename or call[1]).partition(f"/{ROOM}")[0]
+        raise Failed(f"{place}: {error.strerror}", 4) from None
+    except Broken as error:
+        raise Failed(str(error), 3) from None
+    except Stopped:
+        tell("prepare: broken off; what was made so far is kept, and the next run goes on from there")
+        raise

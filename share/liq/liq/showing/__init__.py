@@ -1,0 +1,1 @@
+"""What `liq` says beside the program where standard error is a terminal."""

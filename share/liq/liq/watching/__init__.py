@@ -1,0 +1,1 @@
+"""Names in lines for people, and runs of the program that are watched."""
