@@ -3,6 +3,8 @@ import html
 import os
 import re
 
+from theorem_front import front
+
 STYLE = """
 :root{color-scheme:light dark;--bg:#fdfdfb;--fg:#1c1d20;--soft:#686b73;--line:#dcdcd6;--code:#f4f4ef;--link:#0b57a4;--mark:#fff2b8;--bar:#fff}
 @media(prefers-color-scheme:dark){:root{--bg:#15171b;--fg:#e3e4e6;--soft:#9a9ea8;--line:#32353c;--code:#1d2026;--link:#86b9f5;--mark:#4a4216;--bar:#1a1d22}}
@@ -14,7 +16,7 @@ nav h1{font-size:1.05rem;margin:0 0 .6rem}nav ol{padding-left:1.4rem;margin:.6re
 input{width:100%;font:inherit;padding:.4rem .5rem;border:1px solid var(--line);border-radius:6px;background:var(--bg);color:var(--fg)}
 #hits{list-style:none;padding:0;margin:.3rem 0;max-height:60vh;overflow:auto}#hits a{display:block;padding:.2rem .3rem}#hits small{display:block}
 #hits a.on{background:var(--mark)}
-main{margin:0 26rem 0 16rem;padding:1rem 2rem 60vh;min-width:0}
+main{margin:0 min(26rem,28vw) 0 16rem;padding:1rem 2rem 60vh;min-width:0}
 main>p:first-child{margin-top:.2rem}
 h2{margin:3rem 0 .5rem;font-size:1.4rem}main>:first-child h2{margin-top:0}h3{margin:2.2rem 0 .2rem;font:600 .8rem/1.4 ui-monospace,monospace;color:var(--soft);border-bottom:1px solid var(--line)}
 pre{margin:0;font:13px/1.5 ui-monospace,SFMono-Regular,Menlo,Consolas,"DejaVu Sans Mono",monospace;white-space:pre-wrap;overflow-wrap:anywhere;tab-size:4}
@@ -22,8 +24,11 @@ article{padding:.55rem .7rem;margin:.5rem 0;background:var(--code);border-radius
 article:target{border-left-color:var(--link);background:var(--mark)}
 article p{margin:0 0 .35rem;max-width:46rem;font-size:.95rem}article p.here{margin:.35rem 0 0;font-size:.85rem;color:var(--soft)}
 b.of{font-weight:600}
+pre .l{display:block;padding-left:var(--n);text-indent:calc(-1*var(--n))}
+#front table{border-collapse:collapse;margin:.6rem 0;font-size:.95rem}#front th{text-align:left;font-weight:400;padding:.15rem 1rem .15rem 0;white-space:nowrap;vertical-align:top}
+#front td{padding:.15rem 0}#front p,#front li{max-width:46rem}#front h4{margin:1.4rem 0 .3rem}
 details{font-size:.82rem;color:var(--soft);margin-top:.3rem}details summary{cursor:pointer}details a{margin-right:.6rem;white-space:nowrap}
-#side{position:fixed;inset:0 0 0 auto;width:26rem;overflow:auto;padding:1rem;border-left:1px solid var(--line);background:var(--bar)}
+#side{position:fixed;inset:0 0 0 auto;width:min(26rem,28vw);overflow:auto;padding:1rem;border-left:1px solid var(--line);background:var(--bar)}
 #side article{background:none;padding:0;border:0}#side h4{margin:0 0 .5rem;font-size:.8rem;color:var(--soft);font-weight:400}
 #side .empty{color:var(--soft)}#shut{display:none}
 @media(max-width:75rem){main{margin-right:0}#side{inset:auto 0 0 16rem;width:auto;max-height:45vh;border-left:0;border-top:1px solid var(--line);box-shadow:0 -4px 18px #0003;display:none}#side.on{display:block}
@@ -88,6 +93,12 @@ def linked(unit, marks, places, start):
     return "".join(parts) + html.escape(unit.text[at:].rstrip(), quote=False)
 
 
+def hanging(code):
+    """The lines of a code, each of which goes on further to the right than it begins where it is too long for the page."""
+    lines = [(len(line) - len(line.lstrip(" ")), line) for line in code.split("\n")]
+    return "".join(f'<span class=l style="--n:{min(indent, 24) + 2}ch">{line}\n</span>' for indent, line in lines)
+
+
 def comment_of(unit):
     """The comment before a text, as prose, and where its code begins."""
     rows, size = [], 0
@@ -133,11 +144,16 @@ def page(chapters, marks_of, comments_of, counted):
             where = f"{path.split('/')[1]}/{os.path.basename(path)}:{unit.line}"
             rows.append(f'<article id="{places[id(unit)]}" data-at="{where}" data-names="{html.escape(" ".join(unit.names))}">'
                         + (f"<p>{prose(comment)}</p>" if comment else "")
-                        + f"<pre>{linked(unit, marks[id(unit)], places, start)}</pre>"
+                        + f"<pre>{hanging(linked(unit, marks[id(unit)], places, start))}</pre>"
                         + "".join(f'<p class=here>{html.escape(row)}</p>' for row in comments_of(unit))
                         + (f"<details><summary>cited by {len(cited[id(unit)])}</summary>{by}</details>" if by else "") + "</article>")
         rows.append("</section>")
     name = units[0].names[0]
+    if len(chapters) > 1:
+        by_name = {f"{unit.path.split('/')[1]}::{os.path.splitext(os.path.basename(unit.path))[0]}::{unit.names[0]}": place
+                   for unit, place in ((unit, places[id(unit)]) for unit in units)}
+        rows.insert(0, front(lambda wanted: by_name.get(wanted, "" if wanted else places[id(units[0])])))
+        toc.insert(0, '<li value=0><a href="#front">What this page says</a></li>')
     return (f'<!DOCTYPE html><html lang=en><meta charset=utf-8><meta name=viewport content="width=device-width,initial-scale=1">'
             f"<title>What is proved of {html.escape(name)}</title><style>{STYLE}</style>"
             f"<nav><h1>What is proved of <code>{html.escape(name)}</code></h1><details id=toc><summary>Contents and search</summary>"
