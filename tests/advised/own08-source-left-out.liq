@@ -1,4 +1,4 @@
-# help: `s` is missing (source): the call is `output.file(format, name, s)`
+# help: `s` is missing: `output.file(%wav, "o.wav", SOURCE)`
 music = playlist("music.m3u")
 jingle = single("jingle.wav")
 radio = fallback([music, jingle])

@@ -1,4 +1,4 @@
-# help: `format` is missing (a format): the call is `output.file(format, name, s)`
+# help: the format is missing: `output.file(%wav, "o.wav", radio)`
 music = playlist("music.m3u")
 jingle = single("jingle.wav")
 radio = fallback([music, jingle])

@@ -1,3 +1,3 @@
-# help: `s` is missing (source): the call is `mksafe(s)`
+# help: `s` is missing: `mksafe(SOURCE)`
 radio = mksafe()
 output.file(%wav, "o.wav", radio)

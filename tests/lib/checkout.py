@@ -29,7 +29,7 @@ def names():
 
 def commands():
     """The files and folders of the top that the commands need."""
-    sources = {source.split("/")[0] for how, source, _ in installed() if how in ("file", "files")}
+    sources = {source.split("/")[0] for how, source, _ in installed() if how == "file"}
     return sorted(sources | {"tools"})
 
 
@@ -47,7 +47,8 @@ class Checkout:
             for part in ("src", "specs") if name not in ("script_grammar", *programs) else ():
                 if os.path.isdir(os.path.join(TOP, "crates", name, part)):
                     shutil.copytree(os.path.join(TOP, "crates", name, part), os.path.join(self.top, "crates", name, part))
-        self.write("a chäckout/.gitignore", b"out/\n")
+        os.symlink("bin/liq", os.path.join(self.top, "liq"))
+        self.write("a chäckout/.gitignore", b"out/\n__pycache__/\n")
         self.write("a chäckout/crates.txt", "\n".join(["script_grammar:"] + [f"{name}: script_grammar" for name in programs]).encode() + b"\n")
         for name in ("script_grammar", *programs):
             self.write(f"a chäckout/crates/{name}/src/main.rt", b"")

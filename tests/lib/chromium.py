@@ -7,7 +7,7 @@ import subprocess
 import time
 import urllib.request
 
-KEYS = {"Tab": 9, "ArrowRight": 39, "ArrowLeft": 37, "ArrowDown": 40, "End": 35, "Home": 36, "Enter": 13, "Escape": 27, " ": 32, "/": 191}
+KEYS = {"Tab": 9, "ArrowRight": 39, "ArrowLeft": 37, "ArrowDown": 40, "ArrowUp": 38, "End": 35, "Home": 36, "Enter": 13, "Escape": 27, " ": 32, "/": 191}
 # The least contrast of a text and its ground, and where; TEXTS stands for the selectors of the elements with text.
 CONTRAST = """
 const numbers = c => (c.match(/[\\d.]+/g) || []).map(Number);

@@ -91,10 +91,6 @@ def placed():
     for how, source, place in installed():
         if how == "file":
             yield source, place
-        elif how == "files":
-            for name in os.listdir(os.path.join(TOP, source)):
-                if name.endswith((".liq", ".py", ".md", ".js", ".css", ".png", ".svg")):
-                    yield f"{source}/{name}", f"{place}/{name}"
 
 
 def links_that_leave_the_package(_program):
@@ -438,9 +434,9 @@ def forms_of_the_man_page():
     return dict(parts_of(" | ".join(" ".join(form.split()) for form in plain)))
 
 
-def forms_of_the_readme():
-    """The forms of its table of the command line."""
-    rows = [cells_of(line) for line in section(text_of("README.md"), "The command line")]
+def forms_of_the_page():
+    """The forms of the table of docs/commands.md."""
+    rows = [cells_of(line) for line in section(text_of("docs/commands.md"), "The forms")]
     return dict(parts_of(" | ".join(row[0].strip("`") for row in rows if row and row[0].startswith("`"))))
 
 
@@ -448,7 +444,8 @@ def completed(words, call="_liq"):
     """What bash offers for the last of these words."""
     line = " ".join(f"'{word}'" for word in words)
     script = f'. share/bash-completion/completions/liq; COMP_WORDS=({line}); COMP_CWORD={len(words) - 1}; {call}; printf "%s\\n" "${{COMPREPLY[@]}}"'
-    done = subprocess.run(["bash", "-c", script], cwd=TOP, capture_output=True, check=True, timeout=SECONDS)
+    done = subprocess.run(["bash", "-c", script], cwd=TOP, capture_output=True, check=True, timeout=SECONDS,
+                          env={**os.environ, "PATH": f"{TOP}/bin:{os.environ['PATH']}"})
     return done.stdout.decode().split()
 
 
@@ -457,28 +454,43 @@ def completions_that_differ():
     render, readme = ["liq", "render", "f", "1"], ["README.md"]
     rows = [(render + ["w"], "_liq", ["--window="]), (render + ["--wi"], "_liq", ["--window="]), (render + ["--trace", "="], "_liq", None),
             (render + ["--trace", "=", "READ"], "_liq", readme), (render + ["--trace=READ"], "_liq", readme), (render + ["--window", "=", "1"], "_liq", []),
-            (["liq", "check", "READ"], "_liq", readme), (["liq-where", "READ"], "_liq_file", readme), (["liq-doctor", "READ"], "_liq_doctor", readme)]
+            (["liq", "check", "READ"], "_liq", readme), (["liq", "doctor", "READ"], "_liq", readme), (["liq", "nig"], "_liq", ["night"]),
+            (["liq", "help", "nig"], "_liq", ["night"]), (["liq", "where", "--t"], "_liq", ["--text"]), (["liq-where", "READ"], "_liq_command", readme),
+            (["liq-air", "--state", "=", "READ"], "_liq_command", readme), (["liq-air", "--stat"], "_liq_command", ["--state="]),
+            (["liq", "page", "--as", "=", "v"], "_liq", ["vtt"])]
     offered = [(words, completed(words, call), wanted) for words, call, wanted in rows]
-    return [f"bash offers {got} behind {words}" for words, got, wanted in offered if got != wanted and (wanted is not None or "README.md" not in got)]
+    found = [f"bash offers {got} behind {words}" for words, got, wanted in offered if got != wanted and (wanted is not None or "README.md" not in got)]
+    if shutil.which("fish"):
+        for line, wanted in (("liq nig", ["night"]), ("liq where --t", ["--text"]), ("liq-air --stat", ["--state="]), ("liq render f 1 --w", ["--window="])):
+            script = f"source share/fish/vendor_completions.d/liq.fish; complete -C '{line}'"
+            done = subprocess.run(["fish", "-c", script], cwd=TOP, capture_output=True, text=True, check=False, timeout=SECONDS,
+                                  env={**os.environ, "PATH": f"{TOP}/bin:{os.environ['PATH']}"})
+            found += [f"fish offers {done.stdout!r} behind {line}"] if done.stdout.split() != wanted else []
+    if shutil.which("zsh"):
+        done = subprocess.run(["zsh", "-n", "share/zsh/site-functions/_liq"], cwd=TOP, capture_output=True, text=True, check=False)
+        found += [f"zsh: {done.stderr}"] if done.stderr else []
+    return found
 
 
 def trusted_crates_that_differ(_program):
-    """The README names as trusted the crates of the kit on which crates.txt rests, all of them and no other."""
+    """The page of promises names as trusted the crates of the kit on which crates.txt rests, all of them and no other."""
     uses = crates_and_their_uses()
     used = sorted({name for names in uses.values() for name in names} - set(uses))
-    told = re.findall(r"`(\w+)`", "\n".join(section(text_of("README.md"), "What is trusted")).split("kit's crates", 1)[1].split(".", 1)[0])
-    return [] if told == used else [f"the README trusts {told}, crates.txt uses {used}"]
+    told = re.findall(r"`(\w+)`", "\n".join(section(text_of("docs/promises.md"), "What is trusted")).split("kit's crates", 1)[1].split(".", 1)[0])
+    return [] if told == used else [f"the page trusts {told}, crates.txt uses {used}"]
 
 
 def forms_that_differ(program):
-    """The man page, the README and the completion have the forms that the program takes, and the page has no warning."""
+    """The man page, the page of commands and the completion have the forms that the program takes, and the page has no warning."""
     known = known_forms(program)
     found = [f"{name} has {forms}, the program {known}"
-             for name, forms in ((f"{MANUAL}/liq.1", forms_of_the_man_page()), ("README.md", forms_of_the_readme())) if forms != known]
+             for name, forms in ((f"{MANUAL}/liq.1", forms_of_the_man_page()), ("docs/commands.md", forms_of_the_page())) if forms != known]
     if shutil.which("bash"):
         found += completions_that_differ()
-        if completed(["liq", ""]) != [form.split()[0] for form in known]:
-            found.append(f"bash offers {completed(['liq', ''])}")
+        commands = sorted(name[len("liq-"):] for name in os.listdir(os.path.join(TOP, "bin")) if name.startswith("liq-"))
+        wanted = [*(form.split()[0] for form in known), *commands, "help", "--help", "--version"]
+        if completed(["liq", ""]) != wanted:
+            found.append(f"bash offers {completed(['liq', ''])}, wanted {wanted}")
         for form, options in known.items():
             offered, wanted = completed(["liq"] + spoken(form) + [""]), [re.sub("=.*", "=", option) for option in options]
             found += [f"bash offers {offered} behind {form}"] if offered != wanted else []
@@ -497,21 +509,20 @@ def copy_examples(folder):
 
 
 def recipes_that_fail(program):
-    """Each recipe whose program is installed runs twice, in a folder of the examples with `liq` and `liq-page` on PATH, and leaves no
-    pipe and no empty file there."""
+    """Each recipe whose program is installed runs twice, in a folder of the examples with `bin` on PATH, and leaves no pipe and no
+    empty file there."""
     found = []
     for needs, script in re.findall(r"```sh\n# needs (\w+)\n(.*?)```", text_of("examples/README.md"), flags=re.S):
         if not shutil.which(needs):
             continue
         with tempfile.TemporaryDirectory(prefix="liq-page-") as place:
             copy_examples(os.path.join(place, "examples"))
-            os.symlink(program, os.path.join(place, "liq"))
-            os.symlink(os.path.join(TOP, "bin", "liq-page"), os.path.join(place, "liq-page"))
             run = {"cwd": os.path.join(place, "examples"), "capture_output": True, "timeout": SECONDS}
             subprocess.run([sys.executable, "sounds.py"], check=True, **run)
             for turn in ("first", "second"):
                 done = subprocess.run(["sh", "-c", re.sub("540000|90000", "50", script)], check=False, stdin=subprocess.DEVNULL,
-                                      env={**os.environ, "PATH": f"{place}:{os.environ['PATH']}"}, **run)
+                                      env={**os.environ, "PATH": f"{TOP}/bin:{os.environ['PATH']}",
+                                           "LIQ_PROGRAMS": os.path.dirname(program)}, **run)
                 if done.returncode or done.stderr:
                     found.append(f"the {turn} run of the recipe with {needs} ends with {done.returncode}: {done.stderr.decode()[-300:]}")
                 left = [entry.name for entry in os.scandir(run["cwd"]) if not entry.is_file() or not entry.stat().st_size]
@@ -524,8 +535,14 @@ def versions_that_differ(_program):
     version = text_of("VERSION").strip()
     wanted = {"README.md": f"This is version {version} ", **{page: f'"Dizhuppan {version}"' for page in manuals()}}
     found = [f"{page} has not the version {version}" for page, text in wanted.items() if text not in text_of(page)]
-    first = re.search(r"^## (\S+)$", text_of("CHANGELOG.md"), flags=re.M)[1]
+    first = re.search(r"^## ([^\s,]+), 20\d\d-\d\d-\d\d$", text_of("CHANGELOG.md"), flags=re.M)[1]
     return found + ([f"the list of changes begins with {first}"] if first != version else [])
+
+
+def counts_that_differ(_program):
+    """The page on the tests has the counts that tools/counts prints."""
+    done = subprocess.run([os.path.join(TOP, "tools", "counts")], capture_output=True, text=True, check=True, timeout=SECONDS)
+    return [] if f"\n{done.stdout}\n" in text_of("docs/testing.md") else ["docs/testing.md has other counts than tools/counts prints"]
 
 
 def cases_without_a_source(_program):
@@ -542,6 +559,7 @@ def cases_without_a_source(_program):
 checks = {
     "documents/sources": cases_without_a_source,
     "documents/versions": versions_that_differ,
+    "documents/counts": counts_that_differ,
     "documents/paths": paths_that_are_missing,
     "documents/package": links_that_leave_the_package,
     "documents/sections": sections_that_are_missing,

@@ -1,7 +1,5 @@
 """Runs of tests/night on files: outputs are all new or all old, and nothing of others is removed."""
 import errno
-import importlib.machinery
-import importlib.util
 import os
 import random
 import shutil
@@ -16,10 +14,10 @@ from lib.place import Skipped
 from lib.stations import write_file
 
 sys.path.insert(0, os.path.join(TOP, "share", "liq"))
-from doctoring import outputs  # noqa: E402
-from nights import putting  # noqa: E402
-from nights.failed import Failed  # noqa: E402
-from nights.rooms import Rooms  # noqa: E402
+from liq.doctoring import outputs  # noqa: E402
+from liq.nights import putting  # noqa: E402
+from liq.nights.failed import Failed  # noqa: E402
+from liq.nights.rooms import Rooms  # noqa: E402
 
 KILLS = 12                                   # nights that are killed at random moments
 LENGTHS, PART = ("0.002", "0.003"), "--part=0.001"       # hours of these nights, and of their parts
@@ -228,12 +226,10 @@ def has_note(place):
 
 
 def command_of():
-    """bin/liq-night as a module, which makes no pages."""
-    loader = importlib.machinery.SourceFileLoader("night_command", NIGHT)
-    module = importlib.util.module_from_spec(importlib.util.spec_from_loader("night_command", loader))
-    loader.exec_module(module)
-    module.page.page_of = lambda *_: None
-    return module
+    """The command, which makes no pages."""
+    from liq.nights import command
+    command.page.page_of = lambda *_: None
+    return command
 
 
 def begun(command, place, length):
@@ -242,9 +238,8 @@ def begun(command, place, length):
     if child == 0:
         os.dup2(os.open(os.devnull, os.O_WRONLY), 1)
         os.chdir(place.folder)
-        sys.argv = [NIGHT, f"--program={place.program}", PART, "f", length]
         try:
-            os._exit(command.main())
+            os._exit(command.main([f"--program={place.program}", PART, "f", length]))
         finally:
             os._exit(99)
     return child

@@ -7,7 +7,7 @@ from lib.common import TOP, content, quick, sound
 from lib.stations import write_file
 
 sys.path.insert(0, os.path.join(TOP, "share", "liq"))
-from reading.programs import beside  # noqa: E402
+from liq.reading.programs import beside  # noqa: E402
 
 NIGHT = os.path.join(TOP, "bin", "liq-night")
 SECONDS = 300
@@ -64,10 +64,14 @@ class Place:
 
     def call(self, ticks, *options):
         """The bytes of an output and of its cue file by one call, and what that prints."""
+        return self.call_to("A.wav", ticks, *options)
+
+    def call_to(self, name, ticks, *options):
+        """The same of another output."""
         done = subprocess.run([self.program, "render", "f", str(ticks), "--cues", *options], cwd=self.folder,
                               capture_output=True,
                               stdin=subprocess.DEVNULL, check=True)
-        return self.made(), done.stdout
+        return self.made(name), done.stdout
 
     def made(self, name="A.wav"):
         return content(self.path(name)), content(self.path(name + ".cue"))

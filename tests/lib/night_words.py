@@ -14,11 +14,11 @@ from lib.place import Skipped
 from lib.stations import cues_in, write_file
 
 sys.path.insert(0, os.path.join(TOP, "share", "liq"))
-from nights import dates, memory, words, work  # noqa: E402
-from nights.library import Library  # noqa: E402
-from nights.rooms import Rooms  # noqa: E402
-from nights.station import Station  # noqa: E402
-from reading.companion import companion_of  # noqa: E402
+from liq.nights import dates, memory, words, work  # noqa: E402
+from liq.nights.library import Library  # noqa: E402
+from liq.nights.rooms import Rooms  # noqa: E402
+from liq.nights.station import Station  # noqa: E402
+from liq.reading.companion import companion_of  # noqa: E402
 
 FRIDAY = datetime.datetime(2026, 12, 4, 15, 30, 10)
 TIMES = (("5:20:00:00", 4, 20, "2026-12-04"), ("4:20:00:00", 3, 20, "2026-12-10"),
@@ -34,7 +34,7 @@ def wrong_times():
     found = []
     for text, day, hours, date in TIMES:
         wanted = words.When(round(day * 86400 + hours * 3600), datetime.date.fromisoformat(date))
-        if words.read_when(text, FRIDAY) != wanted:
+        if words.read_when(text, FRIDAY)[:2] != wanted[:2]:
             found.append(f"{text} is {words.read_when(text, FRIDAY)}")
     return found + [f"{text} is a time" for text in NO_TIMES if words.read_when(text, FRIDAY)]
 
@@ -48,21 +48,34 @@ def starts_and_words(place):
         place.wants(option, place.run(option, "f", "1")[0], 2)
 
 
+def calendar_of(place):
+    return in_folder(place, lambda: dates.Calendar("dates"))
+
+
 def a_calendar(place):
     """A date has its script, by the year before each year; what is wrong in a calendar is told with its line."""
     write_file(place.folder, "dates", "# dates\n\n12-24 christmas eve.liq\n2026-12-24\tthis.liq\n02-29 leap.liq\n")
-    calendar = in_folder(place, lambda: dates.Calendar("dates"))
+    for name in ("christmas eve.liq", "this.liq", "leap.liq"):
+        write_file(place.folder, name, "")
+    calendar = calendar_of(place)
     for date, script in (("2026-12-24", "this.liq"), ("2027-12-24", "christmas eve.liq"), ("2026-12-25", "usual"),
                          ("2028-02-29", "leap.liq")):
-        place.wants(date, calendar.script(datetime.date.fromisoformat(date), "usual"), script)
-    place.wants("what is missing", len(calendar.missing()), 3)
+        named = in_folder(place, lambda: calendar.script(datetime.date.fromisoformat(date), "usual"))
+        place.wants(date, named, script)
+    os.remove(place.path("leap.liq"))
+    place.wants("what is missing", in_folder(place, lambda: len(calendar.missing())), 1)
     form = "is no date; one is as 2026-12-24, or as 12-24 for each year"
     for text, wanted in (("x y", f"1: x {form}"), ("\n2026-02-29 f", f"2: 2026-02-29 {form}"),
                          ("12-24", "1: no script stands behind the date"),
                          ("12-24 f\n12-24 g", "2: 12-24 has a script in line 1 already")):
         write_file(place.folder, "dates", text)
-        place.wants(text, place.run("--calendar=dates", "f", "1"), (1, [], f"night: dates:{wanted}\n"))
-    place.wants("none", place.run("--calendar=none", "f", "1")[::2], (3, "night: none: No such file or directory\n"))
+        status, lines, said = place.run("--calendar=dates", "f", "0.01")
+        place.wants(text, (status, said, lines[0]), (0, "", f"dates:{wanted}; the line is passed over"))
+        place.wants("by --strict", place.run("--strict", "--calendar=dates", "f", "0.01")[0], 1)
+    place.wants("none", place.run("--calendar=none", "f", "0.01")[1][0],
+                "none: No such file or directory; the usual script is played")
+    write_file(place.folder, "dates", f"{FRIDAY.date().isoformat()} gone.liq\n")
+    place.wants("a script that is gone", calendar_of(place).script(FRIDAY.date(), "usual"), "usual")
     write_file(place.folder, "g", content(place.path("f")).replace(b"A.wav", b"G.wav"))
     today = datetime.date.today()
     write_file(place.folder, "dates", f"{today} g\n{today + datetime.timedelta(1)} g\n")      # midnight may be near
@@ -95,11 +108,6 @@ def lists_go_on(place):
     place.wants("an empty list", place.run("--go-on", "f", "0.01")[0], 1)
     place.wants("after an empty list", content(place.path("A.wav.next")), kept)
     write_file(place.folder, "m.m3u", "t0.wav\n")
-    write_file(place.folder, "A.wav.next", "my notes")
-    status, _, said = place.run("--go-on", "f", "0.01")
-    place.wants("a file of others", (status, said),
-                (1, "night: A.wav.next: stands where --go-on keeps the places of the lists, and no night made it; "
-                    "move it away\n"))
 
 
 def what_stops_and_what_is_told(place):

@@ -6,7 +6,7 @@ import sys
 from lib.common import TOP
 
 sys.path.insert(0, os.path.join(TOP, "share", "liq"))
-from reading.programs import beside  # noqa: E402
+from liq.reading.programs import beside  # noqa: E402
 
 
 def installed_below(prefix, program):

@@ -1,6 +1,7 @@
 """WAV files that others wrote, whole and damaged, lists with strange lines, and outputs at the bound of their length: what a run over
 them has to do, by the tables of docs/formats.md and docs/streams.md. tests/run compares it."""
 import os
+import random
 import struct
 import subprocess
 import tempfile
@@ -87,6 +88,24 @@ LISTS = (
 # The most samples that the file of an output can have: of how many bits, whether in stereo.
 MOST = ((16, True, 1073741814), (16, False, 2147483629), (24, False, 1431655752), (24, True, 715827876))
 
+# Files of other rates: samples a second, channels, bits, blocks, and the rate of the script. The first three grow by more than 64
+# fold, to some nine million samples and more.
+RATES = (
+    (10, 1, 16, 2000, 44100), (1, 1, 16, 690, 44100), (300, 1, 24, 120000, 44100),
+    (48000, 1, 16, 9000, 44100), (48000, 2, 16, 9000, 44100), (44100, 2, 24, 9000, 48000), (22050, 1, 24, 5, 8000),
+    (44100, 1, 16, 1, 48000), (4294967295, 1, 16, 3000, 8000), (192000, 2, 16, 30000, 96000), (96000, 1, 16, 30000, 65535), (96000, 2, 24, 30000, 65536),
+)
+
+
+def changed(side, own, wanted):
+    """The samples of one channel at another rate, by the formula of docs/formats.md."""
+    made, last = [], len(side) - 1
+    for at in range(max(1, len(side) * wanted // own)):
+        before, rest = divmod(at * own, wanted)
+        whole = side[before] * (wanted - rest) + side[min(before + 1, last)] * rest
+        made.append(whole // wanted if whole >= 0 else -(-whole // wanted))
+    return made
+
 
 def run(program, place, words, files):
     for name, data in files.items():
@@ -105,6 +124,48 @@ def trouble_of_a_file(program, data, samples):
             played = struct.unpack("<3528h", file.read()[44:])
     wanted = [samples[at // 2 % len(samples)] for at in range(3528)]
     return "" if list(played) == wanted else f"plays {played[:16]}"
+
+
+def of_a_rate(own, channels, bits, blocks):
+    """A file of such samples, drawn by its numbers, and its sides."""
+    draw = random.Random(own * 7 + channels + bits + blocks)
+    drawn = [draw.choice((-32768, 32767, 0, -1, draw.randrange(-32768, 32768))) for _ in range(channels * blocks)]
+    width = bits // 8
+    body = b"".join(bytes(width - 2) + struct.pack("<h", sample) for sample in drawn)
+    head = chunk(b"fmt ", struct.pack("<HHIIHH", 1, channels, own, 0, channels * width, bits))
+    return riff(head, chunk(b"data", body)), [drawn[side::channels] for side in range(channels)]
+
+
+def front(side, own, wanted, count):
+    """The first samples of one channel at another rate, again and again where there are fewer."""
+    needed = count * own // wanted + 2
+    made = changed(side, own, wanted) if len(side) <= needed and len(side) * wanted // own <= count else changed(side[:needed], own, wanted)
+    return [made[at % len(made)] for at in range(count)]
+
+
+def trouble_of_a_rate(program, row, is_mono):
+    """What is wrong with the first ticks of a file of another rate, in a source of two sides or of one."""
+    own, channels, bits, blocks, wanted = row
+    data, sides = of_a_rate(own, channels, bits, blocks)
+    source = 'fallback([single("B"), mean(blank())])' if is_mono else 'single("B")'
+    script = f'set("frame.audio.samplerate", {wanted})\nset("frame.duration", 0.04)\noutput.file(%wav, "A", {source})\n'
+    count = wanted * 4 // 100 * 3
+    with tempfile.TemporaryDirectory(prefix="liq-case-") as place:
+        done = run(program, place, ["render", "f", "3"], {b"f": script.encode(), b"B": data})
+        if done.returncode:
+            return f"status {done.returncode}, stderr {done.stderr!r}"
+        with open(os.path.join(place, "A"), "rb") as file:
+            bytes_made = file.read()[44:]
+    played = struct.unpack(f"<{len(bytes_made) // 2}h", bytes_made)
+    heard = [front(side, own, wanted, count) for side in sides]
+    if is_mono and channels == 2:
+        sums = [left + right for left, right in zip(*heard)]
+        heard = [[total // 2 if total >= 0 else -(-total // 2) for total in sums]]
+    expected = heard[0] if is_mono else [sample for pair in zip(heard[0], heard[-1]) for sample in pair]
+    if list(played) == expected:
+        return ""
+    at = next((at for at, (one, other) in enumerate(zip(played, expected)) if one != other), min(len(played), len(expected)))
+    return f"sample {at} of {len(played)} is {played[at:at + 4]}, not {expected[at:at + 4]} of {len(expected)}"
 
 
 def trouble_of_a_list(program, text, names):
@@ -146,6 +207,9 @@ def differences(program):
         with tempfile.TemporaryDirectory(prefix="liq-case-") as place:
             told = run(program, place, ["check", "f"], {b"f": b'output.file(%wav, "A", single("B"))\n', b"B": data}).stderr
         found.append((data, "" if told == b"E21 bad audio B: %d\n" % number else f"is told as {told!r}"))
+    for row in RATES:
+        for is_mono in (False, True):
+            found.append((f"{row}, {is_mono}".encode(), trouble_of_a_rate(program, row, is_mono)))
     for text, names in LISTS:
         found.append((text, trouble_of_a_list(program, text, names)))
     for bits, is_stereo, most in MOST:

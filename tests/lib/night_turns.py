@@ -1,0 +1,317 @@
+"""Runs of tests/night on what a night plays next: lists that share songs, the same night once more, and what is gone."""
+import collections
+import csv
+import datetime
+import http.server
+import json
+import os
+import shutil
+import subprocess
+import threading
+
+from lib.common import TOP, content, header, left_samples, sound
+from lib.night_files import mounted
+from lib.night_place import NIGHT, RATE, SECONDS
+from lib.place import Skipped
+from lib.stations import cues_in, write_file
+
+PAGE = os.path.join(TOP, "bin", "liq-page")
+TODAY = "--start=today:20:00"
+
+
+def short_songs(place, count, seconds=2):
+    """Makes songs s00.wav and so on, each of a value of its own."""
+    names = [f"s{k:02}.wav" for k in range(count)]
+    for k, name in enumerate(names):
+        write_file(place.folder, name, sound([100 * (k + 1)] * (seconds * RATE), rate=RATE))
+    return names
+
+
+def played(place, name="A.wav.cue"):
+    return [title for _, title in cues_in(place.folder, name) if title]
+
+
+def lists_that_share(place):
+    """A list of all songs and one of some, by turns, and a single that is a song of both: each goes on behind its own
+    song, so that no song comes again before its list is over."""
+    names = short_songs(place, 14)
+    some = names[5:9]
+    write_file(place.folder, "all.m3u", "".join(name + "\n" for name in names))
+    write_file(place.folder, "some.m3u", "".join(name + "\n" for name in some))
+    place.script('radio = switch([({0s-6s or 20s-26s or 40s-46s}, playlist("some.m3u")), ({30s-31s}, single("s06.wav")), '
+                 '({true}, playlist("all.m3u"))])\noutput.file(%wav, "A.wav", mean(mksafe(radio)))')
+    of_all, of_some = [], []
+    for night in range(14):
+        place.night("--go-on", "--start=1:00:00:00", "--part=0.004", "f", "0.0086")
+        for at, title in cues_in(place.folder, "A.wav.cue"):
+            second = at // RATE % 60
+            if not 30 <= second <= 31:
+                (of_some if second % 20 < 6 else of_all).append(title)
+    for what, found, songs in (("all", of_all, names), ("some", of_some, some)):
+        steps = collections.Counter((songs.index(b) - songs.index(a)) % len(songs) for a, b in zip(found, found[1:]))
+        place.wants(f"the steps in the list of {what}", dict(steps), {1: len(found) - 1})
+        place.wants(f"songs of {what} that are played", set(found), set(songs))
+
+
+def a_length_that_is_told_too_long(place):
+    """Sounds that are shorter than ffprobe tells: the list does not begin anew within a part, and nothing is called
+    damaged that is whole."""
+    if not shutil.which("ffmpeg"):
+        raise Skipped("ffmpeg is missing")
+    loud = "anoisesrc=d=4:c=white:r=44100:a=0.4"
+    for k in range(9):
+        graph = f"anullsrc=r=44100:cl=mono:d=8[a];{loud}:s={k}[b];[a][b]concat=n=2:v=0:a=1"
+        subprocess.run(["ffmpeg", "-v", "error", "-y", "-filter_complex", graph, "-c:a", "libmp3lame", "-q:a", "2",
+                        "-write_xing", "0", "-id3v2_version", "0", place.path(f"v{k}.mp3")], check=True)
+    write_file(place.folder, "m.m3u", "".join(f"v{k}.mp3\n" for k in range(9)))
+    lines = place.night("--go-on", f"--cache={place.path('cache')}", "--start=1:00:00:00", "f", "0.0217")
+    place.wants("what is played", played(place), [f"v{k}.mp3" for k in range(7)])
+    place.wants("what is found", "; found" in lines[-1], False)
+
+
+def the_same_night_once_more(place):
+    """A night with a start that is rendered twice plays the same; the next one goes on behind it."""
+    first = place.night("--go-on", TODAY, "f", "0.02") and played(place)
+    again = place.night("--go-on", TODAY, "f", "0.02") and played(place)
+    place.wants("the same night", again, first)
+    place.night("--go-on", "--start=tomorrow:20:00", "f", "0.02")
+    place.wants("the night behind it", played(place)[0], f"t{len(first)}.wav")
+    place.wants("its start", content(place.path("A.wav.start")).decode()[:19],
+                f"{datetime.date.today() + datetime.timedelta(1)}T20:00:00")
+
+
+def a_day_of_another_script(place):
+    """Where a calendar plays another script between two nights, its lists are where they were left."""
+    write_file(place.folder, "x.m3u", "t5.wav\nt6.wav\n")
+    write_file(place.folder, "g", content(place.path("f")).replace(b"m.m3u", b"x.m3u"))
+    place.night("--go-on", TODAY, "f", "0.01")
+    place.night("--go-on", "--start=tomorrow:20:00", "g", "0.01")
+    place.night("--go-on", "--start=now", "f", "0.01")
+    place.wants("what goes on", played(place)[0], "t2.wav")
+
+
+def what_cannot_be_read(place):
+    """Entries that cannot be read, and a list that is gone where another source stands behind it, cost no night."""
+    os.mkdir(place.path("folder.wav"))
+    os.symlink("loop.wav", place.path("loop.wav"))
+    write_file(place.folder, "m.m3u", f"t0.wav\nfolder.wav\nloop.wav\n{'x' * 300}.wav\nt1.wav\n")
+    lines = place.night("f", "0.02")
+    place.wants("what is played", set(played(place)), {"t0.wav", "t1.wav"})
+    place.wants("what is found", "; found " in lines[-1], True)
+    place.script('radio = fallback([playlist("gone.m3u"), playlist("m.m3u")])\n'
+                 'output.file(%wav, "A.wav", mean(mksafe(radio)))')
+    lines = place.run("f", "0.02")[1]
+    place.wants("behind a list that is gone", set(played(place)), {"t0.wav", "t1.wav"})
+    place.wants("what is told", [line for line in lines if "list gone.m3u: is not there; what stands" in line] != [], True)
+    place.wants("by --strict", place.run("--strict", "f", "0.02")[0], 1)
+    os.remove(place.path("m.m3u"))
+    place.wants("where nothing is left", place.run("f", "0.02")[0], 1)
+
+
+def a_script_that_is_refused(place):
+    """With --go-on the script that was rendered last is played where the new one is refused, or is not there."""
+    place.night("--go-on", TODAY, "f", "0.01")
+    good = content(place.path("f"))
+    for text in (b"radio = ", good.replace(b"mksafe", b""), good.replace(b"m.m3u", b"none.m3u")):
+        write_file(place.folder, "f", text)
+        lines = place.night("--go-on", TODAY, "f", "0.01")
+        told = [line for line in lines if line.startswith("f: ") and line.endswith("f.last, which was rendered last, is played")]
+        place.wants(f"what is told of {text[-60:]}", len(told), 1)
+        place.wants("without --go-on", place.run(TODAY, "f", "0.01")[0], 1)
+    os.remove(place.path("f"))
+    place.night("--go-on", TODAY, "f", "0.01")
+    place.wants("the script that is kept", content(place.path("f.last")), good)
+
+
+def places_that_are_none(place):
+    """An empty or broken NAME.next is told and kept under another name; the night is there."""
+    for k, text in enumerate((b"", b"my notes", b"\0" * 512, b'{"is": "lists of a night", "next": {"m.m3u": {"entry": "t0.wav", '
+                              b'"place": 1e999}}}', b"[" * 100000)):
+        write_file(place.folder, "A.wav.next", text)
+        lines = place.night("--go-on", "--start=1:00:00:00", "f", "0.01")
+        place.wants(f"what is told of {text[:20]}", [line for line in lines if line.startswith("A.wav.next: is none of a night")] != [],
+                    True)
+        place.wants("what is kept", content(place.path(f"A.wav.next.kept{k + 1}")), text)
+        place.night("--go-on", "--start=1:00:00:00", "f", "0.01")
+        place.wants("the next night", played(place)[0], "t2.wav")
+
+
+def two_nights_over_one_cache(place):
+    """Two stations at the same time over a cache that holds the sounds of one: both have their nights."""
+    if not shutil.which("ffmpeg"):
+        raise Skipped("ffmpeg is missing")
+    scripts = []
+    for station in "ab":
+        names = []
+        for k in range(7):
+            names.append(f"{station}{k}.wav")
+            data = bytes([100 + k]) * (20 * RATE)
+            write_file(place.folder, names[-1], header(len(data), rate=RATE, width=1) + data)
+        write_file(place.folder, f"{station}.m3u", "".join(name + "\n" for name in names))
+        text = content(place.path("f")).decode()
+        write_file(place.folder, station, text.replace("m.m3u", f"{station}.m3u").replace("A.wav", f"{station.upper()}.wav"))
+        scripts.append(station)
+    program = place.slow("sleep 2")
+    runs = [subprocess.Popen([NIGHT, program, f"--cache={place.path('cache')}", "--cache-size=0.0017", script, "0.0333"],
+                             cwd=place.folder, stdin=subprocess.DEVNULL, stdout=subprocess.PIPE, stderr=subprocess.PIPE, text=True)
+            for script in scripts]
+    for script, run in zip(scripts, runs):
+        _, said = run.communicate(timeout=SECONDS)
+        place.wants(f"the night of {script}", (run.returncode, said), (0, ""))
+        place.wants("what is played", played(place, f"{script.upper()}.wav.cue"), [f"{script}{k}.wav" for k in range(6)])
+
+
+def a_name_with_a_tab(place):
+    """A decoded entry whose name has a TAB, and one of several lists, cost no page; titles stand beside the rendering."""
+    if not shutil.which("ffmpeg"):
+        raise Skipped("ffmpeg is missing")
+    for name, title in (("a\tb.flac", "Tab"), ("c.flac", "Song")):
+        subprocess.run(["ffmpeg", "-v", "error", "-y", "-f", "lavfi", "-i", f"sine=d=4:r={RATE}", "-metadata", f"title={title}",
+                        place.path(name)], check=True)
+    write_file(place.folder, "m.m3u", "a\tb.flac\nc.flac\n")
+    write_file(place.folder, "n.m3u", "c.flac\n")
+    place.script('output.file(%wav, "A.wav", mean(mksafe(rotate([playlist("m.m3u"), playlist("n.m3u")]))))')
+    lines = place.night(f"--cache={place.path('cache')}", "f", "0.01")
+    place.wants("the page", lines[-1].partition("; page ")[2], "A.wav.html")
+    place.wants("the titles", content(place.path("A.wav.titles.tsv")), b"c.flac\t\tSong\t\t\t\n")
+    place.wants("the page has them", b"Song</bdi>" in content(place.path("A.wav.html")), True)
+    place.wants("the log has them", [row[4] for row in log_of(place)], ["", "Song", "Song", "Song", "", "Song", "Song", "Song", ""])
+    place.script('output.file(%wav, "A.wav", mean(mksafe(crossfade(duration=4., playlist("l.m3u")))))')
+    for name, seconds in (("u.wav", 20), ("v.wav", 23)):
+        write_file(place.folder, name, sound([n * (2 * seconds + 7) % 9001 - 4500 for n in range(seconds * RATE)], rate=RATE))
+    write_file(place.folder, "l.m3u", "u.wav\nv.wav\n")
+    place.night("f", "0.01")
+    place.wants("seconds in which a faded track is heard", [row[2] for row in log_of(place)], ["20.0", "20.0", "1.0"])
+
+
+def log_of(place):
+    """The rows of the log for royalties, without its head."""
+    done = subprocess.run([PAGE, "--as=log", "--start=2026-12-01:20:00", "A.wav"], cwd=place.folder, capture_output=True, text=True,
+                          check=False, env={**os.environ, "LIQ_PROGRAMS": os.path.dirname(place.program)})
+    return list(csv.reader(done.stdout.split("\n")[1:-1]))
+
+
+def one_loudness_for_all(place):
+    """With --loudness each entry of a list has that loudness, a WAV file too; what a single plays stays as it is."""
+    if not shutil.which("ffmpeg"):
+        raise Skipped("ffmpeg is missing")
+    for name, volume in (("loud.wav", 0.8), ("soft.flac", 0.05), ("soft.wav", 0.05)):
+        subprocess.run(["ffmpeg", "-v", "error", "-y", "-f", "lavfi", "-i", f"sine=f=700:d=20:r={RATE},volume={8 * volume}", "-c:a",
+                        "flac" if name.endswith("flac") else "pcm_s16le", place.path(name)], check=True)
+    write_file(place.folder, "m.m3u", "loud.wav\nsoft.flac\nsoft.wav\n")
+    place.night(f"--cache={place.path('cache')}", "--loudness=-23", "f", "0.0166")
+    samples = left_samples(place.path("A.wav"))
+    peaks = [max(samples[at * RATE:(at + 15) * RATE]) for at in (2, 22, 42)]
+    place.wants("the peaks are alike", max(peaks) < 1.1 * min(peaks), True)
+    place.wants("the names", played(place), ["loud.wav", "soft.flac", "soft.wav"])
+
+
+def a_report(place):
+    """--report has a line of JSON for each call, --quiet prints only what is found, and --call calls an address."""
+    calls = []
+
+    class Handler(http.server.BaseHTTPRequestHandler):
+        """Notes what is called."""
+
+        def do_GET(self):
+            """Answers 200."""
+            calls.append(self.path)
+            self.send_response(200)
+            self.end_headers()
+
+        def log_message(self, *_):
+            """Says nothing."""
+    server = http.server.HTTPServer(("127.0.0.1", 0), Handler)
+    threading.Thread(target=server.serve_forever, daemon=True).start()
+    words = ("--quiet", "--report=r", f"--call=http://127.0.0.1:{server.server_port}/done", TODAY, "f")
+    place.wants("a quiet night", place.run(*words, "0.01"), (0, [], ""))
+    write_file(place.folder, "m.m3u", "t0.wav\ngone.wav\n")
+    status, lines, said = place.run(*words, "0.01")
+    place.wants("a finding", (status, said, lines[0]), (0, "", "list m.m3u: 1 entry is played, 1 is skipped"))
+    write_file(place.folder, "f", "x = y\n")
+    place.wants("no night", place.run(*words, "0.01")[0], 1)
+    told = [json.loads(line) for line in content(place.path("r")).decode().split("\n")[:-1]]
+    place.wants("the report", [(one["status"], one.get("tracks"), one.get("skipped"), len(one["found"])) for one in told],
+                [(0, 2, 0, 0), (0, 2, 1, 2), (1, None, None, 3)])
+    place.wants("what is called", calls, ["/done", "/done"])
+    server.shutdown()
+    place.script('output.file(%wav, "A.wav", mean(mksafe(playlist("m.m3u"))))')
+    status, _, said = place.run("--report=/dev/full", "--call=http://127.0.0.1:1/x", "f", "0.01")
+    place.wants("where it cannot be noted or called", (status, said.count("\n")), (0, 2))
+
+
+def behind_a_crossfade(place):
+    """Behind a crossfade only what is played is decoded, and what is played is the list in its order, in parts too."""
+    if not shutil.which("ffmpeg"):
+        raise Skipped("ffmpeg is missing")
+    names = [f"e{k:02}.wav" for k in range(30)]
+    for k, name in enumerate(names):
+        data = bytes([100 + k]) * ((9 + k % 5) * RATE)
+        write_file(place.folder, name, header(len(data), rate=RATE, width=1) + data)
+    write_file(place.folder, "m.m3u", "".join(name + "\n" for name in names))
+    place.script('output.file(%wav, "A.wav", mean(mksafe(crossfade(duration=3., playlist("m.m3u")))))')
+    place.night(f"--cache={place.path('cache')}", "f", "0.03")
+    found = played(place)
+    place.wants("what is played", found, names[:len(found)])
+    decoded = [name for name in os.listdir(place.path("cache")) if name.endswith(".wav")]
+    place.wants("what is decoded", len(found) <= len(decoded) <= len(found) + 3, True)
+    shutil.rmtree(place.path("cache"))
+    place.night("--go-on", f"--cache={place.path('cache')}", "--part=0.01", "f", "0.04")
+    parts_played = played(place)
+    steps = {(names.index(b) - names.index(a)) % len(names) for a, b in zip(parts_played, parts_played[1:])}
+    place.wants("the steps in parts", steps, {1})
+
+
+def an_entry_that_goes(place):
+    """A file that goes away while it is decoded costs no night, only itself."""
+    if not shutil.which("ffmpeg"):
+        raise Skipped("ffmpeg is missing")
+    for k in range(3):
+        data = bytes([100 + k]) * (20 * RATE)
+        write_file(place.folder, f"e{k}.wav", header(len(data), rate=RATE, width=1) + data)
+    write_file(place.folder, "m.m3u", "e0.wav\ne1.wav\ne2.wav\n")
+    os.mkdir(place.path("bin"))
+    write_file(place.folder, "bin/ffmpeg", f"#!/bin/sh\nrm -f '{place.path('e1.wav')}'\nexec {shutil.which('ffmpeg')} \"$@\"\n")
+    os.chmod(place.path("bin/ffmpeg"), 0o755)
+    status, lines, said = place.run(f"--cache={place.path('cache')}", "f", "0.01",
+                                    env={**os.environ, "PATH": place.path("bin") + ":" + os.environ["PATH"]})
+    place.wants("the end", (status, said), (0, ""))
+    place.wants("what is played", set(played(place)), {"e0.wav", "e2.wav"})
+    place.wants("what is told", "e1.wav: left out: No such file or directory" in lines, True)
+
+
+def parts_are_joined_where_they_lie(place):
+    """Parts become one file where the disk has room for the night and for little more."""
+    os.mkdir(place.path("d"))
+    place.script('output.file(%wav, "d/A.wav", mksafe(playlist("m.m3u")))')
+    call = f"'{NIGHT}' '--program={place.program}' --part=0.0278 f 0.15"
+    printed, said = mounted(place, f"mount -t tmpfs -o size=20m none d || exit 99; {call} >&2; echo $?; stat -c %s d/A.wav; "
+                            "cp d/A.wav B.wav; cp d/A.wav.cue B.wav.cue")
+    place.wants("the end", (printed, said.count("part ") > 4), (f"0\n{44 + 540 * RATE * 4}\n", True))
+    os.mkdir(place.path("e"))
+    place.script('output.file(%wav, "e/A.wav", mksafe(playlist("m.m3u")))')
+    place.call_to("e/A.wav", 13500)
+    for name in ("B.wav", "B.wav.cue"):
+        place.wants(f"the bytes of {name}", content(place.path(name)) == content(place.path(name.replace("B", "e/A"))), True)
+
+
+def refused_behind_the_replacing(place):
+    """Where the system refuses a call behind the replacing, the night is there, and the status says so."""
+    for name in ("unlink", "listdir", "rmdir"):
+        write_file(place.folder, "A.wav", "old")
+        with_fault = (f"import os, sys\nsys.argv = ['liq-night', '--program={place.program}', 'f', '0.002']\n"
+                      f"call, done = os.{name}, []\nreplace = os.replace\n"
+                      "def replacing(*words, **more):\n    done.append(1)\n    return replace(*words, **more)\n"
+                      "def refusing(*words, **more):\n    if done:\n        raise OSError(5, 'refused')\n"
+                      f"    return call(*words, **more)\nos.replace, os.{name} = replacing, refusing\n"
+                      f"exec(compile(open({NIGHT!r}).read(), {NIGHT!r}, 'exec'), {{'__name__': '__main__', '__file__': {NIGHT!r}}})")
+        done = subprocess.run(["python3", "-X", "utf8", "-c", with_fault], cwd=place.folder, capture_output=True, text=True,
+                              check=False, stdin=subprocess.DEVNULL)
+        place.wants(f"where {name} is refused", (done.returncode, content(place.path("A.wav"))[:4], "Traceback" in done.stderr),
+                    (0, b"RIFF", False))
+        shutil.rmtree(place.path(".night-A.wav"), ignore_errors=True)
+
+
+RUNS = (lists_that_share, a_length_that_is_told_too_long, the_same_night_once_more, a_day_of_another_script,
+        what_cannot_be_read, a_script_that_is_refused, places_that_are_none, a_name_with_a_tab, an_entry_that_goes,
+        one_loudness_for_all, a_report, behind_a_crossfade, two_nights_over_one_cache, parts_are_joined_where_they_lie, refused_behind_the_replacing)
