@@ -16,10 +16,6 @@ VARIANT = re.compile(r" +(?P<name>[^\s:(){}]+) : ")
 BINDER = re.compile(r"[({][^(){}:]+ : ")
 ANSWERS = ("Answers", "Invariants", "Proof")
 ROWS = re.compile(r"(Rows|Examples|Checks)$|^Halves")
-# Lemmas that go when their crate is next proved: to take them out proves all that stands above it anew.
-LEFT = {"Rattle.cell_ring.proofs.MarkRuns": ("none_left",), "Rattle.resample.proofs.Eights": ("all_below",),
-        "Rattle.resample.proofs.Numbers": ("is_narrow",),
-        "Rattle.resample.proofs.Rounds": ("block_within", "room_there", "sample_is")}
 
 
 class Lemma(NamedTuple):
@@ -165,8 +161,7 @@ def unreached(top: str) -> List[Lemma]:
 
 def lemmas_unreached(_program: str) -> List[str]:
     """Each lemma of this checkout that nothing reaches, but for those that wait for their crate."""
-    found = (it for it in unreached(TOP) if it.names[0] not in LEFT.get(it.module, ()))
-    return [f"{it.module}: nothing reaches {it.names[0]} in line {it.line}" for it in found]
+    return [f"{it.module}: nothing reaches {it.names[0]} in line {it.line}" for it in unreached(TOP)]
 
 
 checks: Dict[str, Callable[[str], List[str]]] = {"documents/lemmas": lemmas_unreached}

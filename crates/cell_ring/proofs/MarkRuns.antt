@@ -1,5 +1,5 @@
 -- Marks that are kept as runs.
-use Rattle.std.proofs.Common.{◌≡◌, ◌<◌, ◌≤◌, ◌+◌, ◌-◌, ◌∙◌, ◌++◌, ℕ, zero, suc, Bool, true, false, ◌&&◌, List, [], ◌∷◌, Some, None, length, nat_eq, nat_lt, take, drop, slice_get, arith, ap, refl, sym, append-nil, append_assoc, length-append, length-drop, drop-drop, subst, take_all, true≢false}
+use Rattle.std.proofs.Common.{◌≡◌, ◌<◌, ◌≤◌, ◌+◌, ◌-◌, ◌∙◌, ◌++◌, ℕ, zero, suc, Bool, true, false, ◌&&◌, List, [], ◌∷◌, Some, None, length, nat_eq, nat_lt, take, drop, slice_get, arith, ap, refl, sym, append-nil, append_assoc, length-append, drop-drop, subst, take_all, true≢false}
 use Rattle.std.proofs.lemmas.List.{drop_all, drop-replicate}
 use Rattle.std.proofs.lemmas.Bool.Decides.{nat_tests}
 use Rattle.std.proofs.lemmas.Option.{slice_get_past}
@@ -177,13 +177,6 @@ pass_more begins title whole runs run at skip from count more is le rest here be
         sym (ap (λ n. passing begins title (slice_get whole (from + n))) there)
         ∙ ap (passing begins title) (at_run whole runs run at skip from count k is (omega (arith, large, lt, le)) rest)
         ∙ passes_on begins title run skip k here
-
--- the end of all runs
-pub none_left : (whole : List CellMark) (runs : List MarkRun) (at skip from count : ℕ) → length runs ≤ at → drop skip (marks_in (drop at runs)) ≡ drop (from + count) whole → length whole ≤ from + count
-none_left whole runs at skip from count past rest =
-    let none = ap (λ l. drop skip (marks_in l)) (drop_all at runs past) ∙ drop_all skip [] (omega arith) in
-    let empty = ap length (sym none ∙ rest) in
-    omega (arith, empty, length-drop (from + count) whole)
 
 -- the marks of a run that a walk stands at, and of those behind it
 pub marks_behind : (runs : List MarkRun) (run : MarkRun) (at : ℕ) → slice_get runs at ≡ Some run

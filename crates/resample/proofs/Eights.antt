@@ -1,16 +1,14 @@
 -- Eight samples at another rate, made of samples that lie before the last one.
-use Rattle.std.proofs.Common.{◌≡◌, ◌<◌, ◌≤◌, ◌+◌, ◌-◌, ◌*◌, ◌∙◌, ℕ, zero, suc, ℤ, List, ◌∷◌, ◌++◌, length, map, take, arith, ap, sym, refl, subst}
-use Rattle.std.specs.Prelude.{min}
+use Rattle.std.proofs.Common.{◌≡◌, ◌<◌, ◌≤◌, ◌+◌, ◌-◌, ◌*◌, ◌∙◌, ℕ, zero, suc, ℤ, List, ◌∷◌, ◌++◌, length, map, take, arith, ap, sym, refl}
 use Rattle.std.specs.List.{range_with_len}
-use Rattle.std.specs.Simd.Lanes.{put_chunk, Each1}
+use Rattle.std.specs.Simd.Lanes.{put_chunk}
 use Rattle.std.proofs.lemmas.List.FromFn.{length-map-range_with_len}
 use Rattle.std.proofs.lemmas.Simd.{take_more_put_chunk}
-use Rattle.std.proofs.lemmas.Nat.{mod_below}
 use Rattle.std.proofs.Math.Nat.{mul-lt-mul_of_pos_right, lt_of_mul-lt-mul_right}
 use Rattle.sample_kernels.specs.Mixing.{faded_each}
 use Rattle.resample.specs.Changes.{samples_in, IsSource, IsWay}
 use Rattle.resample.specs.Places.{reached}
-use Rattle.resample.specs.Resampled.{blocks_of, interpolated, parts_behind, resampled_sample, sample_before, sample_behind, side_at}
+use Rattle.resample.specs.Resampled.{interpolated, parts_behind, resampled_sample, sample_before, sample_behind, side_at}
 use Rattle.resample.specs.declared.changed.Source.{Source}
 use Rattle.resample.specs.declared.place.Place.{Place}
 use Rattle.resample.specs.declared.place.Way.{Way}
@@ -35,10 +33,6 @@ module _ (source : Source) (way : Way) (j side : ℕ) (place : Place) (less : pl
 
   pub part_is : place.part ≡ parts_behind way.from way.to j
   part_is = at_part way.from way.to j place.block place.part less is
-
-pub all_below : (from to at n : ℕ) → 0 < to → Each1 (λ part. part < to) (map (parts_behind from to) (range_with_len at n))
-all_below from to at zero some = tt
-all_below from to at (suc n) some = (mod_below (at * from) to some, all_below from to (at + 1) n some)
 
 faded_all : (f g : ℕ → ℤ) (h : ℕ → ℕ) (to at n : ℕ) → faded_each (map f (range_with_len at n)) (map g (range_with_len at n)) (map h (range_with_len at n)) to
     ≡ map (λ j. interpolated (f j) (g j) (h j) to) (range_with_len at n)

@@ -1,5 +1,5 @@
 -- Samples that stand in bytes, one by one.
-use Rattle.std.proofs.Common.{◌≡◌, ◌<◌, ◌≤◌, ◌+◌, ◌*◌, ◌/◌, ◌∙◌, ℕ, zero, suc, pos, Bool, true, false, cond, List, [], ◌∷◌, length, get_or, arith, ap, refl, sym}
+use Rattle.std.proofs.Common.{◌≡◌, ◌<◌, ◌≤◌, ◌+◌, ◌*◌, ◌/◌, ◌∙◌, ℕ, zero, suc, pos, Bool, true, false, List, [], ◌∷◌, length, get_or, arith, ap, refl, sym}
 use Rattle.resample.specs.Bytes.{sample_in, samples_at, samples_from, wide_samples_in}
 
 -- each sample has two bytes, or three
@@ -68,8 +68,3 @@ pub is_wide : (wide : Bool) (bytes : List ℕ) (at : ℕ) → wide ≡ true → 
     → get_or (samples_at wide bytes) at (pos 0) ≡ sample_in (get_or bytes (3 * at + 1) 0) (get_or bytes (3 * at + 2) 0)
 is_wide true bytes at is less = wide_is bytes at (wide_there bytes at less)
 is_wide false bytes at is less = absurd (cc)
-
-pub is_narrow : (wide : Bool) (bytes : List ℕ) (at : ℕ) → wide ≡ false → at < length (samples_at wide bytes)
-    → get_or (samples_at wide bytes) at (pos 0) ≡ sample_in (get_or bytes (2 * at) 0) (get_or bytes (2 * at + 1) 0)
-is_narrow true bytes at is less = absurd (cc)
-is_narrow false bytes at is less = narrow_is bytes at (narrow_there bytes at less)

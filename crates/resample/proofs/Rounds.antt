@@ -1,6 +1,5 @@
 -- The rounds of the loop: one for each block that is written.
-use Rattle.std.proofs.Common.{◌≡◌, ◌<◌, ◌≤◌, ◌+◌, ◌*◌, ◌/◌, ◌-◌, ◌∙◌, ℕ, ℤ, pos, List, length, get_or, set, arith, ap, sym}
-use Rattle.std.specs.Prelude.{min}
+use Rattle.std.proofs.Common.{◌≡◌, ◌<◌, ◌≤◌, ◌+◌, ◌*◌, ◌/◌, ◌-◌, ◌∙◌, ℕ, ℤ, pos, List, length, get_or, set, arith, ap}
 use Rattle.std.proofs.lemmas.List.Edits.{fill_by_more}
 use Rattle.std.proofs.lemmas.List.FromFn.{fill_by_all}
 use Rattle.std.proofs.lemmas.Nat.{div-add-mod', mul-add-lt, mul-le}
@@ -8,9 +7,8 @@ use Rattle.std.proofs.Math.Nat.{mul-div_left, mul-le-mul_right, mul_comm}
 use Rattle.liq_base.specs.Kinds.{channels_of}
 use Rattle.liq_base.specs.declared.memory.Kind.{Kind}
 use Rattle.liq_base.specs.declared.memory.Kind.TheVariants.{Mono, Stereo}
-use Rattle.resample.specs.Resampled.{AreRates, IsFile, interpolated, block_before, blocks_of, output_length, parts_behind, resampled, sample_before, sample_behind, side_at}
-use Rattle.resample.proofs.Formulas.{number_at, numbered, some_channels}
-use Rattle.resample.proofs.Moves.{within}
+use Rattle.resample.specs.Resampled.{IsFile, blocks_of, output_length, resampled}
+use Rattle.resample.proofs.Formulas.{numbered, some_channels}
 
 few_channels : (kind : Kind) → channels_of kind ≤ 2
 few_channels Mono = omega arith
@@ -24,14 +22,6 @@ rounds from to kind samples start channels is room =
     ∙ ap (λ n. n / channels_of kind) room
     ∙ mul-div_left (output_length (blocks_of kind samples) from to) (some_channels kind)
 
--- in each the place lies within the file
-pub block_within : (from to : ℕ) (kind : Kind) (samples start : List ℤ) (channels j block part : ℕ) → AreRates from to → IsFile kind samples → channels ≡ channels_of kind →
-    length start ≡ output_length (blocks_of kind samples) from to * channels_of kind → j < length start / channels → block * to + part ≡ j * from → block < blocks_of kind samples
-block_within from to kind samples start channels j block part rates file is room less whole =
-    let all = rounds from to kind samples start channels is room in
-    let least = rates.least in
-    within (blocks_of kind samples) from to j block part file.some rates.some (omega (arith, least)) (omega (arith, less, all)) whole
-
 -- a sample of a block of the file is there, and no number on the way to it is large
 pub sample_there : (kind : Kind) (samples : List ℤ) (channels block side : ℕ) → channels ≡ channels_of kind → IsFile kind samples → block < blocks_of kind samples → side < channels →
     (block * channels + side < length samples) × (block * channels + side < 268435456)
@@ -43,28 +33,6 @@ sample_there kind samples channels block side is file below less =
     let rest = file.whole_blocks in
     let most = mul-le (blocks_of kind samples) (channels_of kind) 134217728 2 file.most (few_channels kind) in
     (omega (arith, same, inside, turned, all, rest), omega (arith, same, inside, turned, most))
-
--- and a sample that is written has its place
-pub room_there : (from to : ℕ) (kind : Kind) (samples start : List ℤ) (channels j side : ℕ) → channels ≡ channels_of kind →
-    length start ≡ output_length (blocks_of kind samples) from to * channels_of kind → j < length start / channels → side < channels →
-    j * channels_of kind + side < length start
-room_there from to kind samples start channels j side is room less below =
-    let all = rounds from to kind samples start channels is room in
-    let inside = mul-add-lt j (channels_of kind) side (output_length (blocks_of kind samples) from to) (omega (arith, less, all)) (omega (arith, is, below)) in
-    let turned = mul_comm (channels_of kind) (output_length (blocks_of kind samples) from to) in
-    omega (arith, inside, turned, room)
-
--- what is written is the sample at its place
-pub sample_is : (from to : ℕ) (kind : Kind) (samples : List ℤ) (j side block part next : ℕ) (x y z : ℤ) → side < channels_of kind →
-    block ≡ block_before from to j → part ≡ parts_behind from to j → next ≡ min (block + 1) (blocks_of kind samples - 1) →
-    x ≡ side_at kind samples block side → y ≡ side_at kind samples next side → z ≡ interpolated x y part to →
-    z ≡ numbered from to kind samples (j * channels_of kind + side)
-sample_is from to kind samples j side block part next x y z less is_block is_part is_next is_x is_y is_z =
-    is_z
-    ∙ ap (λ a. interpolated a y part to) (is_x ∙ ap (λ n. side_at kind samples n side) is_block)
-    ∙ ap (λ b. interpolated (sample_before from to kind samples j side) b part to) (is_y ∙ ap (λ n. side_at kind samples n side) (is_next ∙ ap (λ n. min (n + 1) (blocks_of kind samples - 1)) is_block))
-    ∙ ap (λ n. interpolated (sample_before from to kind samples j side) (sample_behind from to kind samples j side) n to) is_part
-    ∙ sym (number_at from to kind samples j side less)
 
 -- one sample more is written
 pub one_more : (f : ℕ → ℤ) (into : List ℤ) (i j : ℕ) (z : ℤ) → i ≡ j → j < length into → z ≡ f j → ((k : ℕ) → k < j → get_or into k (pos 0) ≡ f k) →

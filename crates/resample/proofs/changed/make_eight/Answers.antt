@@ -8,7 +8,7 @@ use Rattle.sample_kernels.proofs.Fadings.{taken_all}
 use Rattle.resample.specs.Changes.{samples_in}
 use Rattle.resample.specs.Places.{reached}
 use Rattle.resample.specs.Resampled.{parts_behind, sample_before, sample_behind}
-use Rattle.resample.proofs.Eights.{all_below, before_is, behind_is, block_inside, eight_made, part_is}
+use Rattle.resample.proofs.Eights.{before_is, behind_is, block_inside, eight_made, part_is}
 use Rattle.resample.proofs.Moves.{next_place}
 use Rattle.resample.proofs.changed.make_eight.Goals as goal
 
