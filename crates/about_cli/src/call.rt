@@ -1,6 +1,7 @@
 // The top call.
 ghost use Rattle.std.specs.Prelude.{◌≡◌, ◌≢◌, [], None, Some, IfOk, if◌then◌else◌};
-ghost use Rattle.about_cli.specs.Ends.{AsksForFiles, Ends, IsComplete, IsPassedBy, IsScript, Passed, Puts, TellsLong, TellsText, Told, outside_of};
+ghost use Rattle.about_cli.specs.Ends.{AsksForFiles, Ends, IsComplete, IsPassedBy, IsScript, Passed, Puts, TellsLong};
+ghost use Rattle.about_cli.specs.Ends.{TellsText, Told, outside_of};
 ghost use Rattle.about_cli.specs.Words.{texts};
 ghost use Rattle.liq_base.specs.Shelves.{OnlyRead, ShelfTold};
 
@@ -34,9 +35,9 @@ const NO_OUTPUT: u8 = 4;
 /// Memory was refused.
 const NO_MEMORY: u8 = 5;
 
-/// Tells what the words ask about a script of `scripts`, whose files are those of `shelf`, and answers the status, from 0
-/// to 5. `out` gets the answer in one piece, but for `where`, which passes the lines of `input` on. Both `out` and `err`
-/// tell no room left. Nothing is read from `shelf` unless the words ask for `files`.
+/// Tells what the words ask about a script of `scripts`, whose files are those of `shelf`, and answers the status, from
+/// 0 to 5. `out` gets the answer in one piece, but for `where`, which passes the lines of `input` on. Both `out` and
+/// `err` tell no room left. Nothing is read from `shelf` unless the words ask for `files`.
 pub fn about<T: Shelf, S: Shelf, I: Read + Drop, O: Sink, E: Sink>(
     alloc: Global,
     words: &[String],
@@ -133,7 +134,8 @@ fn answer<T: Shelf, S: Shelf, O: Sink>(
     out: &mut O,
 ) -> u8
     requires { (O.told out.old).room ≡ None }
-    ensures told { Told question file.now (T.told scripts.old) (T.told scripts.new) (S.told shelf.old) (S.told shelf.new)
+    ensures told { Told question file.now (T.told scripts.old) (T.told scripts.new) (S.told shelf.old)
+        (S.told shelf.new)
         (O.told out.old) (O.told out.new) result }
     ensures scripts { OnlyRead (T.told scripts.old) (T.told scripts.new) }
     ensures shelf { OnlyRead (S.told shelf.old) (S.told shelf.new) }
@@ -180,7 +182,8 @@ fn tell<S: Shelf, O: Sink>(
     out: &mut O,
 ) -> u8
     requires { (O.told out.old).room ≡ None }
-    ensures told { TellsText question text.now (S.told shelf.old) (S.told shelf.new) (O.told out.old) (O.told out.new) result }
+    ensures told { TellsText question text.now (S.told shelf.old) (S.told shelf.new) (O.told out.old) (O.told out.new)
+        result }
     ensures shelf { OnlyRead (S.told shelf.old) (S.told shelf.new) }
     ensures untouched { question ≢ Question.Files → shelf.new ≡ shelf.old }
 {

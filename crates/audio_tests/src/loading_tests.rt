@@ -11,11 +11,13 @@ use wav_io::{WavFault, read_head};
 
 /// The mono file of the samples 1 2 3 at 44100 Hz, of 50 bytes.
 const FILE: [u8; 50] =
-    *b"RIFF\x2a\x00\x00\x00WAVEfmt \x10\x00\x00\x00\x01\x00\x01\x00\x44\xac\x00\x00\x88\x58\x01\x00\x02\x00\x10\x00data\x06\x00\x00\x00\x01\x00\x02\x00\x03\x00";
+    *b"RIFF\x2a\x00\x00\x00WAVEfmt \x10\x00\x00\x00\x01\x00\x01\x00\x44\xac\x00\x00\x88\x58\x01\x00\x02\x00\x10\
+    \x00data\x06\x00\x00\x00\x01\x00\x02\x00\x03\x00";
 
 /// The mono file of the samples 0 100 at 4000 Hz, of 48 bytes.
 const SLOW: [u8; 48] =
-    *b"RIFF\x28\x00\x00\x00WAVEfmt \x10\x00\x00\x00\x01\x00\x01\x00\xa0\x0f\x00\x00\x40\x1f\x00\x00\x02\x00\x10\x00data\x04\x00\x00\x00\x00\x00\x64\x00";
+    *b"RIFF\x28\x00\x00\x00WAVEfmt \x10\x00\x00\x00\x01\x00\x01\x00\xa0\x0f\x00\x00\x40\x1f\x00\x00\x02\x00\x10\
+    \x00data\x04\x00\x00\x00\x00\x00\x64\x00";
 
 /// The audio files, a file of text, and two lists: one of B, the text and a file that is not there, and one of files at
 /// two rates.
@@ -184,8 +186,8 @@ fn audio_files_are_of_bounded_size_and_lists_skip_what_is_none(rt: HostRuntime) 
     check(&rt, rt.alloc(), ROWS);
 }
 
-/// How many bytes of the file of three samples are its front, how many bytes the whole file has, and what they tell: the
-/// place of the first block and the bytes of all, a fault, or nothing.
+/// How many bytes of the file of three samples are its front, how many bytes the whole file has, and what they tell:
+/// the place of the first block and the bytes of all, a fault, or nothing.
 const HEADS: &[(usize, u64, Option<Result<(u64, u64), WavFault>>)] = &[
     (44, 50, Some(Ok((44, 6)))),
     (44, 49, Some(Ok((44, 4)))),

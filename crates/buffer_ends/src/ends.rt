@@ -1,5 +1,6 @@
 // A clock's ends of the buffers that join it to other clocks.
-ghost use Rattle.std.specs.Prelude.{◌≡◌, ◌≢◌, ◌<◌, ℕ, map, length, count_by, not, IfSome, IfNone, IfOk, IfErr, OnErr, slice_index_or, slice_set};
+ghost use Rattle.std.specs.Prelude.{◌≡◌, ◌≢◌, ◌<◌, ℕ, map, length, count_by, not, IfSome, IfNone, IfOk, IfErr, OnErr};
+ghost use Rattle.std.specs.Prelude.{slice_index_or, slice_set};
 ghost use Rattle.buffer_queue.specs.Window.{Puts, Takes, Closes, is_chunk};
 ghost use Rattle.buffer_ends.specs.Local.{LocalBuffer, all_answers, counts_of, yes};
 ghost use Rattle.buffer_ends.specs.Ends.{PutsCounted, TakesCounted};

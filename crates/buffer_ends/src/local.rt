@@ -1,8 +1,10 @@
 // A buffer whose both ends one clock has.
-ghost use Rattle.std.specs.Prelude.{◌≡◌, ℕ, ◌<◌, ◌≤◌, List, [], ◌∷◌, map, length, slice_index_or, slice_set, vec_capacity, IfOk, IfErr, OnOk, OnErr, IsOk};
+ghost use Rattle.std.specs.Prelude.{◌≡◌, ℕ, ◌<◌, ◌≤◌, List, [], ◌∷◌, map, length, slice_index_or, slice_set};
+ghost use Rattle.std.specs.Prelude.{vec_capacity, IfOk, IfErr, OnOk, OnErr, IsOk};
 ghost use Rattle.frame_core.specs.Calls.{Call, IsGive};
 ghost use Rattle.frame_core.specs.Calls.Call.{Took};
-ghost use Rattle.buffer_ends.specs.Local.{LocalBuffer, held, empty_buffer, planned, closed, closed_first, closed_windows, counts_of, all_answers, Step};
+ghost use Rattle.buffer_ends.specs.Local.{LocalBuffer, held, empty_buffer, planned, closed, closed_first};
+ghost use Rattle.buffer_ends.specs.Local.{closed_windows, counts_of, all_answers, Step};
 ghost use Rattle.buffer_ends.specs.Same.{SameBuffer, SameBuffers};
 
 use crate::counts::Counts;

@@ -1,8 +1,10 @@
 // The buffers whose both ends one clock has.
-ghost use Rattle.std.specs.Prelude.{◌≡◌, ◌<◌, [], map, length, slice_index_or, slice_set, IfOk, IfErr, OnOk, OnErr, IsOk};
+ghost use Rattle.std.specs.Prelude.{◌≡◌, ◌<◌, [], map, length, slice_index_or, slice_set, IfOk, IfErr, OnOk, OnErr};
+ghost use Rattle.std.specs.Prelude.{IsOk};
 ghost use Rattle.frame_core.specs.Calls.{Call, Adds, IsGive};
 ghost use Rattle.frame_core.specs.Calls.Call.{Took};
-ghost use Rattle.buffer_ends.specs.Local.{LocalBuffer, held, planned, closed, closed_windows, counts_of, all_answers, Step};
+ghost use Rattle.buffer_ends.specs.Local.{LocalBuffer, held, planned, closed, closed_windows, counts_of, all_answers};
+ghost use Rattle.buffer_ends.specs.Local.{Step};
 ghost use Rattle.buffer_ends.specs.Ends.{LocalStands};
 ghost use Rattle.buffer_ends.specs.Same.{SameBuffers};
 

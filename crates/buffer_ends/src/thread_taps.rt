@@ -1,5 +1,6 @@
 // The buffers of one clock beside other clocks.
-ghost use Rattle.std.specs.Prelude.{◌≡◌, ◌++◌, ◌∷◌, [], ◌<◌, ◌⊎◌, ℕ, List, length, slice_index_or, slice_set, OnOk, OnErr};
+ghost use Rattle.std.specs.Prelude.{◌≡◌, ◌++◌, ◌∷◌, [], ◌<◌, ◌⊎◌, ℕ, List, length, slice_index_or, slice_set, OnOk};
+ghost use Rattle.std.specs.Prelude.{OnErr};
 ghost use Rattle.buffer_ends.specs.Borders.{HaveEnds, WasClosed};
 ghost use Rattle.frame_core.specs.Calls.{Call};
 ghost use Rattle.buffer_ends.specs.Local.{LocalBuffer, closed};

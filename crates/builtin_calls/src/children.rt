@@ -5,7 +5,8 @@ ghost use Rattle.time_pred.specs.View.{view_shared};
 ghost use Rattle.script_values.specs.Gives.{Gives};
 ghost use Rattle.script_values.specs.View.{view_value};
 ghost use Rattle.script_values.specs.Views.{view_given};
-ghost use Rattle.builtin_calls.specs.Builtins.{fallback, few_pairs, few_sources, over_sources, random, seed_of, sensitive_or, add_sources, switch};
+ghost use Rattle.builtin_calls.specs.Builtins.{fallback, few_pairs, few_sources, over_sources, random, seed_of};
+ghost use Rattle.builtin_calls.specs.Builtins.{sensitive_or, add_sources, switch};
 
 use crate::nodes::{add, few};
 use crate::parts::{bool_or, int_or, one_kind};

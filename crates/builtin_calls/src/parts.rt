@@ -3,7 +3,9 @@ ghost use Rattle.std.specs.Prelude.{map};
 ghost use Rattle.script_values.specs.Gives.{Gives};
 ghost use Rattle.script_values.specs.View.{view_value};
 ghost use Rattle.script_values.specs.Views.{view_given};
-ghost use Rattle.builtin_calls.specs.Parts.{as_bool, bool_or, as_decimal, decimal_or, as_format, as_int, int_or, one_kind, plain_argument, plain_decimal, plain_format, plain_text, as_text, text_or};
+ghost use Rattle.builtin_calls.specs.Parts.{as_bool, bool_or, as_decimal, decimal_or, as_format, as_int, int_or};
+ghost use Rattle.builtin_calls.specs.Parts.{one_kind, plain_argument, plain_decimal, plain_format, plain_text, as_text};
+ghost use Rattle.builtin_calls.specs.Parts.{text_or};
 
 use fixed_text::Decimal;
 use liq_base::{Kind, Text};

@@ -4,7 +4,8 @@ ghost use Rattle.script_values.specs.Gives.{Gives};
 ghost use Rattle.script_values.specs.View.{view_value};
 ghost use Rattle.script_values.specs.Views.{view_given};
 ghost use Rattle.builtin_calls.specs.Builtins.{set};
-ghost use Rattle.builtin_calls.specs.Settings.{duration_of, settings_opened, rate_of, rate_within, set_duration, set_rate, setting};
+ghost use Rattle.builtin_calls.specs.Settings.{duration_of, settings_opened, rate_of, rate_within, set_duration};
+ghost use Rattle.builtin_calls.specs.Settings.{set_rate, setting};
 
 use crate::parts::{plain, plain_text};
 use fixed_text::Decimal;

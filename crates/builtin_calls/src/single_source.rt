@@ -3,7 +3,8 @@ ghost use Rattle.std.specs.Prelude.{◌≡◌, ◌<◌, length, map};
 ghost use Rattle.script_values.specs.Gives.{Gives};
 ghost use Rattle.script_values.specs.View.{view_value};
 ghost use Rattle.script_values.specs.Views.{view_given};
-ghost use Rattle.builtin_calls.specs.Builtins.{amplify, buffer, buffer_plan, clock, crossfade, mean, mksafe, safe, short_overlap, stereo};
+ghost use Rattle.builtin_calls.specs.Builtins.{amplify, buffer, buffer_plan, clock, crossfade, mean, mksafe, safe};
+ghost use Rattle.builtin_calls.specs.Builtins.{short_overlap, stereo};
 
 use crate::nodes::{add, add_buffer, at_most, one_child, push, room_over, two_children};
 use crate::parts::{decimal_or, one_kind, plain_decimal, text_or};

@@ -5,7 +5,8 @@ ghost use Rattle.script_values.specs.Gives.{Gives};
 ghost use Rattle.script_values.specs.View.{view_value};
 ghost use Rattle.script_values.specs.Views.{view_given};
 ghost use Rattle.script_values.specs.Values.{many};
-ghost use Rattle.builtin_calls.specs.Parts.{is_kind, nodes_from, of_kind, pair_in, case_of, pairs_from, pairs_of, plain_pairs, plain_source, plain_sources, pred_of, source_of, sources_of};
+ghost use Rattle.builtin_calls.specs.Parts.{is_kind, nodes_from, of_kind, pair_in, case_of, pairs_from, pairs_of};
+ghost use Rattle.builtin_calls.specs.Parts.{plain_pairs, plain_source, plain_sources, pred_of, source_of, sources_of};
 
 use crate::parts::plain;
 use liq_base::Kind;

@@ -1,5 +1,6 @@
 // Cells that come in chunks.
-ghost use Rattle.std.specs.Prelude.{◌≡◌, ◌+◌, ◌<◌, ◌≤◌, [], ◌++◌, ℕ, true, false, length, map, max, take, drop, slice_get, IfOk};
+ghost use Rattle.std.specs.Prelude.{◌≡◌, ◌+◌, ◌<◌, ◌≤◌, [], ◌++◌, ℕ, true, false, length, map, max, take, drop};
+ghost use Rattle.std.specs.Prelude.{slice_get, IfOk};
 ghost use Rattle.frame_core.specs.Chunks.{cells_in};
 ghost use Rattle.frame_core.specs.MarkRuns.{marks_in};
 ghost use Rattle.frame_core.specs.Slots.{goes_on};

@@ -1,5 +1,6 @@
 // A ring of marks, which are kept as runs of one title.
-ghost use Rattle.std.specs.Prelude.{◌≡◌, ◌+◌, ◌<◌, ◌≤◌, ◌^◌, [], ◌∷◌, ◌++◌, ℕ, true, false, length, drop, slice_get, Some, IfOk};
+ghost use Rattle.std.specs.Prelude.{◌≡◌, ◌+◌, ◌<◌, ◌≤◌, ◌^◌, [], ◌∷◌, ◌++◌, ℕ, true, false, length, drop, slice_get};
+ghost use Rattle.std.specs.Prelude.{Some, IfOk};
 ghost use Rattle.circular_buffer.specs.Buffer.{Buffer, buffer};
 ghost use Rattle.cell_ring.specs.Lanes.{begins_none, has_name};
 ghost use Rattle.frame_core.specs.MarkRuns.{joins, mark_at, marks_in, run_marks};

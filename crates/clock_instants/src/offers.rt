@@ -3,7 +3,8 @@ ghost use Rattle.std.specs.Prelude.{◌≡◌, ◌<◌, ℕ, List, Some, true, f
 ghost use Rattle.plan_core.specs.declared.node.Node.{Node as PlanNode};
 ghost use Rattle.clock_infer.specs.declared.clock_map.NodeClock.{NodeClock as Clock};
 ghost use Rattle.frame_core.specs.Slots.{Slot as TheSlot};
-ghost use Rattle.stream_meaning.specs.Instants.{Setting, Moment, lies_in, part_at, part_in, parts_upto, second_at, silent, work_at};
+ghost use Rattle.stream_meaning.specs.Instants.{Setting, Moment, lies_in, part_at, part_in, parts_upto, second_at};
+ghost use Rattle.stream_meaning.specs.Instants.{silent, work_at};
 ghost use Rattle.node_states.specs.States.{AreLong, Fits, IsSettled, StateStands};
 ghost use Rattle.clock_nodes.specs.Nodes.{AreNodesOf, lies_at};
 ghost use Rattle.clock_nodes.specs.Scenes.{IsScene, setting_over};

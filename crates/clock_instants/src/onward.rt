@@ -7,7 +7,8 @@ ghost use Rattle.node_states.specs.Stretches.{LiesAhead};
 ghost use Rattle.node_states.specs.States.{Fits};
 ghost use Rattle.clock_nodes.specs.Nodes.{AreNodesOf, lies_at};
 ghost use Rattle.clock_instants.specs.Sides.{both};
-ghost use Rattle.clock_instants.specs.Stretches.{CanRunNode, CanRunNodes, HasKeptSamples, HasLanes, HasRoomToRun, HasStretchRoom, IsNodeToRun, IsSpare, NodeMade, NodeRun, NodesRun};
+ghost use Rattle.clock_instants.specs.Stretches.{CanRunNode, CanRunNodes, HasKeptSamples, HasLanes, HasRoomToRun};
+ghost use Rattle.clock_instants.specs.Stretches.{HasStretchRoom, IsNodeToRun, IsSpare, NodeMade, NodeRun, NodesRun};
 ghost use Rattle.clock_nodes.specs.States.{AllFit};
 
 use crate::held::title_below;

@@ -5,7 +5,8 @@ ghost use Rattle.node_states.specs.States.{Fits};
 ghost use Rattle.clock_nodes.specs.Nodes.{AreNodesOf, lies_at};
 ghost use Rattle.clock_nodes.specs.Scenes.{IsScene};
 ghost use Rattle.clock_nodes.specs.States.{AllFit};
-ghost use Rattle.clock_instants.specs.Takes.{HasReader, HaveBegun, HaveTakenSome, IsReader, NodeBegan, NodeTookSome, ReadersAreIn};
+ghost use Rattle.clock_instants.specs.Takes.{HasReader, HaveBegun, HaveTakenSome, IsReader, NodeBegan, NodeTookSome};
+ghost use Rattle.clock_instants.specs.Takes.{ReadersAreIn};
 
 use clock_infer::NodeClock;
 use clock_nodes::{ClockNodes, Scene};

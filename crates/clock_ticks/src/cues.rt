@@ -1,5 +1,6 @@
 // The marks that an engine keeps for its outputs: where a track began.
-ghost use Rattle.std.specs.Prelude.{◌≡◌, ℕ, Some, None, true, false, [], ◌∷◌, length, take, slice_get, IfOk, OnOk, OnErr};
+ghost use Rattle.std.specs.Prelude.{◌≡◌, ℕ, Some, None, true, false, [], ◌∷◌, length, take, slice_get, IfOk, OnOk};
+ghost use Rattle.std.specs.Prelude.{OnErr};
 ghost use Rattle.clock_ticks.specs.declared.cues.CueList.{CueList as Marks};
 ghost use Rattle.clock_ticks.specs.declared.fault.TickFault.{TickFault as Fault};
 ghost use Rattle.clock_ticks.specs.Cues.{HasGrown, HasKept, HasMarked, marks_if, marks_of};

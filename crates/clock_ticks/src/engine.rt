@@ -3,19 +3,22 @@ ghost use Rattle.clock_ticks.specs.declared.fault.TickFault.{TickFault as Fault}
 ghost use Rattle.clock_ticks.specs.declared.fault.TickFault.TheVariants.{Memory as OutOfMemory, Write};
 ghost use Rattle.frame_core.specs.Calls.{Call, Answer};
 ghost use Rattle.clock_outputs.specs.Feeds.{HaveGiven, HaveGivenSome};
-ghost use Rattle.std.specs.Prelude.{◌≡◌, ◌<◌, ◌≤◌, ◌+◌, ◌⊎◌, ℕ, Some, None, true, false, List, [], All, map, length, IfOk, OnOk, OnErr, IfErr};
+ghost use Rattle.std.specs.Prelude.{◌≡◌, ◌<◌, ◌≤◌, ◌+◌, ◌⊎◌, ℕ, Some, None, true, false, List, [], All, map, length};
+ghost use Rattle.std.specs.Prelude.{IfOk, OnOk, OnErr, IfErr};
 ghost use Rattle.plan_core.specs.Plans.{IsWellFormed};
 ghost use Rattle.clock_infer.specs.Answers.{IsClockMap};
 ghost use Rattle.frame_core.specs.Library.{IsLibrary};
 ghost use Rattle.clock_ticks.specs.Standing.{IsClockState};
 ghost use Rattle.clock_ticks.specs.Hearings.{Heard, HeardSome};
-ghost use Rattle.clock_ticks.specs.Engines.{AreClocksOf, AreParts, EngineStands, EngineStopped, IsWhole, after_tick, feed_of, outputs_of, hearing_of, setting_of};
+ghost use Rattle.clock_ticks.specs.Engines.{AreClocksOf, AreParts, EngineStands, EngineStopped, IsWhole, after_tick};
+ghost use Rattle.clock_ticks.specs.Engines.{feed_of, outputs_of, hearing_of, setting_of};
 ghost use Rattle.clock_ticks.specs.Pieces.{GotSomePieces};
 ghost use Rattle.stream_meaning.specs.Sinks.{cues, gaps, IsOutput};
 ghost use Rattle.clock_ticks.specs.Cues.{mark_of};
 ghost use Rattle.stream_meaning.specs.Instants.{with_rest};
 ghost use Rattle.clock_instants.specs.Takes.{HasReader};
-ghost use Rattle.clock_ticks.specs.Ticks.{HasEnds, HasFailed, HasMade, HaveTickRoom, HaveTicksRoom, IsWriteFault, TookTick};
+ghost use Rattle.clock_ticks.specs.Ticks.{HasEnds, HasFailed, HasMade, HaveTickRoom, HaveTicksRoom, IsWriteFault};
+ghost use Rattle.clock_ticks.specs.Ticks.{TookTick};
 
 use crate::TickFault;
 use crate::clock_state::ClockState;

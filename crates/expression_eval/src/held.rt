@@ -3,7 +3,9 @@ ghost use Rattle.std.specs.Prelude.{◌≡◌, Some};
 ghost use Rattle.std.specs.List.{list_any};
 ghost use Rattle.eval_meaning.specs.Calls.{holds_call, is_set, is_setting, means_set};
 ghost use Rattle.script_grammar.specs.declared.tree.StmtPart.TheVariants.{Call as a_call};
-ghost use Rattle.script_grammar.specs.View.{view_added, view_and, view_arg, view_compare, view_expr, view_full, view_if, view_multiplied, view_not, view_part, view_operand, view_product, view_sum};
+ghost use Rattle.script_grammar.specs.View.{view_added, view_and, view_arg, view_compare, view_expr, view_full};
+ghost use Rattle.script_grammar.specs.View.{view_if, view_multiplied, view_not, view_part, view_operand, view_product};
+ghost use Rattle.script_grammar.specs.View.{view_sum};
 ghost use Rattle.typing_rules.specs.Kinds.{target_said};
 ghost use Rattle.typing_rules.specs.Uses.{use_at};
 

@@ -2,7 +2,8 @@
 ghost use Rattle.std.specs.Prelude.{◌≡◌, ◌↔◌, ◌⊎◌, List, ℕ, Option, None, OnOk, IfOk, IfErr, IsTrue};
 ghost use Rattle.std.specs.Option.{ForSome};
 ghost use Rattle.std.specs.Io.KnownBytes.{Keeps};
-ghost use Rattle.file_sinks.specs.Sinks.{certain_place, certain_writer, faults_of, place_of, room_of, taken_of, tells_of, writer_of};
+ghost use Rattle.file_sinks.specs.Sinks.{certain_place, certain_writer, faults_of, place_of, room_of, taken_of};
+ghost use Rattle.file_sinks.specs.Sinks.{tells_of, writer_of};
 ghost use Rattle.file_sinks.specs.Syncs.{MakesCertain, SaysNoSync, SyncAnswer};
 
 use crate::outputs::{FileSink, Place};

@@ -1,12 +1,14 @@
 // The sink of a file.
-ghost use Rattle.std.specs.Prelude.{◌≡◌, ◌≤◌, ◌+◌, ◌-◌, ◌^◌, ◌↔◌, min, length, [], IsOk, IsTrue, OnOk, OnErr, IfOk, IfErr};
+ghost use Rattle.std.specs.Prelude.{◌≡◌, ◌≤◌, ◌+◌, ◌-◌, ◌^◌, ◌↔◌, min, length, [], IsOk, IsTrue, OnOk, OnErr, IfOk};
+ghost use Rattle.std.specs.Prelude.{IfErr};
 ghost use Rattle.std.specs.Option.{ForSome};
 ghost use Rattle.std.specs.Io.KnownBytes.{Appends, Keeps};
 ghost use Rattle.std.specs.IoError.{error_kind};
 ghost use Rattle.liq_base.specs.Counts.{Rose};
 ghost use Rattle.liq_base.specs.Pieces.{TookPiece, TookPart};
 ghost use Rattle.liq_base.specs.Untold.{faults_alone};
-ghost use Rattle.file_sinks.specs.Sinks.{capacity_of, faults_of, kept_of, place_of, room_of, taken_of, tells_of, writer_of};
+ghost use Rattle.file_sinks.specs.Sinks.{capacity_of, faults_of, kept_of, place_of, room_of, taken_of, tells_of};
+ghost use Rattle.file_sinks.specs.Sinks.{writer_of};
 ghost use Rattle.file_sinks.specs.Syncs.{MakesCertain};
 ghost use Rattle.file_sinks.specs.Writing.{AppendsPart};
 

@@ -1,5 +1,7 @@
 // Decimals of a script, exact to a millionth.
-ghost use Rattle.std.specs.Prelude.{◌≡◌, ℕ, ◌-◌, ◌&&◌, ◌↔◌, pos, negsuc, ◌≤ℤ◌, ◌<ℤ◌, option_map, ◌≤◌, ◌^◌, length, nat_le, if◌then◌else◌, Some, None, IfSome, IsNone, IsSomeAnd, position, ◌==◌, List, ◌++◌, ◌∷◌};
+ghost use Rattle.std.specs.Prelude.{◌≡◌, ℕ, ◌-◌, ◌&&◌, ◌↔◌, pos, negsuc, ◌≤ℤ◌, ◌<ℤ◌, option_map, ◌≤◌, ◌^◌, length};
+ghost use Rattle.std.specs.Prelude.{nat_le, if◌then◌else◌, Some, None, IfSome, IsNone, IsSomeAnd, position, ◌==◌, List};
+ghost use Rattle.std.specs.Prelude.{◌++◌, ◌∷◌};
 ghost use Rattle.std.specs.Str.Parse.{AllDigits, IsNumeral};
 ghost use Rattle.fixed_text.specs.Texts.{millionths, samples_in, IsDecimalText};
 

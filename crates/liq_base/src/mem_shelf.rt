@@ -1,5 +1,6 @@
 // A shelf in memory, whose calls fail where it is told to.
-ghost use Rattle.std.specs.Prelude.{◌≡◌, ◌≢◌, ◌≤◌, ◌<◌, length, IsSomeAnd, ◌++◌, ◌∷◌, [], not, false, is_ok, MatchOption, IfOk, OnOk, OnErr, IsErrOf, Some, None, Ok, Err};
+ghost use Rattle.std.specs.Prelude.{◌≡◌, ◌≢◌, ◌≤◌, ◌<◌, length, IsSomeAnd, ◌++◌, ◌∷◌, [], not, false, is_ok};
+ghost use Rattle.std.specs.Prelude.{MatchOption, IfOk, OnOk, OnErr, IsErrOf, Some, None, Ok, Err};
 ghost use Rattle.std.specs.Option.{ForSome};
 ghost use Rattle.std.specs.FinMap.{from_entries};
 ghost use Rattle.liq_base.specs.Counts.{Rose};
@@ -7,7 +8,8 @@ ghost use Rattle.liq_base.specs.Files.{file_at, Found, Closed as ClosedAs, Close
 ghost use Rattle.liq_base.specs.Shelves.{OnlyClosed, OnlyMade, OnlyRead};
 ghost use Rattle.liq_base.specs.SinkStates.{named_told};
 ghost use Rattle.liq_base.specs.Entries.{given_entries};
-ghost use Rattle.liq_base.specs.ShelfStates.{untouched, shelf_told, read_answer, read_fails, create_fails, close_fails, after_read, after_create, after_close, created_sink, raised, appends_of};
+ghost use Rattle.liq_base.specs.ShelfStates.{untouched, shelf_told, read_answer, read_fails, create_fails, close_fails};
+ghost use Rattle.liq_base.specs.ShelfStates.{after_read, after_create, after_close, created_sink, raised, appends_of};
 
 use crate::closed::{Closed, fetch_file, find_file};
 use crate::named_sink::NamedSink;

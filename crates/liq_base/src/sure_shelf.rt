@@ -1,5 +1,6 @@
 // A shelf in memory of which no call fails.
-ghost use Rattle.std.specs.Prelude.{◌≡◌, ◌≢◌, ◌≤◌, ◌<◌, [], ◌++◌, length, MatchOption, IfOk, OnOk, OnErr, IsErrOf, IsSomeAnd, Some, None, Ok, Err};
+ghost use Rattle.std.specs.Prelude.{◌≡◌, ◌≢◌, ◌≤◌, ◌<◌, [], ◌++◌, length, MatchOption, IfOk, OnOk, OnErr, IsErrOf};
+ghost use Rattle.std.specs.Prelude.{IsSomeAnd, Some, None, Ok, Err};
 ghost use Rattle.std.specs.Option.{ForSome};
 ghost use Rattle.std.specs.FinMap.{from_entries};
 ghost use Rattle.liq_base.specs.Counts.{Rose};

@@ -15,7 +15,8 @@ use std::sync::Wait;
 use std::thread::Threads;
 
 const USAGE: &str =
-    "usage: check FILE | render FILE N [--one-thread] [--window=W] [--start=D:HH:MM:SS] [--trace=NAME] [--cues] | make SEED SIZE | replay FILE N TRACE [--start=D:HH:MM:SS]\n";
+    "usage: check FILE | render FILE N [--one-thread] [--window=W] [--start=D:HH:MM:SS] [--trace=NAME] [--cues] | \
+    make SEED SIZE | replay FILE N TRACE [--start=D:HH:MM:SS]\n";
 
 /// All was written.
 const DONE: u8 = 0;

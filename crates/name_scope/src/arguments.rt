@@ -1,9 +1,12 @@
 // Which parameter takes which argument.
 ghost use Rattle.std.specs.Prelude.{◌≡◌, [], None, true, map, is_some, IfOk, OnOk};
 ghost use Rattle.script_grammar.specs.View.{listed, view_arg, view_param};
-ghost use Rattle.typing_rules.specs.Arguments.{argument, first_missing, is_label as the_same_label, is_needed as is_wanted, label_of as the_label_of, left_over, others as the_others, parameters_of};
+ghost use Rattle.typing_rules.specs.Arguments.{argument, first_missing, is_label as the_same_label};
+ghost use Rattle.typing_rules.specs.Arguments.{is_needed as is_wanted, label_of as the_label_of, left_over};
+ghost use Rattle.typing_rules.specs.Arguments.{others as the_others, parameters_of};
 ghost use Rattle.typing_rules.specs.Scoping.{tokens_given};
-ghost use Rattle.name_scope.specs.InPlace.{has_label as has_a_label, left_behind as the_left_behind, left_by as the_left_by};
+ghost use Rattle.name_scope.specs.InPlace.{has_label as has_a_label, left_behind as the_left_behind};
+ghost use Rattle.name_scope.specs.InPlace.{left_by as the_left_by};
 ghost use Rattle.name_scope.specs.Noted.{missing_with};
 ghost use Rattle.name_scope.specs.Seen.{form_seen, left_of, seen_given, seen_label, seen_parameter};
 

@@ -1,8 +1,10 @@
 // The arguments of a call that no parameter has taken yet, found by their labels in one step each.
-ghost use Rattle.std.specs.Prelude.{◌≡◌, ◌<◌, ℕ, [], cond, false, nat_eq, get_or, length, map, IfOk, OnErr, OnOk, Option, Some, List};
+ghost use Rattle.std.specs.Prelude.{◌≡◌, ◌<◌, ℕ, [], cond, false, nat_eq, get_or, length, map, IfOk, OnErr, OnOk};
+ghost use Rattle.std.specs.Prelude.{Option, Some, List};
 ghost use Rattle.std.proofs.Props.{props};
 ghost use Rattle.typing_rules.specs.Arguments.{argument, is_label, others as the_others};
-ghost use Rattle.name_scope.specs.Labelled.{AreHeads, AreLinked, first_of, head_at, left_in, next_at, placed, seen_label};
+ghost use Rattle.name_scope.specs.Labelled.{AreHeads, AreLinked, first_of, head_at, left_in, next_at, placed};
+ghost use Rattle.name_scope.specs.Labelled.{seen_label};
 
 use indexmap::IndexMap;
 use liq_base::Memory;

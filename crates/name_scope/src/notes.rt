@@ -1,11 +1,13 @@
 // What is known of the names of a script so far.
 ghost use Rattle.std.specs.Prelude.{◌≡◌, ◌++◌, ◌∷◌, [], None, OnOk, cond, map};
 ghost use Rattle.script_grammar.specs.View.{listed, view_arg, view_param};
-ghost use Rattle.typing_rules.specs.NameFaults.{is_among as is_one_of, is_before as is_told_before, missing_at, number as the_number, repeated_at, repeats, token as the_token};
+ghost use Rattle.typing_rules.specs.NameFaults.{is_among as is_one_of, is_before as is_told_before, missing_at};
+ghost use Rattle.typing_rules.specs.NameFaults.{number as the_number, repeated_at, repeats, token as the_token};
 ghost use Rattle.typing_rules.specs.Scoping.{bound, call_meant, no_parameters, tokens_given, value_meant};
 ghost use Rattle.typing_rules.specs.declared.fault.NameFault.TheVariants.{Extra};
 ghost use Rattle.name_scope.specs.Labelled.{placed};
-ghost use Rattle.name_scope.specs.Seen.{both_scopes, in_scope, left_of, seen_given, seen_label, seen_parameter, token_at};
+ghost use Rattle.name_scope.specs.Seen.{both_scopes, in_scope, left_of, seen_given, seen_label, seen_parameter};
+ghost use Rattle.name_scope.specs.Seen.{token_at};
 ghost use Rattle.name_scope.specs.Noted.{all_sooner, mismatches, noted, sooner, with_name};
 
 use crate::arguments::{

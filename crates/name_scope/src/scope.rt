@@ -33,7 +33,8 @@ pub struct Scope<'a> {
     /// The place of the newest binding of each name.
     places: IndexMap<&'a str, usize>,
 
-    ghost newest: { (name : List ℕ) → get_by (λ key. bytes_eq name key.now) places ≡ last_place name (map (λ b. b.name.now) bindings.items) } by { Prim.hlevel props },
+    ghost newest: { (name : List ℕ) → get_by (λ key. bytes_eq name key.now) places ≡ last_place name
+        (map (λ b. b.name.now) bindings.items) } by { Prim.hlevel props },
 }
 
 impl<'a> Scope<'a> {

@@ -1,9 +1,11 @@
 // The names that the texts of defs and statements use, and the names that they bind.
 ghost use Rattle.std.specs.Prelude.{◌≡◌, ◌++◌, ◌∷◌, [], OnOk, None, map};
-ghost use Rattle.script_grammar.specs.View.{listed, view_bind, view_call, view_def, view_expr, view_full, view_if, view_inner, view_param, view_part, view_stmt};
+ghost use Rattle.script_grammar.specs.View.{listed, view_bind, view_call, view_def, view_expr, view_full, view_if};
+ghost use Rattle.script_grammar.specs.View.{view_inner, view_param, view_part, view_stmt};
 ghost use Rattle.typing_rules.specs.Arguments.{parameters_of};
 ghost use Rattle.typing_rules.specs.NameFaults.{faults_in, reported_fault};
-ghost use Rattle.typing_rules.specs.Scoping.{bound_function, inner_names, meant, names, with_bind, with_inners, with_params, with_statement};
+ghost use Rattle.typing_rules.specs.Scoping.{bound_function, inner_names, meant, names, with_bind, with_inners};
+ghost use Rattle.typing_rules.specs.Scoping.{with_params, with_statement};
 ghost use Rattle.name_scope.specs.Noted.{body_names, found_in, names_each, noted, with_names, with_part, with_repeats};
 ghost use Rattle.script_grammar.specs.Tree.{Stmt as statement};
 ghost use Rattle.name_scope.specs.Seen.{both_scopes, in_scope};

@@ -1,6 +1,8 @@
 // The names that values use: full values, expressions, operands, calls and `if`.
 ghost use Rattle.std.specs.Prelude.{◌≡◌, OnOk, map};
-ghost use Rattle.script_grammar.specs.View.{view_full, view_expr, view_and, view_not, view_compare, view_sum, view_added, view_product, view_multiplied, view_operand, view_call, view_arg, view_if};
+ghost use Rattle.script_grammar.specs.View.{view_full, view_expr, view_and, view_not, view_compare, view_sum};
+ghost use Rattle.script_grammar.specs.View.{view_added, view_product, view_multiplied, view_operand, view_call};
+ghost use Rattle.script_grammar.specs.View.{view_arg, view_if};
 ghost use Rattle.typing_rules.specs.Scoping.{names};
 ghost use Rattle.name_scope.specs.Noted.{names_each, noted, with_names};
 ghost use Rattle.name_scope.specs.Seen.{both_scopes};

@@ -2,7 +2,9 @@
 ghost use Rattle.std.specs.Prelude.{◌≡◌, ◌<◌, ℕ, length, slice_index_or, OnOk, OnErr};
 ghost use Rattle.clock_infer.specs.declared.clock_map.NodeClock.{NodeClock as Clock};
 ghost use Rattle.clock_instants.specs.Takes.{HasReader};
-ghost use Rattle.nested_instants.specs.Clocks.{AllSettled, AreClockStates, AreLeft, CanMakeInstants, HasRanks, InstantMade, InstantStopped, IsIdle, NodeSettled, NodeStopped, SettlingStopped, is_in, is_node};
+ghost use Rattle.nested_instants.specs.Clocks.{AllSettled, AreClockStates, AreLeft, CanMakeInstants, HasRanks};
+ghost use Rattle.nested_instants.specs.Clocks.{InstantMade, InstantStopped, IsIdle, NodeSettled, NodeStopped};
+ghost use Rattle.nested_instants.specs.Clocks.{SettlingStopped, is_in, is_node};
 
 use crate::ClockStates;
 use crate::filling::{fill_child, fill_on};

@@ -1,5 +1,6 @@
 // What a crossfade takes of the instants of its sub-clock.
-ghost use Rattle.std.specs.Prelude.{◌≡◌, ◌<◌, ◌≤◌, ◌+◌, ◌++◌, ◌∷◌, ℕ, suc, List, [], Some, true, is_some, length, slice_get, slice_index_or};
+ghost use Rattle.std.specs.Prelude.{◌≡◌, ◌<◌, ◌≤◌, ◌+◌, ◌++◌, ◌∷◌, ℕ, suc, List, [], Some, true, is_some, length};
+ghost use Rattle.std.specs.Prelude.{slice_get, slice_index_or};
 ghost use Rattle.clock_infer.specs.declared.clock_map.NodeClock.{NodeClock as Clock};
 ghost use Rattle.frame_core.specs.Slots.{Slot, title_of};
 ghost use Rattle.frame_core.specs.Library.{Sounds};
@@ -13,7 +14,8 @@ ghost use Rattle.node_states.specs.States.{Fits, StateStands, left, room};
 ghost use Rattle.node_states.specs.Times.{TimeStands};
 ghost use Rattle.clock_instants.specs.Held.{AllPassOn};
 ghost use Rattle.clock_instants.specs.Stretches.{AllLieAhead, IsBehind};
-ghost use Rattle.nested_instants.specs.Clocks.{AreClockStates, AreLeft, AreStatesAt, GoesOnFor, HasLevels, HasRanks, IsIdle, is_node, left_at, rest_at, room_at, wants_at};
+ghost use Rattle.nested_instants.specs.Clocks.{AreClockStates, AreLeft, AreStatesAt, GoesOnFor, HasLevels, HasRanks};
+ghost use Rattle.nested_instants.specs.Clocks.{IsIdle, is_node, left_at, rest_at, room_at, wants_at};
 ghost use Rattle.nested_instants.specs.Stretches.{CanFillLane, FilledOn};
 ghost use Rattle.clock_nodes.specs.Scenes.{setting_over};
 

@@ -6,8 +6,10 @@ ghost use Rattle.stream_meaning.specs.Instants.{Setting, Moment, same_clock};
 ghost use Rattle.op_mix.specs.Stretches.{samples_of};
 ghost use Rattle.clock_instants.specs.Held.{AllPassOn, gave_at, passes_at};
 ghost use Rattle.clock_instants.specs.Stretches.{AllLieAhead, HasGoneOn, IsGoing};
-ghost use Rattle.nested_instants.specs.Clocks.{AreClockStates, AreLeft, HasLevels, HasRanks, is_in, is_node, is_none, laned_at, rest_at};
-ghost use Rattle.nested_instants.specs.Stretches.{AreAbove, AreSamplesLeft, CanRunClock, ClockMade, SubClocksMade, SubClockMade};
+ghost use Rattle.nested_instants.specs.Clocks.{AreClockStates, AreLeft, HasLevels, HasRanks, is_in, is_node, is_none};
+ghost use Rattle.nested_instants.specs.Clocks.{laned_at, rest_at};
+ghost use Rattle.nested_instants.specs.Stretches.{AreAbove, AreSamplesLeft, CanRunClock, ClockMade, SubClocksMade};
+ghost use Rattle.nested_instants.specs.Stretches.{SubClockMade};
 ghost use Rattle.clock_nodes.specs.Scenes.{setting_over};
 
 use crate::ClockStates;

@@ -1,5 +1,6 @@
 // What the operators offer and how they go on.
-ghost use Rattle.std.specs.Prelude.{◌≡◌, ◌<◌, ◌&&◌, ℕ, List, length, suc, true, false, Some, IsSome, is_some, if◌then◌else◌};
+ghost use Rattle.std.specs.Prelude.{◌≡◌, ◌<◌, ◌&&◌, ℕ, List, length, suc, true, false, Some, IsSome, is_some};
+ghost use Rattle.std.specs.Prelude.{if◌then◌else◌};
 ghost use Rattle.frame_core.specs.Slots.{Slot, slot_at};
 ghost use Rattle.op_cross.specs.Crossfade.{cross};
 ghost use Rattle.op_cross.specs.States.{position_after, StandsFor};

@@ -1,9 +1,11 @@
 // A crossfade's state.
-ghost use Rattle.std.specs.Prelude.{◌≡◌, ◌+◌, ◌-◌, ◌*◌, ◌<◌, ◌≤◌, ◌↔◌, true, false, IsTrue, min, [], ◌∷◌, ◌++◌, ℕ, List, map, slice_get, take, drop, length, IfOk};
+ghost use Rattle.std.specs.Prelude.{◌≡◌, ◌+◌, ◌-◌, ◌*◌, ◌<◌, ◌≤◌, ◌↔◌, true, false, IsTrue, min, [], ◌∷◌, ◌++◌, ℕ};
+ghost use Rattle.std.specs.Prelude.{List, map, slice_get, take, drop, length, IfOk};
 ghost use Rattle.frame_core.specs.Slots.{Slot, slot_at, title_of, goes_on, is_inner, slot_left, slot_right};
 ghost use Rattle.op_cross.specs.Crossfade.{mixed_cell, cross};
 ghost use Rattle.cell_ring.specs.Rings.{has_title, inner_cells};
-ghost use Rattle.op_cross.specs.States.{AllInner, Crossing, IsCrossing, StandsFor, mixed_on, mixed_side, passes, wants, left, position_after, ready_stretch, track_room};
+ghost use Rattle.op_cross.specs.States.{AllInner, Crossing, IsCrossing, StandsFor, mixed_on, mixed_side, passes, wants};
+ghost use Rattle.op_cross.specs.States.{left, position_after, ready_stretch, track_room};
 ghost use Rattle.op_cross.specs.Stretches.{titled_stretch};
 
 use cell_ring::CellRing;

@@ -5,7 +5,8 @@ ghost use Rattle.op_leaf.specs.Lanes.{IsLane};
 ghost use Rattle.sample_kernels.specs.Samples.{IsSumOf};
 ghost use Rattle.stream_meaning.specs.Arithmetic.{mix_slot};
 ghost use Rattle.op_mix.specs.Mixings.{mixing_of};
-ghost use Rattle.op_mix.specs.Stretches.{AreHeard, changed_left, changed_right, first_that_gives, levels_of, many_give, offers_in, samples_of, summed_lanes};
+ghost use Rattle.op_mix.specs.Stretches.{AreHeard, changed_left, changed_right, first_that_gives, levels_of, many_give};
+ghost use Rattle.op_mix.specs.Stretches.{offers_in, samples_of, summed_lanes};
 
 use crate::before::Before;
 use crate::mixer::Mixer;

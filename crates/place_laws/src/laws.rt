@@ -9,8 +9,8 @@ pub fn lines_name_their_places()
     ensures { (fault : Fault) → NamesItsPlace fault }
 {}
 
-/// What `about` tells agrees with what `liq` does: the number of a fault of a WAV file, the rules of files, and the output
-/// that is refused.
+/// What `about` tells agrees with what `liq` does: the number of a fault of a WAV file, the rules of files, and the
+/// output that is refused.
 pub fn both_say_one_thing()
     ensures numbers { NumbersAgree }
     ensures rules { RulesAgree }

@@ -4,7 +4,9 @@ ghost use Rattle.std.specs.List.{list_any};
 ghost use Rattle.fallible_infer.specs.Infallible.{mark_at};
 ghost use Rattle.time_pred.specs.Predicates.{is_always};
 ghost use Rattle.time_pred.specs.View.{view_shared};
-ghost use Rattle.plan_blames.specs.Blames.{asking, asking_words, asks, both_names, childless_words, clock_asks, clock_red, clock_words, edge_red, either_asks, name_text, nested_words, node_red, reason, reason_words, red_words, refused_node, shared_words};
+ghost use Rattle.plan_blames.specs.Blames.{asking, asking_words, asks, both_names, childless_words, clock_asks};
+ghost use Rattle.plan_blames.specs.Blames.{clock_red, clock_words, edge_red, either_asks, name_text, nested_words};
+ghost use Rattle.plan_blames.specs.Blames.{node_red, reason, reason_words, red_words, refused_node, shared_words};
 
 use crate::ids::id_of;
 use crate::texts::{push_named, push_number, push_plain, push_quoted};

@@ -1,6 +1,7 @@
 // A fault of clocks: the heading, and a region round the sources that would share a clock.
 ghost use Rattle.std.specs.Prelude.{◌≡◌, ◌++◌, [], ◌∷◌, OnOk, slice_index};
-ghost use Rattle.plan_blames.specs.Faults.{children_at, fault_region, fault_text, heading, own_label, red_member, red_members, red_region, red_rest, shared_label, shares, told_text};
+ghost use Rattle.plan_blames.specs.Faults.{children_at, fault_region, fault_text, heading, own_label, red_member};
+ghost use Rattle.plan_blames.specs.Faults.{red_members, red_region, red_rest, shared_label, shares, told_text};
 
 use crate::blames::push_names;
 use crate::texts::{push_between, push_number, push_plain};

@@ -1,7 +1,9 @@
 // A plan that is being made.
-ghost use Rattle.std.specs.Prelude.{◌≡◌, ◌<◌, ◌≤◌, ◌↔◌, ◌+◌, ◌^◌, [], length, slice_get, slice_index, All, Some, IfOk, OnOk, OnErr, IsErrOf};
+ghost use Rattle.std.specs.Prelude.{◌≡◌, ◌<◌, ◌≤◌, ◌↔◌, ◌+◌, ◌^◌, [], length, slice_get, slice_index, All, Some, IfOk};
+ghost use Rattle.std.specs.Prelude.{OnOk, OnErr, IsErrOf};
 ghost use Rattle.plan_core.specs.declared.node.Node.{Node};
-ghost use Rattle.plan_core.specs.Plans.{crossfades_from, crossfade_counts, own_crossfades, with_node, with_output, with_buffer, IsBuffer, IsNodeOver, IsNoReader, IsWellFormed};
+ghost use Rattle.plan_core.specs.Plans.{crossfades_from, crossfade_counts, own_crossfades, with_node, with_output};
+ghost use Rattle.plan_core.specs.Plans.{with_buffer, IsBuffer, IsNodeOver, IsNoReader, IsWellFormed};
 
 use crate::{BufferPlan, Items, Node, Op, Plan, PlanFault, SinkPlan};
 use liq_base::limits::{MAX_CHILDREN, MAX_CROSSFADES, MAX_NODES};

@@ -1,9 +1,12 @@
 // Laws of plans, for whatever goes over one. Each is a contract of a function that does nothing.
-ghost use Rattle.std.specs.Prelude.{◌≡◌, ℕ, ◌+◌, ◌^◌, ◌<◌, ◌≤◌, Bool, List, [], length, take, slice_get, slice_index, Some, Contains};
+ghost use Rattle.std.specs.Prelude.{◌≡◌, ℕ, ◌+◌, ◌^◌, ◌<◌, ◌≤◌, Bool, List, [], length, take, slice_get, slice_index};
+ghost use Rattle.std.specs.Prelude.{Some, Contains};
 ghost use Rattle.plan_core.specs.declared.node.Node.{Node};
 ghost use Rattle.plan_core.specs.declared.plan.Plan.{Plan};
 ghost use Rattle.plan_core.specs.declared.sink.BufferPlan.{BufferPlan};
-ghost use Rattle.plan_core.specs.Plans.{AreNodes, IsPathDown, IsBuffer, IsNodeOver, IsNoReader, IsWellFormed, crossfade_counts, crossfades_from, crossfades_on, own_crossfades, with_buffer, with_node, with_output};
+ghost use Rattle.plan_core.specs.Plans.{AreNodes, IsPathDown, IsBuffer, IsNodeOver, IsNoReader, IsWellFormed};
+ghost use Rattle.plan_core.specs.Plans.{crossfade_counts, crossfades_from, crossfades_on, own_crossfades, with_buffer};
+ghost use Rattle.plan_core.specs.Plans.{with_node, with_output};
 
 use liq_base::limits::{MAX_CROSSFADES, MAX_FRAME, MAX_NODES, MAX_RATE, MIN_RATE};
 

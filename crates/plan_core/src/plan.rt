@@ -1,5 +1,6 @@
 // Plans, and how a node is added.
-ghost use Rattle.std.specs.Prelude.{◌≡◌, ◌+◌, ◌^◌, ◌<◌, ◌≤◌, ◌↔◌, ◌++◌, ◌∷◌, [], length, All, IfOk, OnOk, OnErr, IsErrOf};
+ghost use Rattle.std.specs.Prelude.{◌≡◌, ◌+◌, ◌^◌, ◌<◌, ◌≤◌, ◌↔◌, ◌++◌, ◌∷◌, [], length, All, IfOk, OnOk, OnErr};
+ghost use Rattle.std.specs.Prelude.{IsErrOf};
 ghost use Rattle.plan_core.specs.Plans.{crossfades_from, AreNodes, IsNodeOver, IsNoReader, IsWellFormed};
 
 use crate::{BufferPlan, Items, Node, SinkPlan};

@@ -1,7 +1,9 @@
 // The boxes: sources and outputs.
 ghost use Rattle.std.specs.Prelude.{◌≡◌, ◌<◌, ◌++◌, OnOk, codes};
 ghost use Rattle.fallible_infer.specs.Infallible.{mark_at};
-ghost use Rattle.plan_picture.specs.Boxes.{border, box_end, box_front, box_label, fallible_words, is_refused, node_box, node_boxes, output_box, output_front, output_label, red_style, sheet, silence_words};
+ghost use Rattle.plan_picture.specs.Boxes.{border, box_end, box_front, box_label, fallible_words, is_refused, node_box};
+ghost use Rattle.plan_picture.specs.Boxes.{node_boxes, output_box, output_front, output_label, red_style, sheet};
+ghost use Rattle.plan_picture.specs.Boxes.{silence_words};
 
 use crate::words::push_words;
 use clock_infer::{ClockFault, ClockMap};

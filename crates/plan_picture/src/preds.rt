@@ -2,7 +2,8 @@
 ghost use Rattle.std.specs.Prelude.{◌≡◌, ◌≤◌, ◌++◌, OnOk, drop, false, length, map, take};
 ghost use Rattle.time_pred.specs.Predicates.{parts_of};
 ghost use Rattle.time_pred.specs.View.{view_pred};
-ghost use Rattle.plan_picture.specs.Predicates.{before_part, closing, interval_text, joined, mark_text, opening, part_text, pred_text, shown};
+ghost use Rattle.plan_picture.specs.Predicates.{before_part, closing, interval_text, joined, mark_text, opening};
+ghost use Rattle.plan_picture.specs.Predicates.{part_text, pred_text, shown};
 
 use fixed_text::{TimeMark, write_u64};
 use liq_base::Memory;

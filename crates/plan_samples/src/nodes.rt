@@ -1,7 +1,8 @@
 // Drafts that grow by a stereo node.
 ghost use Rattle.std.specs.Prelude.{◌≡◌, ◌<◌, ◌≤◌, ◌+◌, ◌∷◌, [], Some, All, length, slice_get, IfOk, OnOk};
 ghost use Rattle.liq_base.specs.declared.limits.TheConstants.{MAX_CHILDREN, MAX_CROSSFADES};
-ghost use Rattle.plan_core.specs.Plans.{crossfades_from, own_crossfades, with_node, HasChildren, HasKind, IsInRange, IsNoReader};
+ghost use Rattle.plan_core.specs.Plans.{crossfades_from, own_crossfades, with_node, HasChildren, HasKind, IsInRange};
+ghost use Rattle.plan_core.specs.Plans.{IsNoReader};
 ghost use Rattle.plan_samples.specs.Stereos.{blank, stereo_node, IsStereo};
 
 use fixed_text::Decimal;

@@ -13,7 +13,9 @@ pub const ONE_TWO_THREE: &[u8] =
 /// A source in the clock `main`, and a buffer that carries it to the clock `b` and waits for two chunks. A tick has 8
 /// samples.
 pub const CARRIED: &str =
-    "set(\"frame.audio.samplerate\", 8000)\nset(\"frame.duration\", 0.001)\ns = single(\"B\")\noutput.file(%wav, \"A\", s)\noutput.file(%wav, \"C\", clock(id=\"b\", mksafe(buffer(buffer=0.002, max=0.01, s))))\n";
+    "set(\"frame.audio.samplerate\", 8000)\nset(\"frame.duration\", 0.001)\ns = single(\"B\")\n\
+    output.file(%wav, \"A\", s)\noutput.file(%wav, \"C\", clock(id=\"b\", mksafe(buffer(buffer=0.002, max=0.01, \
+    s))))\n";
 
 // A file of this name and these bytes.
 fn file_of(alloc: Global, name: &str, bytes: &[u8]) -> Result<(String, Vec<u8>), AllocError> {

@@ -17,15 +17,18 @@ const ONE: &str =
 
 /// Two outputs in one clock.
 const SHARED: &str =
-    "set(\"frame.audio.samplerate\", 8000)\nset(\"frame.duration\", 0.001)\ns = single(\"B\")\noutput.file(%wav, \"A\", s)\noutput.file(%wav, \"C\", s)\n";
+    "set(\"frame.audio.samplerate\", 8000)\nset(\"frame.duration\", 0.001)\ns = single(\"B\")\n\
+    output.file(%wav, \"A\", s)\noutput.file(%wav, \"C\", s)\n";
 
 /// Two outputs, each in a clock of its own.
-const APART: &str =
-    "set(\"frame.audio.samplerate\", 8000)\nset(\"frame.duration\", 0.001)\noutput.file(%wav, \"A\", single(\"B\"))\noutput.file(%wav, \"C\", clock(id=\"b\", single(\"B\")))\n";
+const APART: &str = "set(\"frame.audio.samplerate\", 8000)\nset(\"frame.duration\", 0.001)\n\
+    output.file(%wav, \"A\", single(\"B\"))\noutput.file(%wav, \"C\", clock(id=\"b\", single(\"B\")))\n";
 
 /// Each output of two ticks: the samples on both sides, again and again.
 const WHOLE: &[u8; 108] =
-    b"RIFF\x64\0\0\0WAVEfmt \x10\0\0\0\x01\0\x02\0\x40\x1f\0\0\0\x7d\0\0\x04\0\x10\0data\x40\0\0\0\x01\0\x01\0\x02\0\x02\0\x03\0\x03\0\x01\0\x01\0\x02\0\x02\0\x03\0\x03\0\x01\0\x01\0\x02\0\x02\0\x03\0\x03\0\x01\0\x01\0\x02\0\x02\0\x03\0\x03\0\x01\0\x01\0\x02\0\x02\0\x03\0\x03\0\x01\0\x01\0";
+    b"RIFF\x64\0\0\0WAVEfmt \x10\0\0\0\x01\0\x02\0\x40\x1f\0\0\0\x7d\0\0\x04\0\x10\0data\x40\0\0\0\x01\0\x01\0\x02\
+    \0\x02\0\x03\0\x03\0\x01\0\x01\0\x02\0\x02\0\x03\0\x03\0\x01\0\x01\0\x02\0\x02\0\x03\0\x03\0\x01\0\x01\0\x02\0\
+    \x02\0\x03\0\x03\0\x01\0\x01\0\x02\0\x02\0\x03\0\x03\0\x01\0\x01\0";
 
 /// Bytes of its header, and of each tick.
 const HEADER: usize = 44;

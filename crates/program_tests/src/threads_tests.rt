@@ -14,7 +14,8 @@ const CYCLE: &[u8] = b"\x01\0\x01\0\x02\0\x02\0\x03\0\x03\0";
 
 /// A source in the clock `main`, and a buffer of one chunk that carries it to the clock `b`. A tick has 8 samples.
 const JOINED: &str =
-    "set(\"frame.audio.samplerate\", 8000)\nset(\"frame.duration\", 0.001)\ns = single(\"B\")\noutput.file(%wav, \"A\", s)\noutput.file(%wav, \"C\", clock(id=\"b\", mksafe(buffer(buffer=0., max=0., s))))\n";
+    "set(\"frame.audio.samplerate\", 8000)\nset(\"frame.duration\", 0.001)\ns = single(\"B\")\n\
+    output.file(%wav, \"A\", s)\noutput.file(%wav, \"C\", clock(id=\"b\", mksafe(buffer(buffer=0., max=0., s))))\n";
 
 /// So many turns a clock waits at most.
 const TURNS: u64 = 200_000_000;

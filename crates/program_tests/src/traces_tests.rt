@@ -12,11 +12,12 @@ use std::thread::Threads;
 
 /// Two outputs, each of one track without a name. A tick has 8 samples.
 const TWO: &str =
-    "set(\"frame.audio.samplerate\", 8000)\nset(\"frame.duration\", 0.001)\ns = blank()\noutput.file(%wav, \"A\", s)\noutput.file(%wav, \"C\", s)\n";
+    "set(\"frame.audio.samplerate\", 8000)\nset(\"frame.duration\", 0.001)\ns = blank()\n\
+    output.file(%wav, \"A\", s)\noutput.file(%wav, \"C\", s)\n";
 
 /// An output without a track.
-const NOTHING: &str =
-    "set(\"frame.audio.samplerate\", 8000)\nset(\"frame.duration\", 0.001)\noutput.file(%wav, fallible=true, \"A\", fail())\n";
+const NOTHING: &str = "set(\"frame.audio.samplerate\", 8000)\nset(\"frame.duration\", 0.001)\n\
+    output.file(%wav, fallible=true, \"A\", fail())\n";
 
 /// Bytes of an output of one tick.
 const OUTPUT_BYTES: usize = 76;

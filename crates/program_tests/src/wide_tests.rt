@@ -14,18 +14,19 @@ const PAIR: &[u8] =
 
 /// Mono, 8000 Hz, 24 bits, three times 1, without the zero byte that stands behind the odd data.
 const ODD: &[u8] =
-    b"RIFF\x2e\0\0\0WAVEfmt \x10\0\0\0\x01\0\x01\0\x40\x1f\0\0\xc0\x5d\0\0\x03\0\x18\0data\x09\0\0\0\0\x01\0\0\x01\0\0\x01\0";
+    b"RIFF\x2e\0\0\0WAVEfmt \x10\0\0\0\x01\0\x01\0\x40\x1f\0\0\xc0\x5d\0\0\x03\0\x18\0data\x09\0\0\0\0\x01\0\0\x01\
+    \0\0\x01\0";
 
 /// Stereo, 8000 Hz, 24 bits, the sample of `PAIR`; the data is even.
 const EVEN: &[u8] =
     b"RIFF\x2a\0\0\0WAVEfmt \x10\0\0\0\x01\0\x02\0\x40\x1f\0\0\x80\xbb\0\0\x06\0\x18\0data\x06\0\0\0\0\x05\0\0\xfe\xff";
 
 /// Scripts of one sample a tick.
-const OF_MEAN: &str =
-    "set(\"frame.audio.samplerate\", 8000)\nset(\"frame.duration\", 0.000125)\noutput.file(%wav(samplesize=24), \"A\", mean(single(\"S\")))\n";
+const OF_MEAN: &str = "set(\"frame.audio.samplerate\", 8000)\nset(\"frame.duration\", 0.000125)\n\
+    output.file(%wav(samplesize=24), \"A\", mean(single(\"S\")))\n";
 
-const OF_PAIR: &str =
-    "set(\"frame.audio.samplerate\", 8000)\nset(\"frame.duration\", 0.000125)\noutput.file(%wav(samplesize=24), \"A\", single(\"S\"))\n";
+const OF_PAIR: &str = "set(\"frame.audio.samplerate\", 8000)\nset(\"frame.duration\", 0.000125)\n\
+    output.file(%wav(samplesize=24), \"A\", single(\"S\"))\n";
 
 /// A script, words, the piece that fails, the status, and the output. The zero byte behind odd data is a piece of its
 /// own; behind even data there is none.

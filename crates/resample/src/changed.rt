@@ -1,5 +1,6 @@
 // A file at another rate, whose samples are made where they are read.
-ghost use Rattle.std.specs.Prelude.{◌≡◌, ◌<◌, ◌≤◌, ◌+◌, ◌*◌, ◌-◌, ◌/◌, ◌^◌, ℕ, pos, length, map, min, take, drop, slice_index_or, true};
+ghost use Rattle.std.specs.Prelude.{◌≡◌, ◌<◌, ◌≤◌, ◌+◌, ◌*◌, ◌-◌, ◌/◌, ◌^◌, ℕ, pos, length, map, min, take, drop};
+ghost use Rattle.std.specs.Prelude.{slice_index_or, true};
 ghost use Rattle.std.specs.List.{range_with_len};
 ghost use Rattle.std.specs.Simd.Lanes.{put_chunk};
 ghost use Rattle.liq_base.specs.Kinds.{channels_of};
@@ -145,7 +146,8 @@ fn read_side(source: Source<'_>, way: &Way, side: usize, at: usize, into: &mut [
     requires way { IsWay way.now }
     requires side { side < channels_of source.kind }
     requires within { at + length into.old ≤ blocks_at source way.now }
-    ensures { into.new ≡ map (λ j. resampled_sample way.now.from way.now.to source.entry.kind (samples_in source.entry) j side)
+    ensures { into.new ≡ map (λ j. resampled_sample way.now.from way.now.to source.entry.kind
+        (samples_in source.entry) j side)
         (range_with_len at (length into.old)) }
 {
     if way.to < 65_536 && are_inside(source, way, at + into.len()) {
@@ -173,7 +175,8 @@ fn read_inside(source: Source<'_>, way: &Way, side: usize, at: usize, into: &mut
     requires side { side < channels_of source.kind }
     requires within { at + length into.old ≤ blocks_at source way.now }
     requires inside { (at + length into.old) * way.now.from ≤ source.last * way.now.to }
-    ensures { into.new ≡ map (λ j. resampled_sample way.now.from way.now.to source.entry.kind (samples_in source.entry) j side)
+    ensures { into.new ≡ map (λ j. resampled_sample way.now.from way.now.to source.entry.kind
+        (samples_in source.entry) j side)
         (range_with_len at (length into.old)) }
 {
     let mut place = place_of(way, at as u64);
@@ -232,7 +235,8 @@ fn read_each(source: Source<'_>, way: &Way, side: usize, at: usize, into: &mut [
     requires way { IsWay way.now }
     requires side { side < channels_of source.kind }
     requires within { at + length into.old ≤ blocks_at source way.now }
-    ensures { into.new ≡ map (λ j. resampled_sample way.now.from way.now.to source.entry.kind (samples_in source.entry) j side)
+    ensures { into.new ≡ map (λ j. resampled_sample way.now.from way.now.to source.entry.kind
+        (samples_in source.entry) j side)
         (range_with_len at (length into.old)) }
 {
     let mut place = place_of(way, at as u64);
@@ -251,7 +255,8 @@ fn sample_between(source: Source<'_>, way: &Way, place: Place, side: usize) -> i
     requires part { place.part < way.now.to }
     ensures { result ≡ interpolated (side_at source.entry.kind (samples_in source.entry) place.block side)
         (side_at source.entry.kind (samples_in source.entry)
-        (min (place.block + 1) (blocks_of source.entry.kind (samples_in source.entry) - 1)) side) place.part way.now.to }
+        (min (place.block + 1) (blocks_of source.entry.kind (samples_in source.entry) - 1)) side) place.part
+        way.now.to }
 {
     let next = source.last.min(place.block + 1);
     let before = sample_of(source, place.block, side);

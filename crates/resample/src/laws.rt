@@ -2,7 +2,8 @@
 ghost use Rattle.std.specs.Prelude.{◌≡◌, ◌<◌, ℕ, ℤ, List};
 ghost use Rattle.liq_base.specs.Kinds.{channels_of};
 ghost use Rattle.liq_base.specs.declared.memory.Kind.{Kind};
-ghost use Rattle.resample.specs.Resampled.{AreRates, IsFile, LiesBetween, blocks_of, output_length, resampled, sample_before, sample_behind, side_at};
+ghost use Rattle.resample.specs.Resampled.{AreRates, IsFile, LiesBetween, blocks_of, output_length, resampled};
+ghost use Rattle.resample.specs.Resampled.{sample_before, sample_behind, side_at};
 
 /// Each sample at another rate lies between the two that it is made from, and equal rates change nothing.
 pub fn changes_lie_between()

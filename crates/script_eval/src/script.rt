@@ -2,12 +2,14 @@
 ghost use Rattle.std.specs.Prelude.{◌≡◌, ◌≢◌, ℕ, Option, Some, None, [], IfOk, length, map, unwrap_or};
 ghost use Rattle.std.specs.List.{list_any};
 ghost use Rattle.eval_meaning.specs.Meaning.{call, choice, full};
-ghost use Rattle.eval_meaning.specs.Scripts.{Answers, settings_ended, evaluation, settings_settled, sources, statement, statements, tick_of, top_scope, turned};
+ghost use Rattle.eval_meaning.specs.Scripts.{Answers, settings_ended, evaluation, settings_settled, sources, statement};
+ghost use Rattle.eval_meaning.specs.Scripts.{statements, tick_of, top_scope, turned};
 ghost use Rattle.eval_meaning.specs.Safety.{IsNotStuck};
 ghost use Rattle.plan_core.specs.Plans.{IsWellFormed, is_output};
 ghost use Rattle.script_grammar.specs.Placed.{IsPlaced};
 ghost use Rattle.script_grammar.specs.Tree.{BindPart as a_binding};
-ghost use Rattle.script_grammar.specs.View.{listed, view_bind, view_call, view_full, view_if, view_part, view_script, view_stmt};
+ghost use Rattle.script_grammar.specs.View.{listed, view_bind, view_call, view_full, view_if, view_part, view_script};
+ghost use Rattle.script_grammar.specs.View.{view_stmt};
 ghost use Rattle.script_values.specs.declared.fault.EvalFault.TheVariants as told;
 ghost use Rattle.script_values.specs.declared.fault.Stop.TheVariants.{Stuck};
 ghost use Rattle.script_values.specs.Faults.{fault_in};

@@ -1,9 +1,14 @@
 // Nodes that hold a list, made of their parts.
 ghost use Rattle.std.specs.Prelude.{◌≡◌, IfOk, map};
-ghost use Rattle.script_grammar.specs.Tree.{Expr as an_expr, And as an_and, Sum as a_sum, Product as a_product, NamedCall as a_call, POr as a_por, PAnd as a_pand, Listed as a_list};
-ghost use Rattle.script_grammar.specs.View.{listed, view_expr, view_and, view_not, view_sum, view_product, view_added, view_operand, view_multiplied, view_full, view_call, view_arg, view_por, view_pand, view_pnot};
+ghost use Rattle.script_grammar.specs.Tree.{Expr as an_expr, And as an_and, Sum as a_sum, Product as a_product};
+ghost use Rattle.script_grammar.specs.Tree.{NamedCall as a_call, POr as a_por, PAnd as a_pand, Listed as a_list};
+ghost use Rattle.script_grammar.specs.View.{listed, view_expr, view_and, view_not, view_sum, view_product, view_added};
+ghost use Rattle.script_grammar.specs.View.{view_operand, view_multiplied, view_full, view_call, view_arg, view_por};
+ghost use Rattle.script_grammar.specs.View.{view_pand, view_pnot};
 ghost use Rattle.script_grammar.specs.ReadValue.{round_of};
-ghost use Rattle.script_grammar.specs.Whole.{IsWholeExpr, IsWholeAnd, IsWholeNot, IsWholeSum, IsWholeAdded, IsWholeProduct, IsWholeMultiplied, IsWholeOperand, IsWholeFull, IsWholeCall, IsWholeArg, IsWholePOr, IsWholePAnd, IsWholePNot};
+ghost use Rattle.script_grammar.specs.Whole.{IsWholeExpr, IsWholeAnd, IsWholeNot, IsWholeSum, IsWholeAdded};
+ghost use Rattle.script_grammar.specs.Whole.{IsWholeProduct, IsWholeMultiplied, IsWholeOperand, IsWholeFull};
+ghost use Rattle.script_grammar.specs.Whole.{IsWholeCall, IsWholeArg, IsWholePOr, IsWholePAnd, IsWholePNot};
 ghost use Rattle.std.specs.List.{All};
 
 use crate::predicate::{PAnd, PNot, POr};

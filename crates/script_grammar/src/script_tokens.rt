@@ -3,7 +3,8 @@ ghost use Rattle.std.specs.Prelude.{◌≡◌, ◌++◌, ◌∷◌, [], OnOk, If
 ghost use Rattle.script_grammar.specs.Spelling.{spell, spelling};
 ghost use Rattle.script_grammar.specs.Pieces.{each, between_commas};
 ghost use Rattle.script_grammar.specs.DefPieces.{def_head, def_body};
-ghost use Rattle.script_grammar.specs.View.{view_expr, view_bind, view_inner, view_param, view_def, view_part, view_stmt, view_script};
+ghost use Rattle.script_grammar.specs.View.{view_expr, view_bind, view_inner, view_param, view_def, view_part};
+ghost use Rattle.script_grammar.specs.View.{view_stmt, view_script};
 
 use crate::predicate_tokens::{put, put_if};
 use crate::tree::{Bind, Def, Expr, Inner, Param, ParamForm, Script, Stmt, StmtPart};

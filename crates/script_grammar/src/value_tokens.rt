@@ -3,9 +3,12 @@ ghost use Rattle.std.specs.Prelude.{◌≡◌, ◌++◌, ◌∷◌, [], OnOk, If
 ghost use Rattle.script_lex.specs.declared.token.TokenKind.TheVariants.{Keyword as a_keyword, Symbol as a_symbol};
 ghost use Rattle.script_lex.specs.declared.token.Keyword.TheVariants as word;
 ghost use Rattle.script_lex.specs.declared.token.Symbol.TheVariants as sign;
-ghost use Rattle.script_grammar.specs.Spelling.{spell, each_after, literal_token, truth_token, op_token, added_token, multiplied_token, label, wav_tokens, option_name};
+ghost use Rattle.script_grammar.specs.Spelling.{spell, each_after, literal_token, truth_token, op_token, added_token};
+ghost use Rattle.script_grammar.specs.Spelling.{multiplied_token, label, wav_tokens, option_name};
 ghost use Rattle.script_grammar.specs.Pieces.{each, each_behind, between_commas, in_brackets};
-ghost use Rattle.script_grammar.specs.View.{listed, tuple_of, view_full, view_expr, view_and, view_not, view_compare, view_sum, view_added, view_product, view_multiplied, view_operand, view_call, view_arg, view_if};
+ghost use Rattle.script_grammar.specs.View.{listed, tuple_of, view_full, view_expr, view_and, view_not, view_compare};
+ghost use Rattle.script_grammar.specs.View.{view_sum, view_added, view_product, view_multiplied, view_operand};
+ghost use Rattle.script_grammar.specs.View.{view_call, view_arg, view_if};
 
 use crate::predicate_tokens::{put, put_if, put_por};
 use crate::tree::{

@@ -1,5 +1,6 @@
 // All tokens of a script.
-ghost use Rattle.std.specs.Prelude.{◌≡◌, ◌≢◌, ◌≤◌, ◌-◌, ◌⊎◌, [], List, length, Some, None, Err, IfOk, IfErr, OnOk, IsOkUnless};
+ghost use Rattle.std.specs.Prelude.{◌≡◌, ◌≢◌, ◌≤◌, ◌-◌, ◌⊎◌, [], List, length, Some, None, Err, IfOk, IfErr, OnOk};
+ghost use Rattle.std.specs.Prelude.{IsOkUnless};
 ghost use Rattle.script_lex.specs.Tokens.{Runs, AreTokens, HasFault, IsFront};
 ghost use Rattle.script_lex.specs.Gives.{IfFault, RunsInto, RunsTo, left_of, told_as};
 ghost use Rattle.script_lex.specs.declared.token.Token.{Token};

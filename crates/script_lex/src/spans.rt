@@ -1,6 +1,7 @@
 // How far the front of a slice goes.
 ghost use Rattle.std.specs.Prelude.{◌≡◌, ◌≤◌, length, false};
-ghost use Rattle.script_lex.specs.Bytes.{is_letter, is_word, is_blank, is_quote, is_unit, is_escapable, is_inner, starts_part, starts_digit};
+ghost use Rattle.script_lex.specs.Bytes.{is_letter, is_word, is_blank, is_quote, is_unit, is_escapable, is_inner};
+ghost use Rattle.script_lex.specs.Bytes.{starts_part, starts_digit};
 ghost use Rattle.script_lex.specs.Reading.{after_digits, after_name, front, tail};
 ghost use Rattle.script_lex.specs.Tokens.{between};
 

@@ -1,6 +1,7 @@
 // How a line names a place.
 ghost use Rattle.std.specs.Prelude.{◌≡◌};
-ghost use Rattle.script_places.specs.Naming.{begins, begins_byte, begins_statement, begins_token, form_of, source_form, text_form};
+ghost use Rattle.script_places.specs.Naming.{begins, begins_byte, begins_statement, begins_token, form_of, source_form};
+ghost use Rattle.script_places.specs.Naming.{text_form};
 
 /// How a line names a place, by the words that it begins with.
 #[derive(Clone, Copy)]

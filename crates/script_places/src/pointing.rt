@@ -1,6 +1,7 @@
 // The two lines that show a place.
 ghost use Rattle.std.specs.Prelude.{◌≡◌, ◌++◌, IfOk, OnOk, codes, string_bytes};
-ghost use Rattle.script_places.specs.Pointing.{trimmed, up_to_lf, without_cr, blank_for, blanks_for, head, front, caret, pointer};
+ghost use Rattle.script_places.specs.Pointing.{trimmed, up_to_lf, without_cr, blank_for, blanks_for, head, front};
+ghost use Rattle.script_places.specs.Pointing.{caret, pointer};
 ghost use Rattle.script_places.specs.Showing.{shown};
 
 use crate::counting::{column, first_character, in_line, line};

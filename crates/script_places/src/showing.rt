@@ -1,6 +1,7 @@
 // How a text is shown at a terminal.
 ghost use Rattle.std.specs.Prelude.{◌≡◌, ◌<◌, ◌++◌, IfOk, OnOk, length};
-ghost use Rattle.script_places.specs.Showing.{byte_shown, character_shown, digit, escape, has_control_next, is_control, is_hidden, is_marked, shown};
+ghost use Rattle.script_places.specs.Showing.{byte_shown, character_shown, digit, escape, has_control_next, is_control};
+ghost use Rattle.script_places.specs.Showing.{is_hidden, is_marked, shown};
 
 use crate::counting::width;
 use liq_base::Memory;

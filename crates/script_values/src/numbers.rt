@@ -1,7 +1,9 @@
 // The arithmetic of a script.
 ghost use Rattle.std.specs.Prelude.{◌≡◌, ◌*ℤ◌, ◌+ℤ◌, ◌-ℤ◌, ◌≤ℤ◌, pos, negsuc, neg_ℤ, int_div};
 ghost use Rattle.script_values.specs.Gives.{Gives};
-ghost use Rattle.script_values.specs.Numbers.{added, both, compared, decimal_at, either, is_so, int_at, literal_value, multiplied, negative, opposite, plus_or_minus, quotient, quotient_at, truth_of};
+ghost use Rattle.script_values.specs.Numbers.{added, both, compared, decimal_at, either, is_so, int_at, literal_value};
+ghost use Rattle.script_values.specs.Numbers.{multiplied, negative, opposite, plus_or_minus, quotient, quotient_at};
+ghost use Rattle.script_values.specs.Numbers.{truth_of};
 ghost use Rattle.script_values.specs.View.{view_value};
 
 use crate::{Stop, Value};

@@ -8,7 +8,8 @@ ghost use Rattle.script_grammar.specs.Tree.{Tree, ACall, ADef, AFull, AnIf};
 ghost use Rattle.script_grammar.specs.View.{listed, view_call, view_def, view_full, view_if, view_part, view_stmt};
 ghost use Rattle.script_grammar.specs.Whole.{IsWholeCall, IsWholeDef, IsWholeFull, IsWholeIf, IsWholePart, IsWholeStmt};
 ghost use Rattle.parse_base.specs.Gives.{kinds, Gives, places};
-ghost use Rattle.statement_parse.specs.Reads.{as_bind, as_call, as_def, as_if, as_stmt, bind_stmt, bind_stmt_of, pushed};
+ghost use Rattle.statement_parse.specs.Reads.{as_bind, as_call, as_def, as_if, as_stmt, bind_stmt, bind_stmt_of};
+ghost use Rattle.statement_parse.specs.Reads.{pushed};
 
 use crate::definition::def;
 use crate::tokens::name;

@@ -77,7 +77,8 @@ fn push_all(
 ) -> Result<(), Memory>
     requires lists { lists.now ≡ lists_of plan.now }
     requires sounds { sounds.now ≡ sounds_of plan.now list_looks.now }
-    ensures { OnOk result (Adds out.old out.new (files_object rules plan.now ats.now inferred.now list_looks.now looks.now)) }
+    ensures { OnOk result (Adds out.old out.new
+        (files_object rules plan.now ats.now inferred.now list_looks.now looks.now)) }
 {
     begin(out)?;
     push_plan(alloc, out, plan, ats, inferred)?;

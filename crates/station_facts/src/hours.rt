@@ -1,7 +1,9 @@
 // The hours of the switches of a plan.
 ghost use Rattle.std.specs.Prelude.{◌≡◌, ◌≤◌, ◌^◌, ◌+◌, ◌∷◌, [], IfOk, OnOk, codes, length, map, min};
 ghost use Rattle.json.specs.Token.{begin_array, key};
-ghost use Rattle.station_facts.specs.Hours.{AreHours, cases_in, cases_to, hours_object, most_spans, source_hours, span_list, spans_member, switch_object, switch_of, switches_from, switches_object, week_object};
+ghost use Rattle.station_facts.specs.Hours.{AreHours, cases_in, cases_to, hours_object, most_spans, source_hours};
+ghost use Rattle.station_facts.specs.Hours.{span_list, spans_member, switch_object, switch_of, switches_from};
+ghost use Rattle.station_facts.specs.Hours.{switches_object, week_object};
 ghost use Rattle.station_facts.specs.Members.{Adds, each, list_member};
 ghost use Rattle.time_pred.specs.View.{view_shared};
 ghost use Rattle.week_windows.specs.Known.{IsKnown};

@@ -1,8 +1,11 @@
 // What is told of a plan.
-ghost use Rattle.std.specs.Prelude.{◌≡◌, ◌++◌, ◌∷◌, [], OnOk, Some, codes, decimal, if◌then◌else◌, map, nat_eq, slice_get};
+ghost use Rattle.std.specs.Prelude.{◌≡◌, ◌++◌, ◌∷◌, [], OnOk, Some, codes, decimal, if◌then◌else◌, map, nat_eq};
+ghost use Rattle.std.specs.Prelude.{slice_get};
 ghost use Rattle.json.specs.Token.{number};
-ghost use Rattle.station_facts.specs.Members.{Adds, by_threes, each, flag_member, list_member, member_by_threes, number_member, text_member};
-ghost use Rattle.station_facts.specs.Plans.{clock_members, length_members, main_members, name_members, op_members, output_object, plan_members, side_members, source_object, windows_object};
+ghost use Rattle.station_facts.specs.Members.{Adds, by_threes, each, flag_member, list_member, member_by_threes};
+ghost use Rattle.station_facts.specs.Members.{number_member, text_member};
+ghost use Rattle.station_facts.specs.Plans.{clock_members, length_members, main_members, name_members, op_members};
+ghost use Rattle.station_facts.specs.Plans.{output_object, plan_members, side_members, source_object, windows_object};
 ghost use Rattle.time_pred.specs.View.{view_shared};
 ghost use Rattle.week_windows.specs.Known.{IsKnown};
 ghost use Rattle.week_windows.specs.Windows.{case_windows};

@@ -3,7 +3,9 @@ ghost use Rattle.std.specs.Prelude.{◌≡◌, ◌∷◌, [], OnOk, IfOk, codes}
 ghost use Rattle.json.specs.Token.{string};
 ghost use Rattle.liq_base.specs.Shelves.{OnlyRead};
 ghost use Rattle.station_facts.specs.Members.{Adds, each, list_member, paired, paired_member};
-ghost use Rattle.station_facts.specs.Files.{all_bytes, AreListLooks, AreLooks, count_or_none, facts_members, list_look_members, list_object, look_members, sound_object, state_member, unusable_members, use_word};
+ghost use Rattle.station_facts.specs.Files.{all_bytes, AreListLooks, AreLooks, count_or_none, facts_members};
+ghost use Rattle.station_facts.specs.Files.{list_look_members, list_object, look_members, sound_object, state_member};
+ghost use Rattle.station_facts.specs.Files.{unusable_members, use_word};
 ghost use Rattle.sound_looks.specs.Looks.{counted_as};
 ghost use Rattle.track_library.specs.States.{AreRules};
 

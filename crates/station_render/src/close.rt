@@ -1,5 +1,6 @@
 // The sinks of the outputs are closed.
-ghost use Rattle.std.specs.Prelude.{◌≡◌, ◌<◌, ◌+◌, ◌^◌, ◌⊎◌, ◌∷◌, [], ℕ, List, length, map, slice_get, Some, IfErr, IfOk, IsErrOf, IsSomeAnd, OnOk, OnErr, is_ok, true, false};
+ghost use Rattle.std.specs.Prelude.{◌≡◌, ◌<◌, ◌+◌, ◌^◌, ◌⊎◌, ◌∷◌, [], ℕ, List, length, map, slice_get, Some, IfErr};
+ghost use Rattle.std.specs.Prelude.{IfOk, IsErrOf, IsSomeAnd, OnOk, OnErr, is_ok, true, false};
 ghost use Rattle.std.specs.Option.{ForSome};
 ghost use Rattle.liq_base.specs.Counts.{Rose};
 ghost use Rattle.liq_base.specs.Shelves.{Closing, ShelfTold};

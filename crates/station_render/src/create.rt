@@ -9,7 +9,8 @@ ghost use Rattle.station_render.specs.OutputSinks.{inner};
 ghost use Rattle.station_render.specs.Shelves.{OnlyCreates};
 ghost use Rattle.station_render.specs.Sinks.{AreCreated, AreEmpty, HasFailed, lists_of};
 ghost use Rattle.trace_records.specs.Traces.{base_of};
-ghost use Rattle.station_render.specs.Renders.{AreBegun, IsCutShort, IsOpened, IsReady, NoneCreated, WasCreated, order_of, written};
+ghost use Rattle.station_render.specs.Renders.{AreBegun, IsCutShort, IsOpened, IsReady, NoneCreated, WasCreated};
+ghost use Rattle.station_render.specs.Renders.{order_of, written};
 
 use crate::RenderFault;
 use crate::headers::{Opening, opening_of};

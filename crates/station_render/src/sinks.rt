@@ -1,5 +1,6 @@
 // The sinks of the outputs that were created.
-ghost use Rattle.std.specs.Prelude.{◌≡◌, ◌<◌, ◌≤◌, ◌∷◌, [], ◌++◌, length, slice_get, Some, IfOk, OnOk, vec_len, vec_capacity};
+ghost use Rattle.std.specs.Prelude.{◌≡◌, ◌<◌, ◌≤◌, ◌∷◌, [], ◌++◌, length, slice_get, Some, IfOk, OnOk, vec_len};
+ghost use Rattle.std.specs.Prelude.{vec_capacity};
 ghost use Rattle.station_render.specs.Sinks.{AreEmpty, HasPlace, WasAdded, lists_of};
 
 use liq_base::Memory;

@@ -101,7 +101,8 @@ const WORDS: &[(&str, &str)] = &[
     ),
     (
         "+-*/()[]{},;~",
-        "Plus@0..1 Minus@1..2 Star@2..3 Slash@3..4 OpenRound@4..5 CloseRound@5..6 OpenSquare@6..7 CloseSquare@7..8 OpenCurly@8..9 CloseCurly@9..10 Comma@10..11 Semicolon@11..12 Tilde@12..13 ",
+        "Plus@0..1 Minus@1..2 Star@2..3 Slash@3..4 OpenRound@4..5 CloseRound@5..6 OpenSquare@6..7 CloseSquare@7..8 \
+        OpenCurly@8..9 CloseCurly@9..10 Comma@10..11 Semicolon@11..12 Tilde@12..13 ",
     ),
     ("=>", "Assign@0..1 Greater@1..2 "),
     ("%wave", "Wav@0..4 Name(e)@4..5 "),
@@ -161,7 +162,8 @@ fn faults_are_printed(rt: HostRuntime) -> Result<(), Fail> {
     )?;
     assert_eq!(rt;
         text.as_str(),
-        "a byte that may not stand here, at 3; a text without its closing quote, at 0; a number past its bound, at 7; a script of more than 1048576 bytes; out of memory"
+        "a byte that may not stand here, at 3; a text without its closing quote, at 0; a number past its bound, at \
+        7; a script of more than 1048576 bytes; out of memory"
     );
     Ok(())
 }

@@ -1,5 +1,6 @@
 // Parts are cut from the front of a text.
-ghost use Rattle.std.specs.Prelude.{◌≡◌, ◌<◌, ◌^◌, ◌++◌, ◌∷◌, ℕ, List, Bool, ◌≢◌, IfSome, IsSomeAnd, decimal, position, ◌==◌};
+ghost use Rattle.std.specs.Prelude.{◌≡◌, ◌<◌, ◌^◌, ◌++◌, ◌∷◌, ℕ, List, Bool, ◌≢◌, IfSome, IsSomeAnd, decimal, position};
+ghost use Rattle.std.specs.Prelude.{◌==◌};
 ghost use Rattle.std.specs.List.{list_all};
 ghost use Rattle.trace_log.specs.Marks.{Lacks, are_letters, is_letter};
 ghost use Rattle.trace_log.specs.Texts.{header, letters, line, InBounds};

@@ -1,7 +1,8 @@
 // A trace becomes its text.
 ghost use Rattle.std.specs.Prelude.{◌≡◌, ◌++◌, ◌<◌, ◌*◌, ◌+◌, decimal, length, map, slice_index_or, take, OnOk, OnErr};
 ghost use Rattle.buffer_ends.specs.Local.{no_answers};
-ghost use Rattle.trace_log.specs.Texts.{header, letter, letters, log_at, line, place_line, places_of, trace_text, window_count, IsTrace};
+ghost use Rattle.trace_log.specs.Texts.{header, letter, letters, log_at, line, place_line, places_of, trace_text};
+ghost use Rattle.trace_log.specs.Texts.{window_count, IsTrace};
 
 use crate::trace::Trace;
 use buffer_ends::WindowLog;

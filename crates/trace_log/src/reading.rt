@@ -1,5 +1,6 @@
 // A text becomes its trace.
-ghost use Rattle.std.specs.Prelude.{◌≡◌, ◌<◌, ◌*◌, ◌^◌, ◌++◌, ◌∷◌, [], ◌↔◌, ◌≢◌, ℕ, Err, Ok, IfOk, OnOk, length, replicate, slice_index_or, slice_set};
+ghost use Rattle.std.specs.Prelude.{◌≡◌, ◌<◌, ◌*◌, ◌^◌, ◌++◌, ◌∷◌, [], ◌↔◌, ◌≢◌, ℕ, Err, Ok, IfOk, OnOk, length};
+ghost use Rattle.std.specs.Prelude.{replicate, slice_index_or, slice_set};
 ghost use Rattle.trace_log.specs.Marks.{told_by};
 ghost use Rattle.trace_log.specs.Stops.{HasLine, IsText, Lines, StopsAt};
 ghost use Rattle.trace_log.specs.Texts.{IsTrace, line, lines_below, trace_text};

@@ -1,5 +1,6 @@
 // Which windows of a buffer are legal, told by their answers alone.
-ghost use Rattle.std.specs.Prelude.{◌≡◌, ◌≤◌, ◌<◌, ◌+◌, ◌↔◌, ◌-◌, true, false, drop, length, map, List, ℕ, IfSome, IsNone};
+ghost use Rattle.std.specs.Prelude.{◌≡◌, ◌≤◌, ◌<◌, ◌+◌, ◌↔◌, ◌-◌, true, false, drop, length, map, List, ℕ, IfSome};
+ghost use Rattle.std.specs.Prelude.{IsNone};
 ghost use Rattle.std.specs.List.{list_all};
 ghost use Rattle.trace_records.specs.Traces.{pair_of};
 ghost use Rattle.trace_records.specs.Told.{IsToldLegal, are_legal, begins_true, is_legal, passed, refusals_fit, yes};

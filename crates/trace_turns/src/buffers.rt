@@ -1,5 +1,6 @@
 // The buffers of a plan, with what a trace tells of them.
-ghost use Rattle.std.specs.Prelude.{◌≡◌, ◌<◌, ◌≤◌, ℕ, [], true, false, All, Some, length, map, slice_get, slice_index_or, IfOk};
+ghost use Rattle.std.specs.Prelude.{◌≡◌, ◌<◌, ◌≤◌, ℕ, [], true, false, All, Some, length, map, slice_get};
+ghost use Rattle.std.specs.Prelude.{slice_index_or, IfOk};
 ghost use Rattle.plan_core.specs.Plans.{IsBuffer, IsWellFormed};
 ghost use Rattle.stream_meaning.specs.Instants.{Setting};
 ghost use Rattle.run_records.specs.Buffers.{main_of};

@@ -1,5 +1,6 @@
 // The buffers of a plan in the run of one clock, which answer as a trace tells.
-ghost use Rattle.std.specs.Prelude.{◌≡◌, ◌<◌, ◌∷◌, [], length, slice_index_or, slice_set, IfOk, IfErr, OnErr, Some, None};
+ghost use Rattle.std.specs.Prelude.{◌≡◌, ◌<◌, ◌∷◌, [], length, slice_index_or, slice_set, IfOk, IfErr, OnErr, Some};
+ghost use Rattle.std.specs.Prelude.{None};
 ghost use Rattle.frame_core.specs.Calls.{Adds, Call, IsGive};
 ghost use Rattle.frame_core.specs.Calls.Call.{Took};
 ghost use Rattle.trace_turns.specs.declared.course.Course.TheVariants.{Goes as IsGoing};

@@ -1,5 +1,6 @@
 // The audio files that were met on the walk.
-ghost use Rattle.std.specs.Prelude.{◌≡◌, ◌≤◌, ◌<◌, ◌+◌, ◌^◌, ◌++◌, ◌∷◌, [], length, true, Ok, Err, None, Some, IfOk, IfErr, OnOk, Option};
+ghost use Rattle.std.specs.Prelude.{◌≡◌, ◌≤◌, ◌<◌, ◌+◌, ◌^◌, ◌++◌, ◌∷◌, [], length, true, Ok, Err, None, Some, IfOk};
+ghost use Rattle.std.specs.Prelude.{IfErr, OnOk, Option};
 ghost use Rattle.std.specs.Option.{ForSome};
 ghost use Rattle.liq_base.specs.Files.{Files};
 ghost use Rattle.track_library.specs.Walk.{Ends, EndsAt, audio_at, count_of, first_use, use_audio, entry_of};

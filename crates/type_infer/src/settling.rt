@@ -1,8 +1,11 @@
 // The uses of statements under the default solution.
 ghost use Rattle.std.specs.Prelude.{◌≡◌, map, option_map, IfOk, OnOk};
-ghost use Rattle.type_steps.specs.Environment.{AreKindsOver, ArePendingOver, AreUsesOver, IsKindOver, IsPendingOver, IsTextOver};
+ghost use Rattle.type_steps.specs.Environment.{AreKindsOver, ArePendingOver, AreUsesOver, IsKindOver, IsPendingOver};
+ghost use Rattle.type_steps.specs.Environment.{IsTextOver};
 ghost use Rattle.expression_types.specs.Seen.{founds, pending, text_use};
-ghost use Rattle.type_infer.specs.Settling.{AddsDones, AddsFounds, AddsTexts, AreDefaultOf, AreDonesOver, AreSettledKinds, AreSettledTexts, IsSettledKind, IsSettledText, free_kind as the_free_kind};
+ghost use Rattle.type_infer.specs.Settling.{AddsDones, AddsFounds, AddsTexts, AreDefaultOf, AreDonesOver};
+ghost use Rattle.type_infer.specs.Settling.{AreSettledKinds, AreSettledTexts, IsSettledKind, IsSettledText};
+ghost use Rattle.type_infer.specs.Settling.{free_kind as the_free_kind};
 ghost use Rattle.type_infer.specs.States.{dones};
 ghost use Rattle.type_infer.specs.Steps.{defined_as, done_in, dones_in};
 

@@ -4,7 +4,8 @@ ghost use Rattle.type_terms.specs.Agrees.{HasNewKind, HasNewType};
 ghost use Rattle.type_terms.specs.Naming.{instance};
 ghost use Rattle.type_terms.specs.Term.{term_of};
 ghost use Rattle.type_instances.specs.Instances.{Grows, Instantiates, instance_params};
-ghost use Rattle.type_instances.specs.NewVariables.{AreNewKinds, AreNewTypes, HasOuterKind, HasOuterKinds, HasOuterType, HasOuterTypes, IsNewKind, IsNewType, open_terms};
+ghost use Rattle.type_instances.specs.NewVariables.{AreNewKinds, AreNewTypes, HasOuterKind, HasOuterKinds};
+ghost use Rattle.type_instances.specs.NewVariables.{HasOuterType, HasOuterTypes, IsNewKind, IsNewType, open_terms};
 ghost use Rattle.type_instances.specs.Schemes.{IsSchemeOver, open_numbers, scheme_of};
 
 use crate::general::{General, KindParameter, TypeParameter};

@@ -1,5 +1,6 @@
 // The difference of two types under a substitution, and the parts that are left to compare.
-ghost use Rattle.std.specs.Prelude.{◌≡◌, ◌+◌, ◌<◌, ◌≤◌, ◌++◌, ◌∷◌, [], ℕ, Bool, None, Option, List, length, map, true, IfOk, IfSome, OnOk};
+ghost use Rattle.std.specs.Prelude.{◌≡◌, ◌+◌, ◌<◌, ◌≤◌, ◌++◌, ◌∷◌, [], ℕ, Bool, None, Option, List, length, map, true};
+ghost use Rattle.std.specs.Prelude.{IfOk, IfSome, OnOk};
 ghost use Rattle.std.specs.Bool.{OnTrue, OnFalse};
 ghost use Rattle.type_terms.specs.Bound.{table_of};
 ghost use Rattle.type_terms.specs.Differ.{Settles, is_number_base};
@@ -8,8 +9,10 @@ ghost use Rattle.type_terms.specs.Nested.{AreMarked};
 ghost use Rattle.type_terms.specs.Agenda.{AllEqualBelow, EqualBelow, TakesUp, agenda_of, pairs_of, variable_pairs};
 ghost use Rattle.type_terms.specs.Narrowed.{AreComparable};
 ghost use Rattle.type_terms.specs.Pairs.{IsSplit, pairs, parts_of, zipped};
-ghost use Rattle.type_terms.specs.Table.{table, IsOver, IsSound, IsTriangular, bound_at, kind_at, number_at, extra, FallsByNumber, MeetsKinds};
-ghost use Rattle.type_terms.specs.Term.{InTerm, InKind, base_of, term_of, terms_of, variable, kind_meaning, source_term};
+ghost use Rattle.type_terms.specs.Table.{table, IsOver, IsSound, IsTriangular, bound_at, kind_at, number_at, extra};
+ghost use Rattle.type_terms.specs.Table.{FallsByNumber, MeetsKinds};
+ghost use Rattle.type_terms.specs.Term.{InTerm, InKind, base_of, term_of, terms_of, variable, kind_meaning};
+ghost use Rattle.type_terms.specs.Term.{source_term};
 ghost use Rattle.type_terms.specs.Variables.{Variable};
 ghost use Rattle.type_terms.specs.declared.ty.KindTerm.{KindTerm};
 ghost use Rattle.type_terms.specs.declared.ty.KindTerm.TheVariants.{Var};

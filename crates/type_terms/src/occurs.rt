@@ -1,5 +1,6 @@
 // What a type is bound to, and whether a variable stands in it.
-ghost use Rattle.std.specs.Prelude.{◌≡◌, ◌≢◌, ◌+◌, ◌++◌, ◌<◌, ◌≤◌, ℕ, Bool, None, [], List, length, map, false, true, IfOk, IsTrue, OnOk, ◌↔◌};
+ghost use Rattle.std.specs.Prelude.{◌≡◌, ◌≢◌, ◌+◌, ◌++◌, ◌<◌, ◌≤◌, ℕ, Bool, None, [], List, length, map, false, true};
+ghost use Rattle.std.specs.Prelude.{IfOk, IsTrue, OnOk, ◌↔◌};
 ghost use Rattle.std.specs.Bool.{OnTrue, OnFalse};
 ghost use Rattle.type_terms.specs.Ground.{Assignment, size};
 ghost use Rattle.type_terms.specs.Nested.{IsAmong, IsMarked, IsUnnested, IsVisit, below, inside, mark_at, terms};

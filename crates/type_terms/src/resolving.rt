@@ -11,8 +11,8 @@ use crate::type_variable::TypeVariable;
 use liq_base::Memory;
 use std::alloc::Global;
 
-/// How many places the types of a script may have together, beside those that each variable allows. A place is a node of
-/// a type that is built or compared.
+/// How many places the types of a script may have together, beside those that each variable allows. A place is a node
+/// of a type that is built or compared.
 pub const MOST_PLACES: u64 = 1_048_576;
 
 /// How many places a type variable allows. Each expression has one or two, so types of usual size never take of the

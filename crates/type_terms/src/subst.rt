@@ -1,5 +1,6 @@
 // Substitutions, and the most general unifier over one.
-ghost use Rattle.std.specs.Prelude.{◌≡◌, ◌≢◌, ◌+◌, ◌<◌, ◌↔◌, ◌++◌, ℕ, None, Some, List, [], ◌∷◌, length, true, false, option_map, option_copied, IfOk, OnOk, OnErr, IsTrue, IsNone, IfSome};
+ghost use Rattle.std.specs.Prelude.{◌≡◌, ◌≢◌, ◌+◌, ◌<◌, ◌↔◌, ◌++◌, ℕ, None, Some, List, [], ◌∷◌, length, true, false};
+ghost use Rattle.std.specs.Prelude.{option_map, option_copied, IfOk, OnOk, OnErr, IsTrue, IsNone, IfSome};
 ghost use Rattle.std.specs.Bool.{OnTrue, OnFalse};
 ghost use Rattle.type_terms.specs.Agrees.{HasBoundType, HasNewKind, HasNewType, SameVariables};
 ghost use Rattle.type_terms.specs.Counting.{free_among as the_free_among};

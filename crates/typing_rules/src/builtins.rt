@@ -2,7 +2,8 @@
 ghost use Rattle.std.specs.Prelude.{◌≡◌, map};
 ghost use Rattle.std.specs.Str.{bytes_eq};
 ghost use Rattle.typing_rules.specs.Rows.{row_term, seen_parameter, seen_row};
-ghost use Rattle.typing_rules.specs.Table.{builtin_named as the_builtin_named, named_in as the_named_in, params_of_builtin, signature};
+ghost use Rattle.typing_rules.specs.Table.{builtin_named as the_builtin_named, named_in as the_named_in};
+ghost use Rattle.typing_rules.specs.Table.{params_of_builtin, signature};
 
 use crate::form::Form;
 use crate::parameter::Parameter;
@@ -49,14 +50,18 @@ macro_rules! row {
 
 /// The rows, in the order of the builtins.
 const ROWS: [Row; 20] = [
-    row!(OutputFile, "output.file", (Perhaps "id": Text, Perhaps "fallible": Bool, InPlace "format": Format, InPlace "name": Text, InPlace "s": Source) -> Unit),
+    row!(OutputFile, "output.file",
+        (Perhaps "id": Text, Perhaps "fallible": Bool, InPlace "format": Format, InPlace "name": Text,
+         InPlace "s": Source) -> Unit),
     row!(Set, "set", (InPlace "key": Text, InPlace "value": Anything) -> Unit),
     row!(Single, "single", (Perhaps "id": Text, InPlace "file": Text) -> Source),
-    row!(Playlist, "playlist", (Perhaps "id": Text, Perhaps "loop": Bool, Perhaps "mode": Text, InPlace "file": Text) -> Source),
+    row!(Playlist, "playlist",
+        (Perhaps "id": Text, Perhaps "loop": Bool, Perhaps "mode": Text, InPlace "file": Text) -> Source),
     row!(Blank, "blank", (Perhaps "id": Text, Perhaps "duration": Decimal) -> Source),
     row!(Square, "square", (Perhaps "id": Text, InPlace "f": Decimal) -> Source),
     row!(Fail, "fail", (Perhaps "id": Text) -> Source),
-    row!(Fallback, "fallback", (Perhaps "id": Text, Perhaps "track_sensitive": Bool, InPlace "sources": Sources) -> Source),
+    row!(Fallback, "fallback",
+        (Perhaps "id": Text, Perhaps "track_sensitive": Bool, InPlace "sources": Sources) -> Source),
     row!(Switch, "switch", (Perhaps "id": Text, Perhaps "track_sensitive": Bool, InPlace "pairs": Pairs) -> Source),
     row!(Sequence, "sequence", (Perhaps "id": Text, InPlace "sources": Sources) -> Source),
     row!(Rotate, "rotate", (Perhaps "id": Text, InPlace "sources": Sources) -> Source),
@@ -67,7 +72,8 @@ const ROWS: [Row; 20] = [
     row!(Stereo, "stereo", (Perhaps "id": Text, InPlace "s": MonoSource) -> StereoSource),
     row!(Crossfade, "crossfade", (Perhaps "id": Text, Perhaps "duration": Decimal, InPlace "s": Source) -> Source),
     row!(Mksafe, "mksafe", (Perhaps "id": Text, InPlace "s": Source) -> Source),
-    row!(Buffer, "buffer", (Perhaps "id": Text, Perhaps "buffer": Decimal, Perhaps "max": Decimal, InPlace "s": Source) -> Source),
+    row!(Buffer, "buffer",
+        (Perhaps "id": Text, Perhaps "buffer": Decimal, Perhaps "max": Decimal, InPlace "s": Source) -> Source),
     row!(Clock, "clock", (Perhaps "id": Text, InPlace "s": Source) -> Source),
 ];
 

@@ -12,7 +12,8 @@ ghost use Rattle.typing_rules.specs.Answers.{IsTyped, IsTypeFault};
 ghost use Rattle.typing_rules.specs.Arguments.{GivenArgument, Matched};
 ghost use Rattle.typing_rules.specs.Defs.{AreDefsOf, IsDefOf, LeadsInto, def_at};
 ghost use Rattle.typing_rules.specs.Kinds.{around, kinds_in, read, target_at, target_said};
-ghost use Rattle.typing_rules.specs.Scripts.{Entry, HasTyping, IsTypedTo, Places, Targets, behind, calls_behind, def_token, first_of, function, params_of, sight};
+ghost use Rattle.typing_rules.specs.Scripts.{Entry, HasTyping, IsTypedTo, Places, Targets, behind, calls_behind};
+ghost use Rattle.typing_rules.specs.Scripts.{def_token, first_of, function, params_of, sight};
 ghost use Rattle.typing_rules.specs.Typing.{DefHas};
 ghost use Rattle.typing_rules.specs.Uses.{use_at as the_use_at};
 

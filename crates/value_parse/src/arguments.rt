@@ -1,5 +1,6 @@
 // Calls and their arguments.
-ghost use Rattle.std.specs.Prelude.{◌≡◌, ◌<◌, ◌≤◌, ◌+◌, ◌^◌, ◌++◌, ◌∷◌, [], IfOk, IfSome, Ok, false, length, map, true, vec_capacity, vec_len, ℕ};
+ghost use Rattle.std.specs.Prelude.{◌≡◌, ◌<◌, ◌≤◌, ◌+◌, ◌^◌, ◌++◌, ◌∷◌, [], IfOk, IfSome, Ok, false, length, map, true};
+ghost use Rattle.std.specs.Prelude.{vec_capacity, vec_len, ℕ};
 ghost use Rattle.std.specs.List.{All};
 ghost use Rattle.script_grammar.specs.Kinds.{is_comma, is_not};
 ghost use Rattle.script_grammar.specs.Read.{Read, behind, perhaps};

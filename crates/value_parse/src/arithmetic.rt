@@ -3,9 +3,12 @@ ghost use Rattle.std.specs.Prelude.{◌<◌, ◌≤◌, ◌^◌, IfOk, length, m
 ghost use Rattle.std.specs.List.{All};
 ghost use Rattle.script_grammar.specs.Kinds.{is_added, is_multiplied};
 ghost use Rattle.script_grammar.specs.Read.{next, many};
-ghost use Rattle.script_grammar.specs.ReadValue.{full_by, compare, behind_op, next_op, sum, added, product, multiplied, operand};
-ghost use Rattle.script_grammar.specs.View.{listed, view_compare, view_sum, view_added, view_product, view_multiplied, view_operand};
-ghost use Rattle.script_grammar.specs.Whole.{IsWholeCompare, IsWholeSum, IsWholeAdded, IsWholeProduct, IsWholeMultiplied, IsWholeOperand};
+ghost use Rattle.script_grammar.specs.ReadValue.{full_by, compare, behind_op, next_op, sum, added, product, multiplied};
+ghost use Rattle.script_grammar.specs.ReadValue.{operand};
+ghost use Rattle.script_grammar.specs.View.{listed, view_compare, view_sum, view_added, view_product, view_multiplied};
+ghost use Rattle.script_grammar.specs.View.{view_operand};
+ghost use Rattle.script_grammar.specs.Whole.{IsWholeCompare, IsWholeSum, IsWholeAdded, IsWholeProduct};
+ghost use Rattle.script_grammar.specs.Whole.{IsWholeMultiplied, IsWholeOperand};
 ghost use Rattle.parse_base.specs.Gives.{kinds, Gives, places, Reads, ReadsOn};
 
 use crate::at::At;
@@ -31,9 +34,11 @@ pub fn compare_of<'a>(
 ) -> Result<(Compare, &'a [Token]), Fault>
     requires within { length at.tokens.now ≤ at.total }
     requires small { at.total < 2 ^ 32 }
-    requires read { Reads view_sum IsWholeSum (sum at.loose (places at.total) (full_by at.levels (places at.total))) at.tokens.now
+    requires read { Reads view_sum IsWholeSum (sum at.loose (places at.total) (full_by at.levels (places at.total)))
+        at.tokens.now
         read }
-    ensures { Reads view_compare IsWholeCompare (compare at.entry.loose (places at.entry.total) (full_by at.entry.levels (places at.entry.total)))
+    ensures { Reads view_compare IsWholeCompare
+        (compare at.entry.loose (places at.entry.total) (full_by at.entry.levels (places at.entry.total)))
         at.entry.tokens.now result }
 {
     let (left, rest) = read?;
@@ -105,9 +110,11 @@ pub fn sum_of<'a>(
 ) -> Result<(Sum, &'a [Token]), Fault>
     requires within { length at.tokens.now ≤ at.total }
     requires small { at.total < 2 ^ 32 }
-    requires read { Reads view_product IsWholeProduct (product at.loose (places at.total) (full_by at.levels (places at.total)))
+    requires read { Reads view_product IsWholeProduct
+        (product at.loose (places at.total) (full_by at.levels (places at.total)))
         at.tokens.now read }
-    ensures { Reads view_sum IsWholeSum (sum at.entry.loose (places at.entry.total) (full_by at.entry.levels (places at.entry.total))) at.entry.tokens.now result }
+    ensures { Reads view_sum IsWholeSum (sum at.entry.loose (places at.entry.total)
+        (full_by at.entry.levels (places at.entry.total))) at.entry.tokens.now result }
 {
     let (first, rest) = read?;
     let (others, rest) = addends(At { tokens: rest, ..at })?;
@@ -120,7 +127,8 @@ fn addends<'a>(at: At<'a>) -> Result<(Vec<Added>, &'a [Token]), Fault>
     requires within { length at.tokens.now ≤ at.total }
     requires small { at.total < 2 ^ 32 }
     ensures { ReadsOn (λ x. listed (map view_added x.items)) (λ x. All IsWholeAdded x.items) (many (next is_added)
-        (added at.entry.loose (places at.entry.total) (full_by at.entry.levels (places at.entry.total)))) at.entry.tokens.now result }
+        (added at.entry.loose (places at.entry.total) (full_by at.entry.levels (places at.entry.total))))
+        at.entry.tokens.now result }
 {
     let mut items = Vec::new(at.alloc);
     let mut rest = at.tokens;
@@ -138,7 +146,8 @@ fn added<'a>(here: At<'a>) -> Result<(Added, &'a [Token]), Fault>
     requires small { here.total < 2 ^ 32 }
     ensures shorter { IfOk result (λ x. length x.1.now < length here.entry.tokens.now) }
     ensures gives { Gives (λ x. (view_added x.0, kinds x.1.now)) result
-        (added here.entry.loose (places here.entry.total) (full_by here.entry.levels (places here.entry.total)) (kinds here.entry.tokens.now)) }
+        (added here.entry.loose (places here.entry.total) (full_by here.entry.levels (places here.entry.total))
+        (kinds here.entry.tokens.now)) }
     ensures whole { IfOk result (λ x. IsWholeAdded x.0) }
 {
     let at = place(here.total, here.tokens);
@@ -168,9 +177,11 @@ pub fn product_of<'a>(
 ) -> Result<(Product, &'a [Token]), Fault>
     requires within { length at.tokens.now ≤ at.total }
     requires small { at.total < 2 ^ 32 }
-    requires read { Reads view_operand IsWholeOperand (operand at.loose (places at.total) (full_by at.levels (places at.total)))
+    requires read { Reads view_operand IsWholeOperand
+        (operand at.loose (places at.total) (full_by at.levels (places at.total)))
         at.tokens.now read }
-    ensures { Reads view_product IsWholeProduct (product at.entry.loose (places at.entry.total) (full_by at.entry.levels (places at.entry.total)))
+    ensures { Reads view_product IsWholeProduct
+        (product at.entry.loose (places at.entry.total) (full_by at.entry.levels (places at.entry.total)))
         at.entry.tokens.now result }
 {
     let (first, rest) = read?;
@@ -184,7 +195,8 @@ fn factors<'a>(at: At<'a>) -> Result<(Vec<Multiplied>, &'a [Token]), Fault>
     requires within { length at.tokens.now ≤ at.total }
     requires small { at.total < 2 ^ 32 }
     ensures { ReadsOn (λ x. listed (map view_multiplied x.items)) (λ x. All IsWholeMultiplied x.items) (many (next
-        is_multiplied) (multiplied at.entry.loose (places at.entry.total) (full_by at.entry.levels (places at.entry.total)))) at.entry.tokens.now result }
+        is_multiplied) (multiplied at.entry.loose (places at.entry.total)
+        (full_by at.entry.levels (places at.entry.total)))) at.entry.tokens.now result }
 {
     let mut items = Vec::new(at.alloc);
     let mut rest = at.tokens;
@@ -202,7 +214,8 @@ fn multiplied<'a>(here: At<'a>) -> Result<(Multiplied, &'a [Token]), Fault>
     requires small { here.total < 2 ^ 32 }
     ensures shorter { IfOk result (λ x. length x.1.now < length here.entry.tokens.now) }
     ensures gives { Gives (λ x. (view_multiplied x.0, kinds x.1.now)) result
-        (multiplied here.entry.loose (places here.entry.total) (full_by here.entry.levels (places here.entry.total)) (kinds here.entry.tokens.now)) }
+        (multiplied here.entry.loose (places here.entry.total) (full_by here.entry.levels (places here.entry.total))
+        (kinds here.entry.tokens.now)) }
     ensures whole { IfOk result (λ x. IsWholeMultiplied x.0) }
 {
     let at = place(here.total, here.tokens);

@@ -25,7 +25,8 @@ use std::alloc::Global;
 pub fn expr<'a>(at: At<'a>) -> Result<(Expr, &'a [Token]), Fault>
     requires within { length at.tokens.now ≤ at.total }
     requires small { at.total < 2 ^ 32 }
-    ensures { Reads view_expr IsWholeExpr (expr at.entry.loose (places at.entry.total) (full_by at.entry.levels (places at.entry.total))) at.entry.tokens.now
+    ensures { Reads view_expr IsWholeExpr (expr at.entry.loose (places at.entry.total)
+        (full_by at.entry.levels (places at.entry.total))) at.entry.tokens.now
         result }
 {
     let (negated, inner) = token::perhaps(at.tokens, Class::Not);
@@ -54,9 +55,11 @@ pub fn expr_from<'a>(
     requires small { at.total < 2 ^ 32 }
     requires inside { length inner.now ≤ length at.tokens.now }
     requires lead { perhaps is_not (kinds at.tokens.now) ≡ Ok (negated, kinds inner.now) }
-    requires read { Reads view_operand IsWholeOperand (operand at.loose (places at.total) (full_by at.levels (places at.total)))
+    requires read { Reads view_operand IsWholeOperand
+        (operand at.loose (places at.total) (full_by at.levels (places at.total)))
         inner.now read }
-    ensures { Reads view_expr IsWholeExpr (expr at.entry.loose (places at.entry.total) (full_by at.entry.levels (places at.entry.total))) at.entry.tokens.now
+    ensures { Reads view_expr IsWholeExpr (expr at.entry.loose (places at.entry.total)
+        (full_by at.entry.levels (places at.entry.total))) at.entry.tokens.now
         result }
 {
     let first = negation_of(
@@ -76,9 +79,11 @@ fn expr_of<'a>(
 ) -> Result<(Expr, &'a [Token]), Fault>
     requires within { length at.tokens.now ≤ at.total }
     requires small { at.total < 2 ^ 32 }
-    requires read { Reads view_and IsWholeAnd (and_ at.loose (places at.total) (full_by at.levels (places at.total))) at.tokens.now
+    requires read { Reads view_and IsWholeAnd (and_ at.loose (places at.total) (full_by at.levels (places at.total)))
+        at.tokens.now
         read }
-    ensures { Reads view_expr IsWholeExpr (expr at.entry.loose (places at.entry.total) (full_by at.entry.levels (places at.entry.total))) at.entry.tokens.now
+    ensures { Reads view_expr IsWholeExpr (expr at.entry.loose (places at.entry.total)
+        (full_by at.entry.levels (places at.entry.total))) at.entry.tokens.now
         result }
 {
     let (first, rest) = read?;
@@ -92,7 +97,8 @@ fn ands<'a>(at: At<'a>) -> Result<(Vec<And>, &'a [Token]), Fault>
     requires within { length at.tokens.now ≤ at.total }
     requires small { at.total < 2 ^ 32 }
     ensures { ReadsOn (λ x. listed (map view_and x.items)) (λ x. All IsWholeAnd x.items) (many (next is_or) (behind
-        is_or (and_ at.entry.loose (places at.entry.total) (full_by at.entry.levels (places at.entry.total))))) at.entry.tokens.now result }
+        is_or (and_ at.entry.loose (places at.entry.total) (full_by at.entry.levels (places at.entry.total)))))
+        at.entry.tokens.now result }
 {
     let mut items = Vec::new(at.alloc);
     let mut rest = at.tokens;
@@ -108,7 +114,8 @@ fn ands<'a>(at: At<'a>) -> Result<(Vec<And>, &'a [Token]), Fault>
 fn or_and<'a>(at: At<'a>) -> Result<(And, &'a [Token]), Fault>
     requires within { length at.tokens.now ≤ at.total }
     requires small { at.total < 2 ^ 32 }
-    ensures { Reads view_and IsWholeAnd (behind is_or (and_ at.entry.loose (places at.entry.total) (full_by at.entry.levels (places at.entry.total))))
+    ensures { Reads view_and IsWholeAnd (behind is_or
+        (and_ at.entry.loose (places at.entry.total) (full_by at.entry.levels (places at.entry.total))))
         at.entry.tokens.now result }
 {
     let ((), rest) = token::expect(at.tokens, Class::Or)?;
@@ -130,9 +137,11 @@ fn and_of<'a>(
 ) -> Result<(And, &'a [Token]), Fault>
     requires within { length at.tokens.now ≤ at.total }
     requires small { at.total < 2 ^ 32 }
-    requires read { Reads view_not IsWholeNot (not_ at.loose (places at.total) (full_by at.levels (places at.total))) at.tokens.now
+    requires read { Reads view_not IsWholeNot (not_ at.loose (places at.total) (full_by at.levels (places at.total)))
+        at.tokens.now
         read }
-    ensures { Reads view_and IsWholeAnd (and_ at.entry.loose (places at.entry.total) (full_by at.entry.levels (places at.entry.total))) at.entry.tokens.now result }
+    ensures { Reads view_and IsWholeAnd (and_ at.entry.loose (places at.entry.total)
+        (full_by at.entry.levels (places at.entry.total))) at.entry.tokens.now result }
 {
     let (first, rest) = read?;
     let (others, rest) = nots(At { tokens: rest, ..at })?;
@@ -145,7 +154,8 @@ fn nots<'a>(at: At<'a>) -> Result<(Vec<Not>, &'a [Token]), Fault>
     requires within { length at.tokens.now ≤ at.total }
     requires small { at.total < 2 ^ 32 }
     ensures { ReadsOn (λ x. listed (map view_not x.items)) (λ x. All IsWholeNot x.items) (many (next is_and) (behind
-        is_and (not_ at.entry.loose (places at.entry.total) (full_by at.entry.levels (places at.entry.total))))) at.entry.tokens.now result }
+        is_and (not_ at.entry.loose (places at.entry.total) (full_by at.entry.levels (places at.entry.total)))))
+        at.entry.tokens.now result }
 {
     let mut items = Vec::new(at.alloc);
     let mut rest = at.tokens;
@@ -161,7 +171,8 @@ fn nots<'a>(at: At<'a>) -> Result<(Vec<Not>, &'a [Token]), Fault>
 fn and_not<'a>(at: At<'a>) -> Result<(Not, &'a [Token]), Fault>
     requires within { length at.tokens.now ≤ at.total }
     requires small { at.total < 2 ^ 32 }
-    ensures { Reads view_not IsWholeNot (behind is_and (not_ at.entry.loose (places at.entry.total) (full_by at.entry.levels (places at.entry.total))))
+    ensures { Reads view_not IsWholeNot (behind is_and
+        (not_ at.entry.loose (places at.entry.total) (full_by at.entry.levels (places at.entry.total))))
         at.entry.tokens.now result }
 {
     let ((), rest) = token::expect(at.tokens, Class::And)?;
@@ -183,7 +194,8 @@ fn and_not<'a>(at: At<'a>) -> Result<(Not, &'a [Token]), Fault>
 fn not_term<'a>(at: At<'a>) -> Result<(Not, &'a [Token]), Fault>
     requires within { length at.tokens.now ≤ at.total }
     requires small { at.total < 2 ^ 32 }
-    ensures { Reads view_not IsWholeNot (not_ at.entry.loose (places at.entry.total) (full_by at.entry.levels (places at.entry.total))) at.entry.tokens.now result }
+    ensures { Reads view_not IsWholeNot (not_ at.entry.loose (places at.entry.total)
+        (full_by at.entry.levels (places at.entry.total))) at.entry.tokens.now result }
 {
     let (negated, rest) = token::perhaps(at.tokens, Class::Not);
     negation_of(

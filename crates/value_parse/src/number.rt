@@ -3,7 +3,8 @@ ghost use Rattle.std.specs.Prelude.{◌≡◌, ◌<◌, ◌≤◌, IfOk, length,
 ghost use Rattle.script_grammar.specs.Kinds.{op_of};
 ghost use Rattle.script_lex.specs.declared.token.TokenKind.TheVariants.{Symbol as a_symbol};
 ghost use Rattle.script_grammar.specs.Read.{next};
-ghost use Rattle.script_grammar.specs.ReadValue.{digits, whole_number, the_name, size, wav, takes_option, optional, opens_name, next_op, binds};
+ghost use Rattle.script_grammar.specs.ReadValue.{digits, whole_number, the_name, size, wav, takes_option, optional};
+ghost use Rattle.script_grammar.specs.ReadValue.{opens_name, next_op, binds};
 ghost use Rattle.parse_base.specs.Gives.{kinds, Gives};
 ghost use Rattle.value_parse.specs.Operand.{is_bare, is_operator, label_of, product_sign, sum_sign};
 

@@ -31,7 +31,8 @@ use std::alloc::Global;
 pub fn operand<'a>(at: At<'a>) -> Result<(tree::Operand, &'a [Token]), Fault>
     requires within { length at.tokens.now ≤ at.total }
     requires small { at.total < 2 ^ 32 }
-    ensures { Reads view_operand IsWholeOperand (operand at.entry.loose (places at.entry.total) (full_by at.entry.levels (places at.entry.total)))
+    ensures { Reads view_operand IsWholeOperand
+        (operand at.entry.loose (places at.entry.total) (full_by at.entry.levels (places at.entry.total)))
         at.entry.tokens.now result }
 {
     match at.tokens {

@@ -60,7 +60,8 @@ pub fn full(
 pub fn full_step<'a>(at: At<'a>) -> Result<(Full, &'a [Token]), Fault>
     requires within { length at.tokens.now ≤ at.total }
     requires small { at.total < 2 ^ 32 }
-    ensures { Reads view_full IsWholeFull (full_step at.entry.loose (places at.entry.total) (full_by at.entry.levels (places at.entry.total))) at.entry.tokens.now
+    ensures { Reads view_full IsWholeFull (full_step at.entry.loose (places at.entry.total)
+        (full_by at.entry.levels (places at.entry.total))) at.entry.tokens.now
         result }
 {
     match at.tokens {
@@ -102,7 +103,8 @@ pub fn full_box(
 fn plain<'a>(at: At<'a>) -> Result<(Full, &'a [Token]), Fault>
     requires within { length at.tokens.now ≤ at.total }
     requires small { at.total < 2 ^ 32 }
-    ensures { Reads view_full IsWholeFull (plain at.entry.loose (places at.entry.total) (full_by at.entry.levels (places at.entry.total))) at.entry.tokens.now
+    ensures { Reads view_full IsWholeFull (plain at.entry.loose (places at.entry.total)
+        (full_by at.entry.levels (places at.entry.total))) at.entry.tokens.now
         result }
 {
     let (negated, inner) = token::perhaps(at.tokens, Class::Not);
@@ -131,9 +133,11 @@ fn plain_of<'a>(
     requires small { at.total < 2 ^ 32 }
     requires inside { length inner.now ≤ length at.tokens.now }
     requires lead { perhaps is_not (kinds at.tokens.now) ≡ Ok (negated, kinds inner.now) }
-    requires read { Reads view_operand IsWholeOperand (operand at.loose (places at.total) (full_by at.levels (places at.total)))
+    requires read { Reads view_operand IsWholeOperand
+        (operand at.loose (places at.total) (full_by at.levels (places at.total)))
         inner.now read }
-    ensures { Reads view_full IsWholeFull (plain at.entry.loose (places at.entry.total) (full_by at.entry.levels (places at.entry.total))) at.entry.tokens.now
+    ensures { Reads view_full IsWholeFull (plain at.entry.loose (places at.entry.total)
+        (full_by at.entry.levels (places at.entry.total))) at.entry.tokens.now
         result }
 {
     let (operand, rest) = read?;

@@ -2,7 +2,8 @@
 ghost use Rattle.std.specs.Option.{SomeIff};
 ghost use Rattle.std.specs.Prelude.{◌≡◌, ◌≤◌, ◌<◌, ◌+◌, ◌*◌, ◌^◌, ◌++◌, codes};
 ghost use Rattle.liq_base.specs.Kinds.{channels_of};
-ghost use Rattle.wav_io.specs.Header.{header_of, wide_header_of, block_align, block_size, wide_block, padded, four_bytes, two_bytes};
+ghost use Rattle.wav_io.specs.Header.{header_of, wide_header_of, block_align, block_size, wide_block, padded};
+ghost use Rattle.wav_io.specs.Header.{four_bytes, two_bytes};
 
 use byteorder::{ByteOrder, LittleEndian};
 use liq_base::Kind;

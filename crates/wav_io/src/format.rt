@@ -1,6 +1,7 @@
 // The body of a `fmt ` chunk.
 ghost use Rattle.std.specs.Prelude.{◌≡◌, ◌≤◌, length, IsTrue};
-ghost use Rattle.wav_io.specs.Reading.{format_in, is_pcm, has_pcm_guid, is_width, kind_by_channels, checked_format, is_format_body};
+ghost use Rattle.wav_io.specs.Reading.{format_in, is_pcm, has_pcm_guid, is_width, kind_by_channels, checked_format};
+ghost use Rattle.wav_io.specs.Reading.{is_format_body};
 
 use crate::WavFault;
 use crate::fields::block_len;

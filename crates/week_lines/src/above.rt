@@ -2,7 +2,8 @@
 ghost use Rattle.std.specs.Prelude.{◌≡◌, Some, nat_eq};
 ghost use Rattle.std.specs.List.{list_any};
 ghost use Rattle.plan_core.specs.Plans.{sink_node};
-ghost use Rattle.week_lines.specs.Instead.{child_behind, instead_among, instead_at, instead_below, instead_by, instead_of, is_written, players_of};
+ghost use Rattle.week_lines.specs.Instead.{child_behind, instead_among, instead_at, instead_below, instead_by};
+ghost use Rattle.week_lines.specs.Instead.{instead_of, is_written, players_of};
 
 use plan_core::{Node, Op, Plan, SinkPlan};
 

@@ -11,7 +11,8 @@ use std::alloc::Global;
 /// Of each source whether it lies below a crossfade, whose own clock it then follows.
 pub fn below_crossfades(alloc: Global, nodes: &[Node]) -> Result<Vec<bool>, Memory>
     requires { AreNodes nodes.now }
-    ensures { IfOk result (λ below. (number : ℕ) → (get_or below.items number false ≡ true) ↔ IsBelow nodes.now number) }
+    ensures { IfOk result (λ below. (number : ℕ) → (get_or below.items number false ≡ true) ↔ IsBelow nodes.now
+        number) }
 {
     let mut below = vec![in alloc; false; nodes.len()]?;
     mark_below(&mut below, nodes);

@@ -1,6 +1,7 @@
 // The lines of a switch.
 ghost use Rattle.std.specs.Prelude.{◌≡◌, ◌++◌, OnOk, codes, decimal};
-ghost use Rattle.week_lines.specs.Lines.{below_text, hole_line, instead_text, part_text, sum_line, switch_text, track_text};
+ghost use Rattle.week_lines.specs.Lines.{below_text, hole_line, instead_text, part_text, sum_line, switch_text};
+ghost use Rattle.week_lines.specs.Lines.{track_text};
 
 use crate::above::Instead;
 use fixed_text::write_u64;

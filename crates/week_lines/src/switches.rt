@@ -1,5 +1,6 @@
 // What is told of the switches of a plan.
-ghost use Rattle.std.specs.Prelude.{◌≡◌, ◌↔◌, ◌++◌, [], ◌&&◌, ◌||◌, ℕ, Bool, List, Some, true, false, not, length, get_or, map, slice_get, IfOk, OnOk};
+ghost use Rattle.std.specs.Prelude.{◌≡◌, ◌↔◌, ◌++◌, [], ◌&&◌, ◌||◌, ℕ, Bool, List, Some, true, false, not, length};
+ghost use Rattle.std.specs.Prelude.{get_or, map, slice_get, IfOk, OnOk};
 ghost use Rattle.fallible_infer.specs.Infallible.{mark_at};
 ghost use Rattle.plan_core.specs.Plans.{IsWellFormed};
 ghost use Rattle.time_pred.specs.View.{view_shared};
@@ -8,7 +9,8 @@ ghost use Rattle.week_plan.specs.Spans.{AreSpansOf, IsDaily, some_case_holds};
 ghost use Rattle.week_plan.specs.Tables.{IsTable, IsTableOf, is_told};
 ghost use Rattle.week_plan.specs.declared.span.Span.{Span};
 ghost use Rattle.week_lines.specs.Instead.{IsBelow};
-ghost use Rattle.week_lines.specs.Weeks.{AreLines, IsOfSource, IsSwitchText, fates_text, holes_text, is_silence, is_silent, some_silent};
+ghost use Rattle.week_lines.specs.Weeks.{AreLines, IsOfSource, IsSwitchText, fates_text, holes_text, is_silence};
+ghost use Rattle.week_lines.specs.Weeks.{is_silent, some_silent};
 
 use crate::above::{Instead, instead_of};
 use crate::below::is_marked;

@@ -1,6 +1,7 @@
 // The holes of a switch as one text.
 ghost use Rattle.std.specs.Prelude.{◌≡◌, ◌<◌, ◌≤◌, ◌++◌, OnOk, IfOk, length};
-ghost use Rattle.week_plan.specs.Listing.{comma, end_of_round, every_text, goes_round, is_whole, joined, more_text, round_before, round_text, rounds_before, rounds_text, when_text};
+ghost use Rattle.week_plan.specs.Listing.{comma, end_of_round, every_text, goes_round, is_whole, joined, more_text};
+ghost use Rattle.week_plan.specs.Listing.{round_before, round_text, rounds_before, rounds_text, when_text};
 
 use crate::Span;
 use crate::stretch::WEEK;

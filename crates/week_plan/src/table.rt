@@ -1,5 +1,6 @@
 // Tables of the week: a word for each minute, and a bit of it for each second.
-ghost use Rattle.std.specs.Prelude.{◌≡◌, ◌<◌, ◌≤◌, ◌-◌, ◌*◌, ◌^◌, ◌%◌, ℕ, Bool, true, false, get_or, length, IfOk, ◌&&◌, ◌||◌, nat_le, nat_lt};
+ghost use Rattle.std.specs.Prelude.{◌≡◌, ◌<◌, ◌≤◌, ◌-◌, ◌*◌, ◌^◌, ◌%◌, ℕ, Bool, true, false, get_or, length, IfOk};
+ghost use Rattle.std.specs.Prelude.{◌&&◌, ◌||◌, nat_le, nat_lt};
 ghost use Rattle.week_plan.specs.Tables.{IsTable, IsTableOf, how_many, is_set, is_told, joined};
 
 use crate::stretch::WEEK;

@@ -1,6 +1,7 @@
 // When a hole is, for people.
 ghost use Rattle.std.specs.Prelude.{◌≡◌, ◌<◌, ◌/◌, ◌%◌, ◌++◌, OnOk, codes};
-ghost use Rattle.week_plan.specs.Texts.{clock_text, daily_text, day_text, end_day, end_text, is_one_day, seconds_part, span_text, two_digits, weekly_text};
+ghost use Rattle.week_plan.specs.Texts.{clock_text, daily_text, day_text, end_day, end_text, is_one_day, seconds_part};
+ghost use Rattle.week_plan.specs.Texts.{span_text, two_digits, weekly_text};
 
 use fixed_text::write_u64;
 use liq_base::Memory;

@@ -1,7 +1,8 @@
 // The call of a statement with which types clash.
 ghost use Rattle.std.specs.Prelude.{◌≡◌, ◌++◌, false, IfOk, IfSome, OnOk, Some, take};
 ghost use Rattle.where_lines.specs.declared.calls.Bracket.TheVariants as bracket;
-ghost use Rattle.where_lines.specs.Calls.{IsCaller, calls_from, newest, brackets_behind, role_of, symbol_role, texts_behind, with_closed};
+ghost use Rattle.where_lines.specs.Calls.{IsCaller, calls_from, newest, brackets_behind, role_of, symbol_role};
+ghost use Rattle.where_lines.specs.Calls.{texts_behind, with_closed};
 ghost use Rattle.where_lines.specs.Candidates.{AreCalls, IsCalled, IsCandidate};
 ghost use Rattle.where_lines.specs.Clashes.{Clashes};
 

@@ -3,7 +3,8 @@ ghost use Rattle.std.specs.Prelude.{◌≡◌, ◌<◌, ◌++◌, IfOk, take, dr
 ghost use Rattle.script_grammar.specs.Placed.{IsPlaced};
 ghost use Rattle.script_grammar.specs.View.{view_script};
 ghost use Rattle.where_lines.specs.Calls.{part};
-ghost use Rattle.where_lines.specs.Statements.{before, begins_at, beginning, begins_def, calling, first_of, is_def, is_def_word, or_all, tokens_of};
+ghost use Rattle.where_lines.specs.Statements.{before, begins_at, beginning, begins_def, calling, first_of, is_def};
+ghost use Rattle.where_lines.specs.Statements.{is_def_word, or_all, tokens_of};
 
 use liq_base::Memory;
 use script_grammar::tree::Script;

@@ -1,5 +1,6 @@
 // Lines that are passed on.
-ghost use Rattle.std.specs.Prelude.{◌≡◌, ◌≢◌, ◌++◌, [], Bool, List, ℕ, None, Some, true, false, IfErr, IfOk, IfSome, OnOk};
+ghost use Rattle.std.specs.Prelude.{◌≡◌, ◌≢◌, ◌++◌, [], Bool, List, ℕ, None, Some, true, false, IfErr, IfOk, IfSome};
+ghost use Rattle.std.specs.Prelude.{OnOk};
 ghost use Rattle.std.specs.Io.BufRead.{drop_through, ends_with_byte, take_through};
 ghost use Rattle.std.specs.Option.{option_map};
 ghost use Rattle.script_places.specs.Pointing.{pointer};

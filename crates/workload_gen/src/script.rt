@@ -54,7 +54,8 @@ fn push_outputs(text: &mut String) -> Result<(), AllocError>
     ensures { OnOk result (string_bytes text.new ≡ string_bytes text.old ++ outputs) }
 {
     text.push_str(
-        "output.file(%wav, \"one.wav\", mksafe(crossfade(duration=0.05, playlist(\"all.m3u\"))))\noutput.file(%wav, \"two.wav\", clock(id=\"two\", mix))\n",
+        "output.file(%wav, \"one.wav\", mksafe(crossfade(duration=0.05, playlist(\"all.m3u\"))))\n\
+        output.file(%wav, \"two.wav\", clock(id=\"two\", mix))\n",
     )?;
     Ok(())
 }
