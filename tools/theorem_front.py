@@ -1,35 +1,13 @@
-"""What stands before the chapters of the theorem's page: the sentence, the statuses, the ten steps, what is not proved, and a legend."""
+"""What stands before the chapters of the theorem's page: the sentence, the statuses, the ten steps, what is not proved, a legend,
+and two scripts that are followed through the chapters."""
 import html
 import os
 import re
-from typing import Callable, List, Tuple
+from typing import Callable, Dict, List, Tuple
+
+from theorem_words import KIT, SIGNS, STATUSES, names_of
 
 TOP = os.path.dirname(os.path.dirname(os.path.realpath(__file__)))
-STATUSES = (
-    ("0", "all is done: the report on standard output, and each output as its source means it"),
-    ("1", "the script is refused, for its first fault in a fixed order: one line, and nothing is changed"),
-    ("2", "the words fit no form: the usage line, and nothing is changed"),
-    ("3", "a count of failed reads rose: nothing is written"),
-    ("4", "a count of failed writes rose: some line, the report or the rendering broke off"),
-    ("5", "no clause ties it to a cause; what holds then is a rendering that broke off, or nothing changed"))
-SIGNS = (
-    ("A × B", "both A and B"), ("A ⊎ B", "A or B"), ("A → B", "if A, then B; of things: a function"), ("a ≡ b", "a and b are the same"),
-    ("(x : A) → B", "for each x of A"), ("(x : A) × B", "there is an x of A with B"), ("λ x. e", "the function that makes e of x"),
-    ("x ∷ xs", "a list that begins with x"), ("⊤ and ⊥", "what always holds, and what never does"),
-    ("ℕ and ℤ", "the whole numbers from 0 on, and all of them"), ("Type 0", "what can be claimed, or the kind of a thing"),
-    ("record", "several claims under names, all of which hold"), ("abbrev", "a name for what stands behind it"),
-    ("unfoldable", "a name that the prover looks into only where it is asked to"))
-KIT = (
-    ("ForSome o P", "P holds of the value of o, if o has one. Where o has none it is true, so it claims nothing"),
-    ("IsSome o", "o has a value"), ("IsSomeAnd o P", "o has a value, and P holds of it"), ("is_some o", "the same as IsSome, as a truth value"),
-    ("Option, Some, None", "a value that may be missing"), ("option_map f o", "f of the value of o, if there is one"),
-    ("option_map_or f o d", "f of the value of o, or else d"), ("Result, Ok, Err", "a value, or a fault"), ("IsErrOf r e", "r is the fault e"),
-    ("IfOk r P", "P holds of the value of r, if it is no fault"), ("List, []", "elements in their order; the empty list"),
-    ("length xs", "how many elements a list has"), ("xs ++ ys", "one list behind the other"), ("map, flat_map", "a list of what a function makes of each element"),
-    ("slice_get xs i", "the element at i, counted from 0, or None"), ("slice_index_or xs i d", "the element at i, or d"),
-    ("slice_index xs i", "the number at i, or 0"), ("All P xs", "P holds of each element"), ("list_any p xs", "some element passes a test"),
-    ("count_by p xs", "how many elements pass a test"), ("range_with_len a n", "the n numbers from a on"), ("bytes_eq a b", "two texts are the same"),
-    ("cond b x y", "x if b is true, else y"), ("decimal n", "the digits of a number"), ("zero, suc n", "0, and the number behind n"))
 SYMBOL = re.compile(r"`tools/theorem ([\w:]+)(?: [^`]*)?`")
 
 
@@ -71,13 +49,13 @@ def steps(place_of: Callable[[str], str]) -> str:
 
 
 def open_questions() -> str:
-    """What no clause says, by the heads of the page of the promises."""
+    """What no clause says of the call, by the heads of the page of the promises. Those of the companion are left out."""
     heads = re.findall(r"^- \*\*([^*]+?)\.?\*\*", section("promises.md", "What is not proved"), re.M)
-    return "".join(f"<li>{prose(head)}</li>" for head in heads)
+    return "".join(f"<li>{prose(head)}</li>" for head in heads if not re.search("`where`|companion|the week", head))
 
 
 def versions() -> str:
-    """The version, and the kit that dist/PROVED names."""
+    """The version, the kit, and the digest of the sources that dist/PROVED names."""
     def told(path: str, form: str) -> str:
         try:
             with open(os.path.join(TOP, path), encoding="utf-8") as file:
@@ -85,17 +63,54 @@ def versions() -> str:
         except OSError:
             return "not known"
         return html.escape(found[1]) if found else "not known"
-    return f"Version {told('VERSION', '(.+)')}; the programs of <code>dist/</code> were proved by {told('dist/PROVED', '^kit (.*)$')}."
+    return (f"Version {told('VERSION', '(.+)')}. The programs of <code>dist/</code> were proved by {told('dist/PROVED', '^kit (.*)$')}, "
+            f"from sources of digest {told('dist/PROVED', '^sources ([0-9a-f]{16})')}.")
 
 
-def rows_of(pairs: Tuple[Tuple[str, str], ...]) -> str:
-    return "".join(f"<tr><th><code>{html.escape(name)}</code><td>{prose(text)}" for name, text in pairs)
+def followed() -> Tuple[Dict[str, str], Dict[str, List[Tuple[str, str]]]]:
+    """The scripts of tools/followed.txt by name, and for each chapter what it says of which script."""
+    with open(os.path.join(TOP, "tools", "followed.txt"), encoding="utf-8") as file:
+        text = file.read()
+    scripts = dict(re.findall(r"^= (\w+)\n((?:.+\n)+)", text, re.M))
+    chapters = {title: re.findall(r"^(\w+): (.*)$", rows, re.M) for title, rows in re.findall(r"^# (.*)\n((?:.+\n)+)", text, re.M)}
+    return scripts, chapters
+
+
+def followed_in(chapter: str) -> str:
+    """What a chapter makes of the two scripts."""
+    rows = "".join(f"<div><dt>The {name} script</dt><dd>{prose(text)}</dd></div>" for name, text in followed()[1].get(chapter, []))
+    return f"<dl class=two>{rows}</dl>" if rows else ""
+
+
+def signs() -> str:
+    """The table of signs."""
+    rows = "".join(f"<tr><th><code>{html.escape(sign)}</code><td>{prose(text)}" for sign, text in SIGNS)
+    return f"<table class=signs>{rows}</table>"
+
+
+def kit() -> str:
+    """The names of std and of the kit, each row with a mark to which its names lead."""
+    rows = []
+    for title, lines in KIT:
+        rows.append(f"<h5>{html.escape(title)}</h5>")
+        for head, text in lines:
+            names = html.escape(" ".join(names_of(head)))
+            rows.append(f'<article class=kit id="kit.{html.escape(names_of(head)[0])}" data-at="not printed here" data-names="{names}">'
+                        f"<pre>{html.escape(head)}</pre><p>{prose(text)}</p></article>")
+    return "".join(rows)
 
 
 def front(place_of: Callable[[str], str]) -> str:
     """The section before the chapters. `place_of` makes the mark of a definition of its name, or nothing."""
-    return (f'<section id=front><h2>What this page says</h2><p>{versions()} The README says what is proved, tested and trusted; '
-            f"<code>docs/promises.md</code> has the clause for each promise.</p><p>In one sentence, of <code>liq render FILE N</code>: "
-            f"{sentence()}</p><table>{rows_of(STATUSES)}</table><h4>Ten steps through it</h4><ol>{steps(place_of)}</ol>"
-            f"<h4>What no clause says</h4><ul>{open_questions()}</ul><details open><summary>Signs</summary><table>{rows_of(SIGNS)}</table></details>"
-            f"<details open><summary>Names of the standard library that stand in no chapter</summary><table>{rows_of(KIT)}</table></details></section>")
+    statuses = "".join(f'<tr><th>{status}<td><a href="#{place_of("liq_cli::Call::" + name)}">{name}</a><td>{prose(text)}'
+                       for status, name, text in STATUSES)
+    scripts = "".join(f"<div><dt>The {name} script</dt><dd><pre>{html.escape(text, quote=False)}</pre></dd></div>" for name, text in followed()[0].items())
+    return (f'<section id=front><h2 id=c0>What this page says</h2><p>This is the contract of <code>liq</code>, with every definition that it rests on. '
+            f'<a href="README.md">README</a> says what is proved, tested and trusted, and <a href="docs/promises.md">promises</a> has the clause '
+            f"for each promise.</p><p>{versions()}</p><p>In one sentence, of <code>liq render FILE N</code>:</p><blockquote>{sentence()}</blockquote>"
+            f"<h4>What each exit status means</h4><table>{statuses}</table><h4>Ten steps through it</h4><ol>{steps(place_of)}</ol>"
+            f"<h4>What no clause says</h4><ul class=wide>{open_questions()}</ul>"
+            f"<h4>Two scripts, followed through the chapters</h4><p>Each chapter says what its definitions make of them. "
+            f"<code>L</code> is a list with the line <code>B</code>, and <code>B</code> and <code>C</code> are short WAV files.</p>"
+            f"<dl class=two>{scripts}</dl><details open><summary>Signs</summary>{signs()}</details>"
+            f"<details open><summary>Names of the standard library and of the kit</summary>{kit()}</details></section>")

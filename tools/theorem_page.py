@@ -3,7 +3,7 @@ import html
 import os
 import re
 
-from theorem_front import front
+from theorem_front import followed_in, front, signs
 
 STYLE = """
 :root{color-scheme:light dark;--bg:#fdfdfb;--fg:#1c1d20;--soft:#686b73;--line:#dcdcd6;--code:#f4f4ef;--link:#0b57a4;--mark:#fff2b8;--bar:#fff}
@@ -25,8 +25,18 @@ article:target{border-left-color:var(--link);background:var(--mark)}
 article p{margin:0 0 .35rem;max-width:46rem;font-size:.95rem}article p.here{margin:.35rem 0 0;font-size:.85rem;color:var(--soft)}
 b.of{font-weight:600}
 pre .l{display:block;padding-left:var(--n);text-indent:calc(-1*var(--n))}
-#front table{border-collapse:collapse;margin:.6rem 0;font-size:.95rem}#front th{text-align:left;font-weight:400;padding:.15rem 1rem .15rem 0;white-space:nowrap;vertical-align:top}
-#front td{padding:.15rem 0}#front p,#front li{max-width:46rem}#front h4{margin:1.4rem 0 .3rem}
+table{border-collapse:collapse;margin:.6rem 0;font-size:.95rem}th{text-align:left;font-weight:400;padding:.15rem 1rem .15rem 0;white-space:nowrap;vertical-align:top}
+td{padding:.15rem 1rem .15rem 0;vertical-align:top}#side table{font-size:.85rem;color:var(--soft)}
+#front p,#front li,blockquote{max-width:46rem}#front h4{margin:1.8rem 0 .3rem}#front h5{margin:1rem 0 .2rem;font-size:.85rem;color:var(--fg)}
+blockquote{margin:.6rem 0;padding:.1rem 0 .1rem 1rem;border-left:3px solid var(--link)}
+#front summary{font-size:1rem;font-weight:600;color:var(--fg);margin-top:1.4rem}
+.wide{columns:22rem;column-gap:2rem}.wide li{break-inside:avoid}
+article.kit{display:grid;grid-template-columns:17rem 1fr;gap:0 1rem;padding:.12rem .4rem;margin:0;background:none;border-radius:0;color:var(--fg)}
+article.kit p{margin:0}article.kit pre{white-space:pre-wrap}article.kit:target{background:var(--mark)}#side article.kit{display:block}
+dl.two{display:grid;grid-template-columns:repeat(auto-fit,minmax(min(20rem,100%),1fr));grid-template-rows:auto;gap:0 1.6rem;margin:.8rem 0;padding:.5rem .9rem;
+border:1px solid var(--line);border-radius:6px;font-size:.92rem}
+.two>div{padding:.2rem 0}.two dt{font-size:.8rem;color:var(--soft)}.two dd{margin:.1rem 0 0}.two code{overflow-wrap:anywhere}
+article a.k{color:inherit}article a.k:hover{color:var(--link)}nav a.now{font-weight:600;color:var(--fg)}
 details{font-size:.82rem;color:var(--soft);margin-top:.3rem}details summary{cursor:pointer}details a{margin-right:.6rem;white-space:nowrap}
 #side{position:fixed;inset:0 0 0 auto;width:min(26rem,28vw);overflow:auto;padding:1rem;border-left:1px solid var(--line);background:var(--bar)}
 #side article{background:none;padding:0;border:0}#side h4{margin:0 0 .5rem;font-size:.8rem;color:var(--soft);font-weight:400}
@@ -34,7 +44,7 @@ details{font-size:.82rem;color:var(--soft);margin-top:.3rem}details summary{curs
 @media(max-width:75rem){main{margin-right:0}#side{inset:auto 0 0 16rem;width:auto;max-height:45vh;border-left:0;border-top:1px solid var(--line);box-shadow:0 -4px 18px #0003;display:none}#side.on{display:block}
 #shut{display:block;position:sticky;top:0;float:right;font:inherit;border:1px solid var(--line);border-radius:6px;background:var(--bar);color:var(--fg);padding:.2rem .7rem}}
 @media(max-width:48rem){nav{position:static;width:auto;border:0;border-bottom:1px solid var(--line)}nav>details>summary{color:var(--fg);font-size:1rem}
-main{margin:0;padding:.6rem .7rem 50vh}#side{inset:auto 0 0 0}article{padding:.5rem;margin:.5rem -.2rem}pre{font-size:12px}}
+main{margin:0;padding:.6rem .7rem 50vh}#side{inset:auto 0 0 0}article{padding:.5rem;margin:.5rem -.2rem}article.kit{grid-template-columns:1fr;padding:.3rem .2rem}pre{font-size:12px}}
 @media(min-width:48.01rem){nav>details>summary{display:none}}
 @media print{nav,#side{display:none}main{margin:0}}
 """
@@ -56,12 +66,16 @@ document.addEventListener('focusin',e=>{const a=link(e);if(a&&a.matches(':focus-
 const finger=e=>e.pointerType?e.pointerType==='touch':matchMedia('(hover:none)').matches;
 document.addEventListener('click',e=>{const a=link(e);if(!a)return;
  if(finger(e)||a.closest('#side')){e.preventDefault();show(decodeURIComponent(a.hash.slice(1)))}});
-const names=[...document.querySelectorAll('article[id]')].flatMap(it=>it.dataset.names.split(' ').map((n,k)=>({n,id:it.id,at:it.dataset.at,own:k})));
+const names=[...document.querySelectorAll('article[id]')].flatMap(it=>it.dataset.names.split(' ').map((n,k)=>({n,id:it.id,at:it.dataset.at,own:k,
+ said:k?'':(it.querySelector('p')?.textContent??'').toLowerCase()})));
 function look(){const q=find.value.trim().toLowerCase();at=0;hits.replaceChildren();if(!q)return;
- const rank=x=>{const n=x.n.toLowerCase();return (n===q?0:n.startsWith(q)?1:n.includes(q)?2:9)};
+ const rank=x=>{const n=x.n.toLowerCase();return (n===q?0:n.startsWith(q)?1:n.includes(q)?2:q.length>2&&x.said.includes(q)?3:9)};
  names.filter(x=>rank(x)<9).sort((a,b)=>rank(a)-rank(b)||a.own-b.own||a.n.length-b.n.length).slice(0,60).forEach(x=>{
   const li=document.createElement('li'),a=document.createElement('a'),s=document.createElement('small');
   a.href='#'+x.id;a.textContent=x.n;s.textContent=x.at;a.append(s);li.append(a);hits.append(li)});mark()}
+const heads=[...document.querySelectorAll('h2[id]')],entry=id=>document.querySelector(`#toc ol a[href="#${id}"]`);
+if(heads.length>1){let last=null;const see=()=>{const h=heads.filter(h=>h.getBoundingClientRect().top<120).pop()||heads[0];if(h===last)return;
+ entry(last?.id)?.classList.remove('now');entry(h.id)?.classList.add('now');last=h};addEventListener('scroll',see,{passive:true});see()}
 function mark(){[...hits.querySelectorAll('a')].forEach((a,k)=>a.classList.toggle('on',k===at))}
 find.addEventListener('input',look);
 find.addEventListener('keydown',e=>{const all=hits.querySelectorAll('a');
@@ -88,7 +102,8 @@ def linked(unit, marks, places, start):
             parts.append(word if seen or not own or not own.fullmatch(unit.text[begin:end]) else f"<b class=of>{word}</b>")
             seen = True
         else:
-            parts.append(f'<a href="#{places[id(there)]}">{word}</a>' if id(there) in places else word)
+            place = there if isinstance(there, str) else places.get(id(there))
+            parts.append(f'<a{" class=k" if place == there else ""} href="#{html.escape(place)}">{word}</a>' if place else word)
         at = end
     return "".join(parts) + html.escape(unit.text[at:].rstrip(), quote=False)
 
@@ -126,14 +141,14 @@ def page(chapters, marks_of, comments_of, counted):
     marks = {id(unit): marks_of(unit) for unit in units}
     cited = {}
     for unit in units:
-        for there in {id(it[2]) for it in marks[id(unit)]} - {id(unit)}:
+        for there in {id(it[2]) for it in marks[id(unit)] if not isinstance(it[2], str)} - {id(unit)}:
             cited.setdefault(there, []).append(unit)
     rows, toc = [], []
     for number, (title, text, found) in enumerate(chapters, 1):
         rows.append("<section>")
         if title:
-            toc.append(f'<li><a href="#c{number}">{html.escape(title)}</a> <small>{len(found)}</small></li>')
-            rows.append(f'<h2 id="c{number}">{number}. {html.escape(title)}</h2><p>{prose(text)}</p>')
+            toc.append(f'<li><a href="#c{number}">{html.escape(title)}</a> <small title="definitions">{len(found)}</small></li>')
+            rows.append(f'<h2 id="c{number}">{number}. {html.escape(title)}</h2><p>{prose(text)}</p>{followed_in(title)}')
         path = ""
         for unit in found:
             if unit.path != path:
@@ -148,17 +163,18 @@ def page(chapters, marks_of, comments_of, counted):
                         + "".join(f'<p class=here>{html.escape(row)}</p>' for row in comments_of(unit))
                         + (f"<details><summary>cited by {len(cited[id(unit)])}</summary>{by}</details>" if by else "") + "</article>")
         rows.append("</section>")
-    name = units[0].names[0]
-    if len(chapters) > 1:
+    name, is_whole = units[0].names[0], len(chapters) > 1
+    if is_whole:
         by_name = {f"{unit.path.split('/')[1]}::{os.path.splitext(os.path.basename(unit.path))[0]}::{unit.names[0]}": place
                    for unit, place in ((unit, places[id(unit)]) for unit in units)}
         rows.insert(0, front(lambda wanted: by_name.get(wanted, "" if wanted else places[id(units[0])])))
-        toc.insert(0, '<li value=0><a href="#front">What this page says</a></li>')
+        toc.insert(0, '<li value=0><a href="#c0">What this page says</a></li>')
     return (f'<!DOCTYPE html><html lang=en><meta charset=utf-8><meta name=viewport content="width=device-width,initial-scale=1">'
             f"<title>What is proved of {html.escape(name)}</title><style>{STYLE}</style>"
             f"<nav><h1>What is proved of <code>{html.escape(name)}</code></h1><details id=toc><summary>Contents and search</summary>"
-            f'<input id=find type=search placeholder="Find a name ( / )" aria-label="Find a name" autocomplete=off><ul id=hits></ul>'
+            f'<input id=find type=search placeholder="Find a name or a word ( / )" aria-label="Find a name or a word of its comment" autocomplete=off><ul id=hits></ul>'
             f"<ol>{''.join(toc)}</ol><p><small>{counted}</small></p></details></nav>"
             f"<main>{''.join(rows)}</main>"
-            f"<aside id=side aria-live=polite><p class=empty>Point at a name to see here what it stands for; click to go there.</p></aside>"
+            f"<aside id=side aria-live=polite><p class=empty>Point at a name to see here what it stands for; click to go there.</p>"
+            f"{signs() if is_whole else ''}</aside>"
             f"<script>{SCRIPT}</script></html>")

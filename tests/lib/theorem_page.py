@@ -87,6 +87,26 @@ def theorem_panel(place):
     yield from shown(page, "IsComplete :")
 
 
+def theorem_words(place):
+    """A name of the standard library shows its line in the panel, which has the signs before that. A word of a comment is
+    found, and each chapter says what it makes of both scripts."""
+    page = place.open(page=PAGE)
+    if "both A and B" not in page.run("return document.getElementById('side').textContent"):
+        yield "the panel begins without the signs"
+    x, y = page.run(MIDDLE.format(within="article pre", name="ForSome"))
+    page.move(x - 200, y)
+    page.move(x, y)
+    yield from shown(page, "ForSome o P")
+    page.press("/")
+    page.type("refused memory is not")
+    names = page.run("return [...document.querySelectorAll('#hits a')].map(a => a.firstChild.textContent)")
+    if names != ["NoMemory"]:
+        yield f"found {names}"
+    bare = page.run("return [...document.querySelectorAll('h2')].filter(h => h.parentElement.querySelectorAll('.two dd').length !== 2).map(h => h.id)")
+    if bare:
+        yield f"the scripts are not followed in {bare}"
+
+
 def theorem_finger(place):
     """On a phone the touch of a name shows it below, and the link in that panel goes there."""
     place.browser.command("Emulation.setTouchEmulationEnabled", enabled=True)
@@ -129,4 +149,4 @@ def theorem_looks(place):
                 yield f"{look}: the ground is {ground}"
 
 
-RUNS = [theorem_links, theorem_panel, theorem_finger, theorem_search, theorem_looks]
+RUNS = [theorem_links, theorem_panel, theorem_words, theorem_finger, theorem_search, theorem_looks]
