@@ -49,9 +49,9 @@ def steps(place_of: Callable[[str], str]) -> str:
 
 
 def open_questions() -> str:
-    """What no clause says of the call, by the heads of the page of the promises. Those of the companion are left out."""
-    heads = re.findall(r"^- \*\*([^*]+?)\.?\*\*", section("promises.md", "What is not proved"), re.M)
-    return "".join(f"<li>{prose(head)}</li>" for head in heads if not re.search("`where`|companion|the week", head))
+    """What no clause says of the call and below it, by the heads of the page of the promises."""
+    text = section("promises.md", "What is not proved").partition("Of the companion:")[0]
+    return "".join(f"<li>{prose(head)}</li>" for head in re.findall(r"^- \*\*([^*]+?)\.?\*\*", text, re.M))
 
 
 def versions() -> str:
