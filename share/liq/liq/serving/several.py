@@ -2,7 +2,8 @@
 import re
 from typing import Iterator, List, Optional
 
-from liq.advising.mending import Edit, is_sure_help
+from liq.advising.helping import Edit
+from liq.advising.mending import is_sure_help
 from liq.serving.looking import Look, Span, Told
 
 MOST = 10              # faults that are told
