@@ -5,7 +5,8 @@ from typing import Optional
 from liq.advising import foreign
 from liq.advising.helping import mended
 from liq.advising.names import FILE
-from liq.advising.script import Script
+from liq.advising.script import Script, arguments_of
+from liq.advising.sorts import is_whole, value_of
 from liq.advising.tables import Words, left_out
 
 QUOTES = "\u201c\u201d\u201e\u2018\u2019\u201a\u00ab\u00bb`\u00b4"
@@ -115,6 +116,8 @@ def of_colon(script: Script, rest: str, front: str, words: Words) -> Optional[st
     is_in_def = inner is not None and script.word(inner) == "def" and tokens[inner + 1].kind == "open"
     if is_in_def and inner is not None and last.text == ")" and script.parents[-2] == inner + 1:
         return mended("write `=` in place of `:`, or nothing", len(front), len(front) + 1, "=")
+    if inner is not None and script.word(inner) == "if" and "then" not in [one.text for one in tokens[inner:]]:
+        return mended("write `then` in place of `:`", len(front), len(front) + 1, " then")
     if last and last.kind == "name" and inner is not None and tokens[inner].kind == "open":
         return mended(f"a label has `=` behind it: `{last.text}=`", len(front), len(front) + 1, "=")
     return None
@@ -148,9 +151,15 @@ def of_pair(script: Script, rest: str, at: int) -> str:
 def of_signs(script: Script, rest: str, front: str) -> Optional[str]:
     """At a sign of other languages."""
     last = script.last
+    if rest.startswith("...") and script.parents[-1] is not None and script.word(script.parents[-1]) == "[":
+        return of_spread(script, rest, len(front))
     if rest[0] in "&|":
         word = "and" if rest[0] == "&" else "or"
         return mended(f"write `{word}`", len(front), len(front) + 1 + (rest[1:2] == rest[0]), word)
+    reference = re.match(r"!\s*([A-Za-z_]\w*)", rest)
+    if reference and is_reference(script, reference[1]):
+        line = f"references are left out: write `{reference[1]}`, and bind it to its value, without `ref`"
+        return mended(line, len(front), len(front) + 1, "")
     if re.match(r"!\s*[A-Za-z_(]", rest):
         if script.parents[-1] is not None and script.tokens[script.parents[-1]].text == "{":
             return "write `not`"
@@ -166,6 +175,23 @@ def of_signs(script: Script, rest: str, front: str) -> Optional[str]:
         return mended("a statement may go over several lines without a sign: remove this", len(front), len(front) + 1, "")
     name = re.match(r"\$([A-Za-z_]\w*)", rest)
     return mended(f"a name has no `$`: write `{name[1]}`", len(front), len(front) + 1, "") if name else None
+
+
+def of_spread(script: Script, rest: str, at: int) -> str:
+    """At a `...` in a list; the edit where the list is bound to names that are written out."""
+    line = "no list is taken into another one by `...`: write the items out"
+    name = re.match(r"\.\.\.\s*([A-Za-z_]\w*)", rest)
+    found = value_of(script, name[1], len(script.tokens) - 1) if name else None
+    items = arguments_of(found[0], 0) if found and found[0] and found[0][0].text == "[" and is_whole(found[0]) else []
+    if not name or not items or any(len(item.tokens) != 1 or item.tokens[0].kind != "name" for item in items):
+        return line
+    return mended(line, at, at + name.end(), ", ".join(item.tokens[0].text for item in items))
+
+
+def is_reference(script: Script, name: str) -> bool:
+    """Whether a name is bound last to what `ref` makes."""
+    sort, number = script.bound().get(name, ("", 0))
+    return sort == "value" and script.word(number + 2) in ("ref", "ref(")
 
 
 def of_letter(script: Script, at: int) -> Optional[str]:

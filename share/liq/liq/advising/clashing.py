@@ -6,7 +6,7 @@ from liq.advising import leaving
 from liq.advising.calls import call_at, given, text_of
 from liq.advising.helping import mended
 from liq.advising.script import Argument, Script, Token, Tokens, arguments_of
-from liq.advising.sorts import NUMBERS, clashes, is_whole, sort_of, wanted
+from liq.advising.sorts import COMPARISONS, NUMBERS, clashes, is_whole, sort_of, wanted
 from liq.advising.tables import Call, Parameter
 
 TRUTHS = {"true": "true", "false": "false", "yes": "true", "no": "false", "on": "true", "off": "false", "1": "true", "0": "false"}
@@ -230,9 +230,13 @@ def of_branches(script: Script, first: int, last: int) -> Optional[str]:
 
 def of_operators(script: Script, first: int, last: int) -> Optional[str]:
     """Values on both sides of a sign that do not go together."""
+    for number in range(first, last - 1):
+        behind = operand_behind(script, number, last)
+        if script.word(number) == "not" and sort_of(script, behind, script.visible(number)) == "source":
+            return "`not` takes a truth value, and a source is none"
     for number in range(first + 1, last - 1):
         sign = script.tokens[number]
-        if not sign.is_sign or sign.text not in ("+", "-", "*", "/", "and", "or"):
+        if not sign.is_sign or sign.text not in ("+", "-", "*", "/", "and", "or", *COMPARISONS):
             continue
         left, right = operand_before(script, first, number), operand_behind(script, number, last)
         sorts = [sort_of(script, tokens, script.visible(number)) for tokens in (left, right)]
@@ -267,6 +271,8 @@ def of_sides(script: Script, sign: Token, sorts: List[Optional[str]], left: List
         line, begin, behind = "sources are put together by `fallback([.., ..])`", left[0].at, right[-1].behind
         texts = [script.text[side[0].at:side[-1].behind] for side in (left, right)]
         return mended(line, begin, behind, f"fallback([{', '.join(texts)}])") if sorts == ["source", "source"] else None
+    if sign.text in COMPARISONS:
+        return "sources are not compared: numbers, texts and truth values are" if "source" in sorts else None
     if "source" in sorts:
         return f"sources are put together by `add([.., ..])`, and not by `{sign.text}`; `amplify` makes one louder"
     if "text" in sorts:
@@ -293,7 +299,8 @@ def of_call(script: Script, number: int, calls: Dict[str, Call]) -> Optional[str
     if order:
         return order
     for argument in arguments:
-        if argument.label == "id" and sort_of(script, argument.tokens, script.visible(number)) in (*NUMBERS, "bool"):
+        sort = sort_of(script, argument.tokens, script.visible(number)) if argument.label == "id" else None
+        if sort in (*NUMBERS, "bool") or sort not in (None, "text") and len(argument.tokens) == 1:
             text, last = text_of(script, argument), argument.tokens[-1]
             return mended(f"`id` is a text: write `\"{text}\"`", argument.tokens[0].at, last.behind, f'"{text}"')
     for parameter, argument in given(call, arguments):

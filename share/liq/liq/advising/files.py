@@ -113,6 +113,8 @@ def bad(name: str, number: str) -> Optional[str]:
         return f"`{wav}` lies beside it: play that"
     if front and front.startswith(LARGE):
         return "it is a WAV file of the large form: cut it into parts of less than 256 MiB, or let `liq-prepare` do so"
+    if front and front.lower().startswith((b"<!doctype", b"<html", b"<?xml")):
+        return "it is a page, as HTML, and no sound: save the sound itself"
     what = form_of(front)
     if what is None:
         return None

@@ -59,7 +59,7 @@ class Advice:
     def __init__(self, file: str, companion: Optional[Companion] = None, script: Optional[Script] = None) -> None:
         self.file, self.companion = file, companion and Companion(companion.path, SECONDS)
         self.script = script or script_of(self.companion, file)
-        self.words, self.calls, self.repairs = tables.Words(), tables.calls(), tables.repairs()
+        self.words, self.calls, self.repairs = tables.words(), tables.calls(), tables.repairs()
 
     @cached_property
     def plan(self) -> Optional[Facts]:

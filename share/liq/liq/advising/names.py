@@ -81,7 +81,17 @@ def unknown_name(script: Script, number: int, words: Words, calls: Dict[str, Cal
     family = words.family(name) if near not in names else None
     if family:
         return leaving.with_edit(left_out(f"`{name}`", family), leaving.of_call(script, number, family))
-    return f"do you mean `{near}`?" if near else None
+    return f"do you mean `{near}`?" if near else of_nothing(script, number)
+
+
+def of_nothing(script: Script, number: int) -> Optional[str]:
+    """Where nothing is known of a name."""
+    token, parameters = script.tokens[number], script.parameters(number)
+    if token.kind == "open" or "." in token.name:
+        return None
+    if parameters:
+        return f"`{token.name}` is bound nowhere before this, and is no parameter of the `def`: bind it, or take another name"
+    return f"`{token.name}` is bound nowhere before this: bind it above, or take another name"
 
 
 def type_of_label(script: Script, number: int, calls: Dict[str, Call]) -> str:

@@ -65,6 +65,8 @@ def of_predicate(script: Script, number: int) -> Optional[str]:
         return "the name is a text, taken letter by letter: write `\"NAME.wav\"`"
     if token.kind in ("name", "open", "text"):
         return "a predicate in braces holds times, `true`, `false`, `not`, `and` and `or` alone"
+    if token.text == "-" and before.kind == "time" and script.word(number - 2) == "-":
+        return "a stretch of time has two ends: `or` joins two stretches, as `{6h-9h or 22h-23h}`"
     if token.text == ",":
         return "write `or` or `and` between times" if after and after.kind == "time" else None
     return None

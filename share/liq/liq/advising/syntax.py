@@ -266,7 +266,7 @@ def of_def(script: Script, number: int) -> Optional[str]:
         return None
     if token.text == "def" and not is_end(before):
         return "a def stands in no other one: put it before"
-    if token.text == "end" and is_end(before):
+    if token.text == "end" and (is_end(before) or before.text == "="):
         return "a def ends with its value, behind its bindings: it is missing before `end`"
     if is_end(before) and is_begin(token) and not token.text.startswith("end"):
         if any(takes_item(script, place) for place in range(stack[-1] + 1, number)):

@@ -16,6 +16,8 @@ def setting(script: Script, number: int) -> Optional[str]:
     if not 1 <= number <= len(script.starts):
         return None
     first = script.starts[number - 1]
+    if [script.word(first + k) for k in (1, 2)] == ["=", "set("]:
+        return mended("a setting is a statement by itself, and no value", script.tokens[first].at, script.tokens[first + 2].at, "")
     if any(script.word(start) != "set(" for start in script.starts[:number]):
         line = "settings stand before all other statements, each by itself: move it to the top"
         return leaving.with_edit(line, to_top(script, first)) if script.word(first) == "set(" else None
