@@ -1,7 +1,6 @@
 """Several faults of a script at once. A fault that one sure edit mends is passed; else the statement in which it stands is
 cut, with all that names what it binds. The proved reader tells each further fault, of the text that is left."""
 import re
-import time
 from typing import Dict, Iterator, List, Optional
 
 from liq.advising.cutting import cut, touched, whole_statement
@@ -12,7 +11,7 @@ from liq.serving.looking import Look, Span, Told
 
 MOST = 10              # faults that are told
 MOST_ASKED = 60        # texts of which the reader is asked
-SECONDS = 1.           # for which it is asked further
+MOST_BYTES = 1 << 20   # of these texts together, but for the first one
 COUNTED = re.compile(r"(statement \d+: )?(.*?)( at (token )?\d+)?", re.S)
 BYTES, SYNTAX, NAMES = (step_of(code) for code in ("E02", "E06", "E08"))
 
@@ -103,8 +102,8 @@ class Several:
 
 def faults(text: str, look: Look) -> Iterator[Told]:
     """The faults of a text, at most ten, each with its place and its edit in the text as it is."""
-    several, count, until = Several(text), 0, time.monotonic() + SECONDS
-    for asked in range(MOST_ASKED):
+    several, count = Several(text), 0
+    for _ in range(min(MOST_ASKED, 1 + MOST_BYTES // (len(text) + 1))):
         fault = look.reader.fault(several.text.encode("utf-8", "surrogateescape"))
         step = step_of(fault.line[:3]) if fault else NAMES
         if fault and step == SYNTAX and several.is_artefact(fault):
@@ -112,7 +111,7 @@ def faults(text: str, look: Look) -> Iterator[Told]:
         for told in several.held if step >= NAMES else []:
             yield told
         several.held = several.held if step < NAMES else []
-        if fault is None or asked and time.monotonic() > until:
+        if fault is None:
             return
         user = touched(fault.script, several.names) if step >= NAMES else None
         if user is not None:
