@@ -272,7 +272,7 @@ def of_sides(script: Script, sign: Token, sorts: List[Optional[str]], left: List
         texts = [script.text[side[0].at:side[-1].behind] for side in (left, right)]
         return mended(line, begin, behind, f"fallback([{', '.join(texts)}])") if sorts == ["source", "source"] else None
     if sign.text in COMPARISONS:
-        return "sources are not compared: numbers, texts and truth values are" if "source" in sorts else None
+        return "only numbers are compared" if {"source", "text", "bool", "list"} & set(sorts) else None
     if "source" in sorts:
         return f"sources are put together by `add([.., ..])`, and not by `{sign.text}`; `amplify` makes one louder"
     if "text" in sorts:

@@ -66,6 +66,8 @@ def unknown_name(script: Script, number: int, words: Words, calls: Dict[str, Cal
         return mended("write `%wav`", token.at, token.behind, "%wav")
     names = [other for other, (kind, _) in bound.items() if kind == sort]
     near = alike(name, names + (list(calls) if is_call else list(script.parameters(number))))
+    if is_call and name.rpartition(".")[2] == "lin_of_dB" and name not in bound:
+        return of_decibels(script, number) or words.told(name)
     if name in words.words and (is_call or "." in name or name == "null"):
         return None if near in names else leaving.with_edit(words.told(name), leaving.of_call(script, number, words.words[name]))
     if name in later and name not in bound and later[name][1] == script.statement_of(number):
@@ -82,6 +84,15 @@ def unknown_name(script: Script, number: int, words: Words, calls: Dict[str, Cal
     if family:
         return leaving.with_edit(left_out(f"`{name}`", family), leaving.of_call(script, number, family))
     return f"do you mean `{near}`?" if near else of_nothing(script, number)
+
+
+def of_decibels(script: Script, number: int) -> Optional[str]:
+    """A call that makes a factor of decibels that are written out."""
+    match = re.compile(r"[\w.]+\(\s*(-?\d{1,3}(?:\.\d*)?)\s*\)").match(script.text, script.tokens[number].at)
+    if match is None or float(match[1]) > 179:
+        return None
+    factor = f"{10 ** (float(match[1]) / 20):.6f}"
+    return mended(f"decibels are written as a factor: write `{factor}`", match.start(), match.end(), factor)
 
 
 def of_nothing(script: Script, number: int) -> Optional[str]:

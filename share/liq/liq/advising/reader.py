@@ -127,7 +127,7 @@ def is_gone(fault: Fault, edit: Edit, after: Fault) -> bool:
         return False
     if step_of(after.line[:3]) != step_of(fault.line[:3]):
         return step_of(after.line[:3]) > step_of(fault.line[:3])
-    at = after.at if after.at <= edit.first else max(edit.behind, after.at + edit.behind - end)
+    at = after.at if after.at < edit.first else max(edit.behind, after.at + edit.behind - end)
     return at > fault.at
 
 

@@ -346,6 +346,8 @@ def of_brackets(script: Script, number: int) -> Optional[str]:
     if closer_of(script.token(inner)) != token.text:
         return f"{bracket(script, inner)} is still open here, and `{token.text}` does not close it"
     if script.word(inner) == "if" and not has_else(script, inner, number):
+        if any(script.word(k) == "output.file(" for k in range(inner, number)):
+            return "an output stands outside of an `if`, which chooses its source: `if .. then .. else .. end`"
         return "an `if` has both parts: `if .. then .. else .. end`"
     return None
 
