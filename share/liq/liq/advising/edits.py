@@ -2,11 +2,13 @@
 by the arguments of the calls that it touches, and by their sorts as far as they are told."""
 from collections import defaultdict
 from dataclasses import dataclass
+from typing import Dict, Iterator, List, Tuple
 
 from liq.advising.calls import call_at, given
 from liq.advising.clashing import of_argument
-from liq.advising.script import CLOSES, Token, Tokens, arguments_of, is_begin, is_end
+from liq.advising.script import CLOSES, Script, Token, Tokens, closer_of, arguments_of, is_begin, is_end
 from liq.advising.sorts import clashes
+from liq.advising.tables import Call
 
 MOST_TOKENS = 3000     # of a longer script none is tried, since each is read whole
 MOST_BEFORE = 60       # tokens before the fault at which an opening bracket is tried
@@ -17,10 +19,10 @@ class Edit:
     """So many tokens from a place on are left out, and these texts stand there."""
     place: int
     out: int
-    texts: tuple
+    texts: Tuple[str, ...]
 
 
-def edited(script, edit):
+def edited(script: Tokens, edit: Edit) -> Tokens:
     """The tokens of the script behind an edit."""
     tokens = script.tokens
     here = tokens[edit.place].at if edit.place < len(tokens) else len(script.text)
@@ -28,7 +30,7 @@ def edited(script, edit):
     return Tokens(script.text, tokens[:edit.place] + made + tokens[edit.place + edit.out:])
 
 
-def goes_on(script, edit, number, calls):
+def goes_on(script: Script, edit: Edit, number: int, calls: Dict[str, Call]) -> bool:
     """Whether a script goes on behind an edit, from the token of the fault to the end of its statement, with calls
     that may be."""
     made = edited(script, edit)
@@ -46,10 +48,10 @@ def goes_on(script, edit, number, calls):
         and all(is_possible(made, call.number, calls, call.number < edit.place <= call.last) for call in met)
 
 
-def is_known(made, number, calls):
+def is_known(made: Tokens, number: int, calls: Dict[str, Call]) -> bool:
     """Whether a token beside an edit is no name, or one that stands for something here, or that is bound or a label."""
     token = made.token(number)
-    if token is None or token.kind not in ("name", "open"):
+    if token.kind not in ("name", "open"):
         return True
     if made.word(number + 1) == "=" or made.word(number - 1) in ("def", "~"):
         return True
@@ -57,17 +59,17 @@ def is_known(made, number, calls):
     return token.name in bound or token.name in (calls if token.kind == "open" else made.parameters(number))
 
 
-def is_closer(token):
-    return token is not None and token.closes
+def is_closer(token: Token) -> bool:
+    return token.closes
 
 
-def begins_alone(script, made, number):
+def begins_alone(script: Script, made: Tokens, number: int) -> bool:
     """Whether a statement is the first thing of its line, or stands behind a `;`."""
     at = made.tokens[number].at
     return made.word(number - 1) == ";" or not script.text[script.text.rfind("\n", 0, at) + 1:at].strip()
 
 
-def is_possible(made, number, calls, is_near):
+def is_possible(made: Tokens, number: int, calls: Dict[str, Call], is_near: bool) -> bool:
     """Whether a call has as many arguments as it takes, with labels that it has, of sorts that fit as far as they
     are told. Of one that is not known nothing is told, so it may not be round the edit."""
     call = call_at(made, number, calls)
@@ -81,13 +83,13 @@ def is_possible(made, number, calls, is_near):
                    for parameter, argument in given(call, arguments))
 
 
-def candidates(script, number):
+def candidates(script: Script, number: int) -> Iterator[Tuple[str, Edit]]:
     """The edits that are tried at a token, each with its sort."""
     token, inner = script.token(number), script.parents[number]
-    close = CLOSES[script.tokens[inner].opens] if inner is not None else None
+    close = closer_of(script.tokens[inner]) if inner is not None else None
     if close:
         yield "close", Edit(number, 0, (close,))
-    if token is None:
+    if not token:
         return
     if number and script.token(number - 1).kind == "name" and is_begin(token):
         yield "equals", Edit(number, 0, ("=",))
@@ -109,7 +111,7 @@ def candidates(script, number):
             yield "open", Edit(place, 0, (opener,))
 
 
-def tried(script, number, calls):
+def tried(script: Script, number: int, calls: Dict[str, Call]) -> Dict[str, List[Edit]]:
     """The edits with which the script goes on, by their sort."""
     found = defaultdict(list)
     for sort, edit in candidates(script, number) if len(script.tokens) <= MOST_TOKENS else ():

@@ -3,7 +3,7 @@ import difflib
 import os
 import re
 import stat
-from typing import Iterator, Optional
+from typing import Iterator, List, Optional, Sequence, Set
 
 from liq.reading.facts import Facts
 
@@ -19,7 +19,7 @@ PARTS = {"2": "it is damaged, or of a form of its own: `ffmpeg -i {old} -c:a pcm
          "5": "it was cut: copy it again", "6": "it holds no sample: look at how it was made"}
 
 
-def entries(folder):
+def entries(folder: str) -> List[str]:
     """The names in a folder, or none where it cannot be read."""
     try:
         return sorted(os.listdir(folder or "."))
@@ -27,7 +27,7 @@ def entries(folder):
         return []
 
 
-def front_of(name):
+def front_of(name: str) -> Optional[bytes]:
     """The first bytes of a regular file, or nothing where it cannot be read."""
     try:
         if not stat.S_ISREG(os.stat(name).st_mode):
@@ -38,7 +38,7 @@ def front_of(name):
         return None
 
 
-def only(names):
+def only(names: Sequence[str]) -> Optional[str]:
     """The one of some names, or nothing where there are none or several."""
     return names[0] if len(names) == 1 else None
 
@@ -48,7 +48,7 @@ def roles(plan: Optional[Facts], name: str) -> "set[str]":
     return {source.op for source in plan.sources if source.file == name} if plan else set()
 
 
-def no_script(file):
+def no_script(file: str) -> str:
     """E01."""
     folder, last = os.path.split(file)
     scripts = [other for other in entries(folder) if other.endswith(".liq")]
@@ -63,7 +63,7 @@ def no_script(file):
     return f"`{place}` has no `{last}`; its scripts are {', '.join(f'`{one}`' for one in sorted(scripts)[:3])}{more}"
 
 
-def missing(name, plan, file):
+def missing(name: str, plan: Optional[Facts], file: str) -> Optional[str]:
     """E20, of a name in a script that lies in a file."""
     if re.match(r"[a-z][a-z0-9+.-]+:", name):
         return "this is an address, and nothing is fetched: save what it plays as a WAV file"
@@ -82,7 +82,7 @@ def missing(name, plan, file):
     return f"do you mean `{near}`?" if near else None
 
 
-def meant(name, how):
+def meant(name: str, how: Set[str]) -> Optional[str]:
     """The file in the folder of a name that is meant, or nothing where none is or several may be."""
     folder, last = os.path.split(name)
     ends = LISTS[:3] if how == {"playlist"} else (".wav",) if how == {"single"} else (".wav", *LISTS[:3])
@@ -99,7 +99,7 @@ def meant(name, how):
     return os.path.join(folder, near) if near is not None else None
 
 
-def bad(name, number):
+def bad(name: str, number: str) -> Optional[str]:
     """E21."""
     if number in PARTS:
         return PARTS[number].format(old=quoted(name), new=quoted(new_name(name)))
@@ -113,6 +113,8 @@ def bad(name, number):
         return f"`{wav}` lies beside it: play that"
     if front and front.startswith(LARGE):
         return "it is a WAV file of the large form: cut it into parts of less than 256 MiB, or let `liq-prepare` do so"
+    if front and front.lower().startswith((b"<!doctype", b"<html", b"<?xml")):
+        return "it is a page, as HTML, and no sound: save the sound itself"
     what = form_of(front)
     if what is None:
         return None
@@ -120,7 +122,7 @@ def bad(name, number):
             "`liq-prepare` for a folder")
 
 
-def form_of(front):
+def form_of(front: Optional[bytes]) -> Optional[str]:
     """What a file is by its first bytes, or nothing where they do not tell it."""
     if not front:
         return None
@@ -148,12 +150,12 @@ def too_large(name: str, plan: Facts) -> Optional[str]:
     return None
 
 
-def new_name(name):
+def new_name(name: str) -> str:
     front, end = os.path.splitext(name)
     return f"{front}.wav" if end.lower() != ".wav" else f"{front}.16.wav"
 
 
-def quoted(name):
+def quoted(name: str) -> str:
     """A name as a word of a shell."""
     if name.startswith("-"):
         name = "./" + name

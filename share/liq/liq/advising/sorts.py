@@ -1,5 +1,8 @@
 """Of which sort a value is, as far as its tokens tell it, and whether it fits a parameter (docs/typing.md)."""
-from liq.advising.script import CLOSES, MAKERS, arguments_of
+from typing import List, Optional, Sequence, Tuple
+
+from liq.advising.script import MAKERS, Argument, Token, Tokens, arguments_of, closer_of
+from liq.advising.tables import Parameter
 
 NUMBERS = ("int", "decimal")
 OF_KIND = {"int": "int", "number": "decimal", "text": "text", "wav": "format"}
@@ -8,29 +11,30 @@ COMPARISONS = ("==", "!=", "<", "<=", ">", ">=")
 DEEPEST = 8            # names that stand for names are followed so far
 
 
-def last_of(tokens, number):
+def last_of(tokens: List[Token], number: int) -> Optional[int]:
     """The number of the token that closes the bracket which a token opens, or nothing."""
-    stack = []
+    stack: List[Token] = []
     for place in range(number, len(tokens)):
         token = tokens[place]
         if token.opens:
-            stack.append(token.opens)
+            stack.append(token)
         elif token.closes:
-            if CLOSES[stack.pop()] != token.text:
+            if closer_of(stack.pop()) != token.text:
                 return None
             if not stack:
                 return place
     return None
 
 
-def is_whole(tokens):
+def is_whole(tokens: List[Token]) -> bool:
     """Whether tokens are one bracket or call, from its first to its last."""
     return bool(tokens) and bool(tokens[0].opens) and last_of(tokens, 0) == len(tokens) - 1
 
 
-def split(tokens, signs):
+def split(tokens: List[Token], signs: Sequence[str]) -> List[List[Token]]:
     """The parts of tokens between signs that stand in no bracket."""
-    parts, depth = [[]], 0
+    parts: List[List[Token]] = [[]]
+    depth = 0
     for token in tokens:
         if depth == 0 and token.is_sign and token.text in signs:
             parts.append([])
@@ -40,10 +44,10 @@ def split(tokens, signs):
     return parts
 
 
-def value_of(script, name, until):
+def value_of(script: Tokens, name: str, until: int) -> Optional[Tuple[List[Token], int]]:
     """The tokens to which a name is bound last before a token of the script, and the number of the first; or
     nothing."""
-    sort, number = script.bound(until).get(name, ("", None))
+    sort, number = script.bound(until).get(name, ("", 0))
     if sort != "value":
         return None
     inner = script.parents[number]
@@ -51,7 +55,7 @@ def value_of(script, name, until):
     return (script.tokens[number + 2:end], number) if end is not None else None
 
 
-def default_of(script, name, until):
+def default_of(script: Tokens, name: str, until: int) -> Optional[Tuple[List[Token], int]]:
     """The tokens of the default of a parameter of the def round a token, and the number of the def's first token;
     or nothing."""
     for number in script.stack(until):
@@ -62,7 +66,7 @@ def default_of(script, name, until):
     return None
 
 
-def sort_of(script, tokens, until, depth=0):
+def sort_of(script: Tokens, tokens: List[Token], until: int, depth: int = 0) -> Optional[str]:
     """The sort of the value of these tokens, which stand before a token of the script, or nothing where they do not
     tell it."""
     tokens = tokens[:-1] if tokens and tokens[-1].text == ";" else tokens
@@ -85,7 +89,7 @@ def sort_of(script, tokens, until, depth=0):
     return sort_of_operators(script, tokens, until, depth)
 
 
-def sort_of_whole(script, tokens, until, depth):
+def sort_of_whole(script: Tokens, tokens: List[Token], until: int, depth: int) -> Optional[str]:
     """The same of one bracket, call or word."""
     first = tokens[0]
     if first.kind == "open":
@@ -97,7 +101,7 @@ def sort_of_whole(script, tokens, until, depth):
     return OF_SIGN.get(first.text) if first.is_sign else None
 
 
-def sort_of_operators(script, tokens, until, depth):
+def sort_of_operators(script: Tokens, tokens: List[Token], until: int, depth: int) -> Optional[str]:
     """The same of values with signs between them."""
     if len(split(tokens, ("and", "or"))) > 1 or tokens[0].text == "not" or len(split(tokens, COMPARISONS)) > 1:
         return "bool"
@@ -106,7 +110,7 @@ def sort_of_operators(script, tokens, until, depth):
     return sorts.pop() if len(sorts) == 1 and sorts <= set(NUMBERS) else None
 
 
-def wanted(kind):
+def wanted(kind: str) -> Optional[str]:
     """The sort that a parameter takes, of its type in words, or nothing where it takes several."""
     if kind.startswith("list"):
         return "list"
@@ -116,7 +120,7 @@ def wanted(kind):
     return first if first in ("int", "decimal", "bool", "text", "source") else None
 
 
-def clashes(script, parameter, argument):
+def clashes(script: Tokens, parameter: Parameter, argument: Argument) -> bool:
     """Whether the tokens of an argument tell that it cannot be of the type of its parameter."""
     due, found = wanted(parameter.type), sort_of(script, argument.tokens, script.visible(argument.number))
     return due is not None and found is not None and due != found

@@ -1,10 +1,15 @@
 """What to do about a token with which no script goes on (E06)."""
+from typing import Dict, List, Optional
+
 from liq.advising import foreign
-from liq.advising.edits import tried
-from liq.advising.predicates import of_predicate, of_time
+from liq.advising.edits import Edit as Trial, tried
 from liq.advising.bad_bytes import QUOTE_WITHIN
-from liq.advising.script import CLOSES, is_begin, is_end
+from liq.advising.helping import Edit, mended
+from liq.advising.leaving import with_edit
+from liq.advising.predicates import of_predicate, of_time
+from liq.advising.script import Script, closer_of, is_begin, is_end
 from liq.advising.sorts import last_of
+from liq.advising.tables import Call, Words
 
 OUT_OF_LIST = "no value is taken out of a list by `[..]` here: metadata and functions on lists are left out"
 COMPARISONS = ("==", "!=", "<", "<=", ">", ">=")
@@ -18,35 +23,44 @@ FOREIGN = {
 FRONTS = ("let", "fun", "try", "while", "for", "rec", "open", "ref")
 
 
-def of_words(script, number, words):
+def of_words(script: Script, number: int, words: Words) -> Optional[str]:
     """Where a word of another language stands before a token, or is it."""
     token, before = script.tokens[number], script.token(number - 1)
     if token.text in ("elsif", "elseif", "elif") and token.kind == "name":
         return FOREIGN[token.text]
-    if before is None:
-        return None
     if before.kind == "name" and before.text in FOREIGN:
-        return FOREIGN[before.text]
+        return of_foreign(script, number)
     is_fun = before.kind in ("name", "open") and before.name == "fun"
     if is_fun and "crossfade(" in [script.word(k) for k in script.stack(number)]:
         return "`crossfade` takes no function: write `crossfade(duration=5., SOURCE)`"
     if before.kind == "name" and before.text in FRONTS:
-        return words.told(before.text)
+        is_bound = before.text == "let" and token.kind == "name" and script.word(number + 1) == "="
+        return with_edit(words.told(before.text), Edit(before.at, token.at, "") if is_bound else None)
     return words.told("fun") if is_fun else None
 
 
-def of_comment(script, number):
+def of_foreign(script: Script, number: int) -> str:
+    """Where a word of another language stands before a token: it goes, or is `def`."""
+    token, before = script.tokens[number], script.tokens[number - 1]
+    if before.text in ("return", "var", "const"):
+        return mended(FOREIGN[before.text], before.at, token.at, "")
+    return mended(FOREIGN[before.text], before.at, before.behind, "def") if before.text == "function" else FOREIGN[before.text]
+
+
+def of_comment(script: Script, number: int) -> Optional[str]:
     """Where a comment of another language begins."""
     token, before = script.tokens[number], script.token(number - 1)
     signs = script.text[token.at:token.at + 2]
-    if signs in ("//", "/*") and (before is None or is_end(before)):
-        return "a comment begins with `#`"
-    if signs == "--" and script.begins_line(number) and (before is None or is_end(before)):
-        return "a comment begins with `#`"
+    rest = script.text[token.at:].split("\n")[0].rstrip()
+    if signs == "/*" and (not before or is_end(before)):
+        is_line = rest.find("*/") == len(rest) - 2
+        return mended("a comment begins with `#`", token.at, token.at + len(rest), f"#{rest[2:-2]}") if is_line else "a comment begins with `#`"
+    if (signs == "//" or signs == "--" and script.begins_line(number)) and (not before or is_end(before)):
+        return mended("a comment begins with `#`", token.at, token.at + 2, "#")
     return None
 
 
-def of_keyword(script, number):
+def of_keyword(script: Script, number: int) -> Optional[str]:
     """Where a word of the language stands for a name."""
     token, inner = script.tokens[number], script.parents[number]
     if token.kind != "keyword":
@@ -56,7 +70,8 @@ def of_keyword(script, number):
     if is_bound:
         return f"`{token.text}` is a word of the language, and no name: take another one"
     if token.text == "else" and "switch(" in words:
-        return "the last pair of a switch is the default: `({true}, SOURCE)`"
+        line = "the last pair of a switch is the default: `({true}, SOURCE)`"
+        return mended(line, token.at, token.behind, "{true}") if script.word(number - 1) == "(" else line
     if token.text in ("end", "then", "else") and inner is not None and not {"def", "if"} & set(words) \
             and not is_end(script.token(number - 1)):
         return f"`{token.text}` is a word of the language, and no value"
@@ -65,7 +80,7 @@ def of_keyword(script, number):
     return None
 
 
-def of_dash(script, number, calls):
+def of_dash(script: Script, number: int, calls: Dict[str, Call]) -> Optional[str]:
     """Where a name has a `-`."""
     token, before = script.tokens[number], script.token(number - 1)
     inner = script.parents[number]
@@ -73,21 +88,23 @@ def of_dash(script, number, calls):
         place, joined = number, before.text
         while script.word(place) == "-" and script.is_close(place) and script.is_close(place + 1):
             joined, place = f"{joined}_{script.word(place + 1)}", place + 2
-        return f"a name has no `-`: write `{joined}`" if script.word(place) == "=" and place > number else None
+        line = f"a name has no `-`: write `{joined}`"
+        return mended(line, before.at, script.tokens[place - 1].behind, joined) if script.word(place) == "=" and place > number else None
     is_in_call = inner is not None and script.tokens[inner].kind == "open"
     if token.text == "=" and script.word(number - 2) == "-" and is_in_call:
         first, last = script.token(number - 3), script.token(number - 1)
         if first and first.kind == last.kind == "name" and script.is_close(number - 1) and script.is_close(number - 2):
-            call, label = calls.get(script.tokens[inner].name), f"{first.text}_{last.text}"
+            call, label = calls.get(script.token(inner).name), f"{first.text}_{last.text}"
             is_known = call is not None and label in call.labels
-            return f"do you mean `{label}=`?" if is_known else f"a name has no `-`: write `{label}=`"
+            line = f"do you mean `{label}=`?" if is_known else f"a name has no `-`: write `{label}=`"
+            return mended(line, first.at, last.behind, label)
     return None
 
 
-def of_call(script, number, calls):
+def of_call(script: Script, number: int, calls: Dict[str, Call]) -> Optional[str]:
     """Where a call has no brackets directly behind its name."""
     token, before = script.tokens[number], script.token(number - 1)
-    if before is None or before.kind != "name":
+    if before.kind != "name":
         return None
     if script.word(number - 2) == "def" and token.text != "(":
         return f"a def has brackets directly behind its name: `def {before.text}() = .. end`"
@@ -95,59 +112,75 @@ def of_call(script, number, calls):
     if script.bound(number).get(before.text, ("def" if is_call else "",))[0] != "def":
         return None
     if token.text == "(":
-        return f"no blank stands before the bracket of a call: `{before.text}(`"
+        return mended(f"no blank stands before the bracket of a call: `{before.text}(`", before.behind, token.at, "")
     if token.text == "[":
-        call = calls.get(before.text)
-        takes_list = call is not None and bool(call.bare) and call.bare[-1].type.startswith("list")
-        return f"the arguments of a call stand in `(` and `)`: `{before.text}({'[..]' if takes_list else '..'})`"
+        return of_square(script, number, calls)
     if is_begin(token) or token.text == "-":
-        return f"the arguments of a call stand in brackets, directly behind its name: `{before.text}(..)`"
+        line = f"the arguments of a call stand in brackets, directly behind its name: `{before.text}(..)`"
+        is_last = token.kind in ("name", "text") and (number + 1 == len(script.tokens) or script.begins_line(number + 1))
+        return mended(line, before.behind, token.behind, f"({token.text})") if is_last else line
     return None
 
 
-def of_call_before(script, number, calls):
+def of_square(script: Script, number: int, calls: Dict[str, Call]) -> str:
+    """Where a `[` stands behind the name of a call."""
+    before, call = script.tokens[number - 1], calls.get(script.word(number - 1))
+    takes_list = call is not None and bool(call.bare) and call.bare[-1].type.startswith("list")
+    line = f"the arguments of a call stand in `(` and `)`: `{before.text}({'[..]' if takes_list else '..'})`"
+    last = last_of(script.tokens, number)
+    if last is None:
+        return line
+    begin, end = script.tokens[number], script.tokens[last]
+    text = script.text[begin.at:end.behind] if takes_list else script.text[begin.behind:end.at]
+    return mended(line, before.behind, end.behind, f"({text})")
+
+
+def of_call_before(script: Script, number: int, calls: Dict[str, Call]) -> Optional[str]:
     """Where a name that begins no binding stands behind the name of a call in its line, as in `x = mksafe s`."""
     name, call = script.token(number - 1), script.token(number - 2)
-    if None in (name, call) or name.kind != "name" or call.kind != "name" or script.parents[number] is not None:
+    if name.kind != "name" or call.kind != "name" or script.parents[number] is not None:
         return None
     is_call = script.bound(number).get(call.text, ("def" if call.text in calls else "",))[0] == "def"
     if not is_call or script.begins_line(number - 1) or script.word(number) == "=":
         return None
-    return f"the arguments of a call stand in brackets, directly behind its name: `{call.text}({name.text})`"
+    line = f"the arguments of a call stand in brackets, directly behind its name: `{call.text}({name.text})`"
+    return mended(line, call.behind, name.behind, f"({name.text})")
 
 
-def of_statement(script, number):
+def of_statement(script: Script, number: int) -> Optional[str]:
     """Where a statement begins with a name that is not bound."""
     token, before = script.tokens[number], script.token(number - 1)
-    if before is None or before.kind != "name" or script.parents[number] is not None:
+    if before.kind != "name" or script.parents[number] is not None:
         return None
     if not script.begins_line(number - 1):
         return None
     if token.text == "==":
         return "a name is bound with `=`"
     if token.is_sign and token.text in "+-*/" and script.word(number + 1) == "=" and script.is_close(number + 1):
-        return f"write `{before.text} = {before.text} {token.text} ..`"
+        line = f"write `{before.text} = {before.text} {token.text} ..`"
+        return mended(line, before.behind, token.at + 2, f" = {before.text} {token.text}")
     return None
 
 
-def of_signs(script, number):
+def of_signs(script: Script, number: int) -> Optional[str]:
     """Where a sign stands that has another form here."""
     token, before = script.tokens[number], script.token(number - 1)
     inner, after = script.parents[number], script.token(number + 1)
     if token.text == "-" and before and before.is_sign and after and after.kind in ("int", "number"):
-        return f"a negative number stands in brackets here: `(-{after.text})`"
+        return mended(f"a negative number stands in brackets here: `(-{after.text})`", token.at, after.behind,
+                      f"(-{after.text})")
     is_in_call = inner is not None and script.tokens[inner].kind == "open" and script.word(inner - 1) != "def"
-    if token.text == "~" and is_in_call:
+    if token.text == "~" and is_in_call and inner is not None:
         return of_tilde(script, inner)
     is_in_if = "if" in [script.word(k) for k in script.stack(number)[-2:]]
     if token.text == "=" and is_in_if and before.kind in ("name", "int", "text"):
-        return "two values are compared with `==`"
+        return mended("two values are compared with `==`", token.at, token.behind, "==")
     if token.is_sign and token.text in COMPARISONS and before and is_end(before):
         return "comparisons do not chain: join two of them by `and`" if is_chain(script, number) else None
     return of_commas(script, number)
 
 
-def of_tilde(script, inner):
+def of_tilde(script: Script, inner: int) -> Optional[str]:
     """Where a label is written as in a def, in the brackets of a call."""
     if script.parents[inner] is not None or not script.begins_line(inner):
         return "a label is written with its value: `x=x`"
@@ -156,7 +189,7 @@ def of_tilde(script, inner):
     return f"`def` is missing before `{script.word(inner)}`" if is_def else None
 
 
-def is_chain(script, number):
+def is_chain(script: Script, number: int) -> bool:
     """Whether a comparison stands before a token, in the same value."""
     inner = script.parents[number]
     for place in range(number - 1, -1, -1):
@@ -171,7 +204,7 @@ def is_chain(script, number):
     return False
 
 
-def of_commas(script, number):
+def of_commas(script: Script, number: int) -> Optional[str]:
     """Where a comma is too many."""
     token, before = script.tokens[number], script.token(number - 1)
     if token.text == "," and before and (before.text == "," or before.opens):
@@ -179,45 +212,50 @@ def of_commas(script, number):
     if token.text in (")", "]") and before and before.text == ",":
         return "a comma stands between two items alone: the one before this is too many, or an item is missing"
     if token.text == "}" and before and before.text == "{" and "switch(" in [script.word(k) for k in script.stack(number)]:
-        return "the last pair of a switch is the default: `({true}, SOURCE)`"
+        return mended("the last pair of a switch is the default: `({true}, SOURCE)`", token.at, token.at, "true")
     if token.kind == "name" and before and before.text == "-" and script.word(number - 2) in ("(", ",", "=") \
             or token.kind == "name" and before and before.text == "-" and script.word(number - 2).endswith("("):
-        return f"a minus stands before a number alone: write `0. - {token.text}`"
+        return mended(f"a minus stands before a number alone: write `0. - {token.text}`", before.at, token.behind,
+                      f"0. - {token.text}")
     is_last = token.text == "," and (number + 1 == len(script.tokens) or script.begins_line(number + 1))
     if is_last and script.parents[number] is None:
         return "no comma stands behind a statement: remove it"
     return None
 
 
-def of_texts(script, number):
+def of_texts(script: Script, number: int) -> Optional[str]:
     """Where a quote stands twice."""
     is_between = script.word(number - 1) == script.word(number + 1) and script.word(number - 1) in ('""', "''")
     if is_between and script.tokens[number].kind == "name" and script.is_close(number) and script.is_close(number + 1):
-        return f"one quote stands at each end: `\"{script.tokens[number].text}\"`"
+        line, word = f"one quote stands at each end: `\"{script.tokens[number].text}\"`", script.tokens[number]
+        return mended(line, script.tokens[number - 1].at, script.tokens[number + 1].behind, f'"{word.text}"')
     around = script.token(number - 1), script.tokens[number], script.token(number + 1)
-    if None not in around and [one.kind for one in around] == ["text", "name", "text"] \
+    if [one.kind for one in around] == ["text", "name", "text"] \
             and script.is_close(number) and script.is_close(number + 1) and around[0].text[0] == around[2].text[0]:
         return QUOTE_WITHIN[around[0].text[0]]
     return None
 
 
-def of_options(script, number):
+def of_options(script: Script, number: int) -> Optional[str]:
     """In the brackets behind `%wav`."""
     inner = script.parents[number]
     if inner is not None and script.word(inner) == "(" and inner and script.tokens[inner - 1].kind == "wav":
-        return ("the one option of `%wav` is `samplesize=16` or `samplesize=24`; sides and rate are those of the "
+        line = ("the one option of `%wav` is `samplesize=16` or `samplesize=24`; sides and rate are those of the "
                 "source and of the script")
+        token = script.tokens[number]
+        is_size = token.text in ("16", "24") and number == inner + 1
+        return mended(line, token.at, token.at, "samplesize=") if is_size else line
     return None
 
 
-def takes_item(script, number):
+def takes_item(script: Script, number: int) -> bool:
     """Whether a list of one item begins here, a text, a name or an int, as what takes a value out of a list."""
     return (script.word(number) == "[" and script.is_close(number) and script.word(number + 2) == "]"
             and script.token(number + 1).kind in ("text", "name", "int")
             and (script.token(number - 1).kind == "name" or script.word(number - 1) == ")"))
 
 
-def of_def(script, number):
+def of_def(script: Script, number: int) -> Optional[str]:
     """In the text of a def."""
     stack, token, before = script.stack(number), script.tokens[number], script.token(number - 1)
     if takes_item(script, number):
@@ -228,7 +266,7 @@ def of_def(script, number):
         return None
     if token.text == "def" and not is_end(before):
         return "a def stands in no other one: put it before"
-    if token.text == "end" and is_end(before):
+    if token.text == "end" and (is_end(before) or before.text == "="):
         return "a def ends with its value, behind its bindings: it is missing before `end`"
     if is_end(before) and is_begin(token) and not token.text.startswith("end"):
         if any(takes_item(script, place) for place in range(stack[-1] + 1, number)):
@@ -237,28 +275,28 @@ def of_def(script, number):
     return None
 
 
-def bracket(script, number):
+def bracket(script: Script, number: int) -> str:
     """A bracket that is open, with its line."""
     token = script.tokens[number]
     return f"`{token.text}` of line {script.line(token.at)}"
 
 
-def of_edits(script, number, calls):
+def of_edits(script: Script, number: int, calls: Dict[str, Call]) -> Optional[str]:
     """What the edits tell with which the script goes on, where they tell one thing."""
     found = tried(script, number, calls)
     token, before, inner = script.token(number), script.token(number - 1), script.parents[number]
     sorts = set(found)
     if "swapped" in sorts:
         return f"the two brackets stand the other way round: `{script.word(number + 1)}{token.text}`"
-    if sorts == {"close"} or sorts == {"close", "out"} and token and not token.closes and script.begins_line(number):
-        missing = f"`{CLOSES[script.tokens[inner].opens]}` is missing"
+    if inner is not None and (sorts == {"close"} or sorts == {"close", "out"} and token and not token.closes and script.begins_line(number)):
+        missing = f"`{closer_of(script.token(inner))}` is missing"
         return f"{bracket(script, inner)} is not closed: {missing}{' before this' if token else ''}"
     if "as comma" in sorts:
         return "commas stand between items: write `,`"
-    if sorts == {"other close"}:
-        close = CLOSES[script.tokens[inner].opens]
+    if sorts == {"other close"} and inner is not None:
+        close = closer_of(script.token(inner))
         return f"{bracket(script, inner)} is closed by `{close}`, and not by `{token.text}`"
-    is_item = token is not None and token.text == "[" and script.is_close(number)
+    is_item = token.text == "[" and script.is_close(number)
     if "equals" in sorts and inner is None and script.begins_line(number - 1) and not is_item:
         return f"`=` is missing before this: `{before.text} = ..`"
     if sorts in ({"then"}, {"else"}):
@@ -268,7 +306,7 @@ def of_edits(script, number, calls):
     return of_surplus(script, number, found)
 
 
-def of_surplus(script, number, found):
+def of_surplus(script: Script, number: int, found: Dict[str, List[Trial]]) -> Optional[str]:
     """Where one of two tokens is too many, or an opening bracket is missing."""
     token, sorts, places = script.token(number), set(found), [edit.place for edit in found.get("open", ())]
     if "out" in sorts and token.text == ";":
@@ -290,37 +328,39 @@ def of_surplus(script, number, found):
     return f"this `{token.text}` is too many" if sorts == {"out"} and token.kind == "mark" else None
 
 
-def of_brackets(script, number):
+def of_brackets(script: Script, number: int) -> Optional[str]:
     """What is certain of a bracket that is not closed, or of one that closes nothing."""
     token, inner = script.token(number), script.parents[number]
-    if token is None:
+    if not token:
         if inner is None:
             return "the last statement is not complete"
         if script.word(inner) == "if":
             return f"the {bracket(script, inner)} is not ended: `if .. then .. else .. end`"
         if not is_end(script.token(number - 1)):
             return f"{bracket(script, inner)} is still open at the end of the script"
-        return f"{bracket(script, inner)} is not closed: `{CLOSES[script.tokens[inner].opens]}` is missing"
+        return f"{bracket(script, inner)} is not closed: `{closer_of(script.token(inner))}` is missing"
     if not token.closes:
         return None
     if inner is None:
         return f"this `{token.text}` closes nothing: it is too many, or what it closes is missing before"
-    if CLOSES[script.tokens[inner].opens] != token.text:
+    if closer_of(script.token(inner)) != token.text:
         return f"{bracket(script, inner)} is still open here, and `{token.text}` does not close it"
     if script.word(inner) == "if" and not has_else(script, inner, number):
+        if any(script.word(k) == "output.file(" for k in range(inner, number)):
+            return "an output stands outside of an `if`, which chooses its source: `if .. then .. else .. end`"
         return "an `if` has both parts: `if .. then .. else .. end`"
     return None
 
 
-def has_else(script, inner, number):
+def has_else(script: Script, inner: int, number: int) -> bool:
     return any(script.word(k) == "else" and script.parents[k] == inner for k in range(inner, number))
 
 
-def syntax(script, number, words, calls):
+def syntax(script: Script, number: int, words: Words, calls: Dict[str, Call]) -> Optional[str]:
     """E06."""
     number = min(number, len(script.tokens))
     token, inner = script.token(number), script.parents[number]
-    if token is None:
+    if not token:
         return foreign.of_number(script, number) or of_call_before(script, number, calls) \
             or of_edits(script, number, calls) or of_brackets(script, number)
     found = foreign.of_token(script, number) or of_words(script, number, words) or of_comment(script, number) \
@@ -340,7 +380,7 @@ def syntax(script, number, words, calls):
     return found or of_side_by_side(script, number)
 
 
-def of_side_by_side(script, number):
+def of_side_by_side(script: Script, number: int) -> Optional[str]:
     """Where two values stand side by side in a bracket."""
     inner = script.parents[number]
     if inner is None or script.word(inner) in ("def", "if", "{"):

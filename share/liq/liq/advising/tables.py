@@ -159,6 +159,12 @@ class Words:
         return left_out(f"`{word}`", self.words[word]) if word in self.words else None
 
 
+@functools.lru_cache(maxsize=None)
+def words() -> Words:
+    """The words of Liquidsoap, read once."""
+    return Words()
+
+
 def left_out(word: str, way: str, is_one: bool = True) -> str:
     """A line on a word, or on several, that is left out here, with the nearest way."""
     front = f"{word} is no word of this language" if is_one else f"{word} are no words of this language"
@@ -180,6 +186,7 @@ def bounds(code: str) -> List[str]:
     return re.findall(r"(?:above|more than) ([0-9]+)", found)
 
 
+@functools.lru_cache(maxsize=None)
 def repairs() -> List[Tuple[Pattern[str], str]]:
     """What to do, by each line of a fault that the page of faults shows: pairs of a form of the line and the words."""
     found = []

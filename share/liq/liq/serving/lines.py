@@ -4,7 +4,8 @@ import re
 from typing import Iterable, Iterator, Optional
 
 from liq.advising.lines import FAULT, Advice, place_of
-from liq.advising.mending import Fault, edit_of
+from liq.advising.mending import Fault
+from liq.advising.reader import Reader, reader_of
 from liq.advising.script import Script
 from liq.reading.companion import Companion
 from liq.serving.looking import Look, Span, Told, line_and_column, span_of
@@ -42,18 +43,19 @@ def as_json(file: str, text: str, told: Told) -> str:
     return json.dumps(found)
 
 
-def told_of(line: str, place, script: Optional[Script], help_line: Optional[str]) -> Told:
-    """What a line of a refusal tells, with its place and its help."""
+def told_of(line: str, place, script: Optional[Script], help_line: Optional[str], reader: Optional[Reader]) -> Told:
+    """What a line of a refusal tells, with its place and its help, and the edit that the reader finds to mend it."""
     if script is None:
         return Told("error", line[:3], Span(0, 0), line[4:], help_line)
     fault = Fault(script, line, place, help_line)
     has_place = place is not None or fault.number is not None or re.search(r" at \d+$", line)
     span = span_of(fault) if has_place else Span(0, 0)
-    return Told("error", line[:3], span, line[4:], help_line, edit_of(fault))
+    return Told("error", line[:3], span, line[4:], help_line, reader.proved(fault) if reader else None)
 
 
 def passed(lines: Iterable[str], file: str, companion: Companion, form) -> Iterator[str]:
     """The lines of standard input: each fault in its form, and any other line as it came."""
+    reader = reader_of(companion)
     for line in lines:
         bare = line.removesuffix("\n")
         if not FAULT.fullmatch(bare):
@@ -62,7 +64,7 @@ def passed(lines: Iterable[str], file: str, companion: Companion, form) -> Itera
         places = [place_of(one, file) for one in companion.where(file, bare + "\n").split("\n")]
         place = next(filter(None, places), None)
         advice = Advice(file, companion)
-        told = told_of(bare, place, advice.script, advice.line(bare, place))
+        told = told_of(bare, place, advice.script, advice.line(bare, place), reader)
         yield form(file, advice.script.text if advice.script else "", told) + "\n"
 
 

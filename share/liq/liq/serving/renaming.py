@@ -3,7 +3,7 @@ import re
 from dataclasses import replace
 from typing import Dict, List, Optional
 
-from liq.advising.mending import Edit
+from liq.advising.helping import Edit
 from liq.advising.script import KEYWORDS, Script
 from liq.advising.tables import Call
 from liq.reading.companion import Companion

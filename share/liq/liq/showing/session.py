@@ -19,6 +19,7 @@ from liq.watching.runs import Run, signal_of, write_out
 
 WORDS = {3: "a file could not be read", 4: "something could not be written",
          5: "memory was refused, or a type of the script passes its bound"}
+MOST_SCRIPT = 262144   # bytes; of a longer one the first fault alone is told
 SECONDS = 10           # of the help behind a run that went wrong
 LOOK = 1               # seconds of each of the two looks behind a run that went well
 
@@ -48,10 +49,25 @@ def advised(text: str, file: str, companion: Companion) -> str:
         return text
 
 
-def explain(said: bytes, words: List[str], companion: Companion, liq: str) -> None:
-    """Passes on what the program said, with places, advice and how to draw it."""
+def further(said: bytes, file: str, companion: Companion, program: str) -> List[str]:
+    """The further faults of a script whose first one is of its text, a line for each."""
+    if not re.match(rb"E(0[2-9]|1\d) ", said):
+        return []
+    try:
+        from liq.serving.lines import as_line, text_of
+        from liq.serving.looking import Look
+        from liq.serving.several import faults
+        text = text_of(file, MOST_SCRIPT)
+        found = list(faults(text, Look(program, companion))) if text is not None else []
+    except (ImportError, OSError, UnicodeError, NoAnswer):
+        return []
+    return [as_line(file, text or "", told) for told in found[1:]]
+
+
+def explain(said: bytes, words: List[str], companion: Companion, program: str, liq: str) -> None:
+    """Passes on what the program said, with places, advice, further faults and how to draw it."""
     text = advised(places(said.decode("utf-8", "surrogateescape"), companion, words[1]), words[1], companion)
-    lines = shown_lines(text.removesuffix("\n"))
+    lines = shown_lines("\n".join([text.removesuffix("\n"), *further(said, words[1], companion, program)]))
     say_lines(drawn(lines))
     if words[0] == "check" and re.match(r"E2[5-8] ", text):
         say_lines(f"to see it: {liq} picture {typed(words[1])} | dot -Tsvg > picture.svg")
@@ -136,7 +152,7 @@ def main(arguments: List[str]) -> int:
         say_lines(shown_lines(run.said.decode("utf-8", "surrogateescape").removesuffix("\n")))
         say(f"liq: {meant(words, companion, liq)}")
     elif run.said:
-        explain(run.said, words, companion, liq)
+        explain(run.said, words, companion, program, liq)
     end(run, program, words)
     if run.status == 0 and is_written and len(words) > 1:
         end_well(companion, words, liq)
