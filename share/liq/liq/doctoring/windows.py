@@ -7,7 +7,7 @@ from liq.doctoring.findings import Told
 from liq.reading.companion import Companion
 from liq.reading.facts import Facts, Source, Sound, Windows
 from liq.watching.names import shown
-from liq.weeks.told import Week, placed, with_places
+from liq.weeks.told import Week, placed
 
 THROUGH = ("amplify", "mean", "stereo", "clock")    # operators that play their one source, as long as it is
 HOUR = 3600     # a sound that is played again and again for longer is meant to be
@@ -76,5 +76,5 @@ def lines_of(facts: Facts) -> Iterator[str]:
 
 def findings_of_windows(companion: Companion, file: str, facts: Facts) -> Iterator[str]:
     """The lines, with the places of the switches."""
-    lines = list(lines_of(facts))
-    yield from map(Told, Week(placed(file, with_places(companion, file, lines))).shown())
+    lines = "".join(f"{line}\n" for line in lines_of(facts)).encode("utf-8", "surrogateescape")
+    yield from map(Told, Week(placed(companion, file, lines)).shown())
