@@ -1,7 +1,7 @@
 """A case of a switch that plays one sound whose length does not fit its windows: when in the week this case is the first
 that holds."""
 import math
-from typing import Iterator, Optional
+from typing import Dict, Iterator, Optional
 
 from liq.doctoring.findings import Told
 from liq.reading.companion import Companion
@@ -63,9 +63,12 @@ def trouble_of_windows(seconds: float, again: bool, sensitive: bool, windows: Wi
 
 
 def lines_of(facts: Facts) -> Iterator[str]:
+    known: "Dict[int, tuple[Optional[Sound], bool]]" = {}       # many cases have the same child
     for number, source in enumerate(facts.sources):
         for case, (child, windows) in enumerate(zip(source.children, source.windows), 1):
-            sound, again = one_sound(facts, facts.sources[child])
+            if child not in known:
+                known[child] = one_sound(facts, facts.sources[child])
+            sound, again = known[child]
             if sound and sound.played:
                 seconds = sound.played / facts.rate
                 trouble = trouble_of_windows(seconds, again, bool(source.sensitive), windows)

@@ -10,7 +10,7 @@ import tempfile
 from typing import IO, Any, Callable, Iterator, Optional, TypeVar, Union
 
 from liq.failed import Failed
-from liq.reading.facts import Facts, Refused, Tokens, read_facts, read_tokens
+from liq.reading.facts import Facts, Refused, Shared, Tokens, read_facts, read_tokens
 from liq.reading.programs import COMPANION, NotBuilt, program_of
 from liq.watching.names import shown
 
@@ -44,14 +44,14 @@ class Companion:
         """What a script sets and plays, and what becomes of each file that it names. Names count from `folder`, or
         from the folder in which this process is."""
         try:
-            return read(read_facts, self.call("files", file, folder=folder), file)
+            return read(read_facts, self.call("files", file, folder=folder), file, Shared())
         except NoPlan:
             return Refused()
 
     def files_of(self, script: bytes, folder: Optional[str] = None) -> Union[Facts, Refused]:
         """The same of a script that is a text."""
         try:
-            return read(read_facts, self.call("files", STDIN, given=script, folder=folder), TEXT)
+            return read(read_facts, self.call("files", STDIN, given=script, folder=folder), TEXT, Shared())
         except NoPlan:
             return Refused()
 
@@ -162,10 +162,10 @@ def words_of(status: int) -> str:
     return WORDS.get(status, f"the companion ends with status {status}")
 
 
-def read(reader: "Callable[[dict[str, Any]], Told]", data: bytes, file: str) -> Told:
-    """What a reader makes of JSON."""
+def read(reader: "Callable[[dict[str, Any]], Told]", data: bytes, file: str, shared: Optional[Shared] = None) -> Told:
+    """What a reader makes of JSON, of which `shared` reads the windows."""
     try:
-        return reader(json.loads(data))
+        return reader(json.loads(data, object_hook=shared))
     except (ValueError, KeyError, TypeError) as error:
         raise NoAnswer(f"{shown(file)}: the companion is of another version: {error!r}", 126) from None
 
