@@ -10,7 +10,7 @@ TOP = os.path.dirname(os.path.dirname(os.path.dirname(os.path.dirname(os.path.di
 FOLDER = "LIQ_PROGRAMS"     # the variable of the environment that names a folder of programs, for tests
 # Large blocks are taken in large pages, where the C library and the system can; others pass it over. The last setting of a
 # kind counts, so that the caller's own comes behind.
-PAGES = "glibc.malloc.hugetlb=1:glibc.malloc.mmap_threshold=4294967296"
+PAGES = "glibc.malloc.hugetlb=1"
 TUNED = "GLIBC_TUNABLES"
 
 
