@@ -2,7 +2,7 @@
 itself is made to stop here, so that what is left out does not make silence look safe."""
 import re
 from dataclasses import dataclass, field
-from typing import Iterator, List, Optional, Tuple
+from typing import IO, Iterator, List, Optional, Tuple
 
 from liq.adopting.answer import Asked, answer, place_in, put
 from liq.adopting.marks import Places
@@ -67,8 +67,9 @@ class Within(Companion):
         super().__init__(other.path, other.seconds)
         self.folder = folder
 
-    def call(self, verb: str, file: str, given: bytes = b"", folder: Optional[str] = None) -> bytes:
-        return super().call(verb, file, given, folder or self.folder)
+    def call(self, verb: str, file: str, given: bytes = b"", folder: Optional[str] = None,
+             out: Optional[IO[bytes]] = None) -> bytes:
+        return super().call(verb, file, given, folder or self.folder, out)
 
 
 def character(text: str, line: int, column: int) -> int:
@@ -160,7 +161,7 @@ class Check:
         """The hours of the week in which a switch has nothing to play."""
         week = told(self.companion, path)
         self.verdict.may_fall_silent = self.verdict.may_fall_silent or week.sum_of is not None
-        for line in week.lines:
+        for line in week.once():
             found = re.search(r":(\d+):(\d+)$", line.place or "")
             at = character(self.verdict.new, int(found[1]), int(found[2])) if found else 0
             self.add(SILENT if ": silence" in line.text else HINT, at, line.text)

@@ -1,13 +1,13 @@
 """A case of a switch that plays one sound whose length does not fit its windows: when in the week this case is the first
 that holds."""
 import math
-from typing import Iterator, Optional
+from typing import Dict, Iterator, Optional
 
 from liq.doctoring.findings import Told
 from liq.reading.companion import Companion
 from liq.reading.facts import Facts, Source, Sound, Windows
 from liq.watching.names import shown
-from liq.weeks.told import Week, placed, with_places
+from liq.weeks.told import Week, placed
 
 THROUGH = ("amplify", "mean", "stereo", "clock")    # operators that play their one source, as long as it is
 HOUR = 3600     # a sound that is played again and again for longer is meant to be
@@ -63,9 +63,12 @@ def trouble_of_windows(seconds: float, again: bool, sensitive: bool, windows: Wi
 
 
 def lines_of(facts: Facts) -> Iterator[str]:
+    known: "Dict[int, tuple[Optional[Sound], bool]]" = {}       # many cases have the same child
     for number, source in enumerate(facts.sources):
         for case, (child, windows) in enumerate(zip(source.children, source.windows), 1):
-            sound, again = one_sound(facts, facts.sources[child])
+            if child not in known:
+                known[child] = one_sound(facts, facts.sources[child])
+            sound, again = known[child]
             if sound and sound.played:
                 seconds = sound.played / facts.rate
                 trouble = trouble_of_windows(seconds, again, bool(source.sensitive), windows)
@@ -76,5 +79,5 @@ def lines_of(facts: Facts) -> Iterator[str]:
 
 def findings_of_windows(companion: Companion, file: str, facts: Facts) -> Iterator[str]:
     """The lines, with the places of the switches."""
-    lines = list(lines_of(facts))
-    yield from map(Told, Week(placed(file, with_places(companion, file, lines))).shown())
+    lines = "".join(f"{line}\n" for line in lines_of(facts)).encode("utf-8", "surrogateescape")
+    yield from map(Told, Week(placed(companion, file, lines)).shown())

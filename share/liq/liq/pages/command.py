@@ -89,7 +89,7 @@ def hours_of(companion, script):
     except NoAnswer as error:
         tell(f"page: the week cannot be told: {error}")
         return Hours([])
-    return Hours([(f"{line.place or 'a switch'}: {line.text}", spans_of(line.text)) for line in week.lines])
+    return Hours([(f"{line.place or 'a switch'}: {line.text}", spans_of(line.text)) for line in week.once()])
 
 
 def made(options, names):

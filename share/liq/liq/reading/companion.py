@@ -7,10 +7,10 @@ import signal
 import stat
 import subprocess
 import tempfile
-from typing import Any, Callable, Iterator, Optional, TypeVar, Union
+from typing import IO, Any, Callable, Iterator, Optional, TypeVar, Union
 
 from liq.failed import Failed
-from liq.reading.facts import Facts, Refused, Tokens, read_facts, read_tokens
+from liq.reading.facts import Facts, Refused, Shared, Tokens, read_facts, read_tokens
 from liq.reading.programs import COMPANION, NotBuilt, program_of
 from liq.watching.names import shown
 
@@ -44,14 +44,14 @@ class Companion:
         """What a script sets and plays, and what becomes of each file that it names. Names count from `folder`, or
         from the folder in which this process is."""
         try:
-            return read(read_facts, self.call("files", file, folder=folder), file)
+            return read(read_facts, self.call("files", file, folder=folder), file, Shared())
         except NoPlan:
             return Refused()
 
     def files_of(self, script: bytes, folder: Optional[str] = None) -> Union[Facts, Refused]:
         """The same of a script that is a text."""
         try:
-            return read(read_facts, self.call("files", STDIN, given=script, folder=folder), TEXT)
+            return read(read_facts, self.call("files", STDIN, given=script, folder=folder), TEXT, Shared())
         except NoPlan:
             return Refused()
 
@@ -82,9 +82,9 @@ class Companion:
         """The tokens of a text."""
         return read(read_tokens, self.remembered("tokens", STDIN, script), TEXT)
 
-    def week(self, file: str) -> str:
+    def week(self, file: str) -> bytes:
         """The lines on the week of the switches of a script."""
-        return self.remembered("week", file).decode("utf-8", "surrogateescape")
+        return self.remembered("week", file)
 
     def picture(self, file: str) -> bytes:
         """The picture of a script, as a text for graphviz."""
@@ -107,17 +107,19 @@ class Companion:
                 self.kept.popitem(last=False)
         return printed
 
-    def call(self, verb: str, file: str, given: bytes = b"", folder: Optional[str] = None) -> bytes:
-        """What the companion prints. Any status but 0 is `NoAnswer`, and 1 is `NoPlan`."""
+    def call(self, verb: str, file: str, given: bytes = b"", folder: Optional[str] = None,
+             out: Optional[IO[bytes]] = None) -> bytes:
+        """What the companion prints; nothing where it is to print into a file, since that may be much. Any status but 0 is
+        `NoAnswer`, and 1 is `NoPlan`."""
         if file == STDIN and not os.path.exists(STDIN):     # as where there is no /proc
             with temporary_folder("liq-text-") as place:
                 path = os.path.join(place, "text")
                 with open(path, "wb") as opened:
                     opened.write(given)
-                return self.call(verb, path, folder=folder)
+                return self.call(verb, path, folder=folder, out=out)
         try:
-            done = subprocess.run([self.path, verb, file], input=given, capture_output=True, cwd=folder, check=False,
-                                  timeout=self.seconds)
+            done = subprocess.run([self.path, verb, file], input=given, stdout=out or subprocess.PIPE, stderr=subprocess.PIPE,
+                                  cwd=folder, check=False, timeout=self.seconds)
         except subprocess.TimeoutExpired:
             raise NoAnswer(f"{shown(file)}: no answer of the companion within {self.seconds:g} seconds", 5) from None
         except ValueError:
@@ -128,7 +130,7 @@ class Companion:
             raise NoPlan(f"{shown(file)}: refused by liq", NO_PLAN)
         if done.returncode:
             raise NoAnswer(f"{shown(file)}: {words_of(done.returncode)}", done.returncode if done.returncode in WORDS else 5)
-        return done.stdout
+        return done.stdout or b""
 
 
 def text_of(file: str) -> Optional[bytes]:
@@ -160,10 +162,10 @@ def words_of(status: int) -> str:
     return WORDS.get(status, f"the companion ends with status {status}")
 
 
-def read(reader: "Callable[[dict[str, Any]], Told]", data: bytes, file: str) -> Told:
-    """What a reader makes of JSON."""
+def read(reader: "Callable[[dict[str, Any]], Told]", data: bytes, file: str, shared: Optional[Shared] = None) -> Told:
+    """What a reader makes of JSON, of which `shared` reads the windows."""
     try:
-        return reader(json.loads(data))
+        return reader(json.loads(data, object_hook=shared))
     except (ValueError, KeyError, TypeError) as error:
         raise NoAnswer(f"{shown(file)}: the companion is of another version: {error!r}", 126) from None
 

@@ -1,6 +1,6 @@
 """What the companion tells of a script: its settings, outputs, sources, lists, sounds and tokens."""
 from dataclasses import dataclass
-from typing import Any, Mapping, NamedTuple, Optional
+from typing import Any, Mapping, NamedTuple, Optional, Union
 
 
 @dataclass(frozen=True)
@@ -131,7 +131,7 @@ class Tokens:
 
 
 def read_facts(told: "dict[str, Any]") -> Facts:
-    """The facts of what `files` prints."""
+    """The facts of what `files` prints, read with `Shared`."""
     return Facts(
         told["rate"], told["tick"], tuple(map(read_output, told["outputs"])), tuple(map(read_source, told["sources"])),
         tuple(map(read_list, told["lists"])), {each["name"]: read_sound(each) for each in told["sounds"]}, told["bytes"],
@@ -145,11 +145,24 @@ def read_output(told: "dict[str, Any]") -> Output:
 def read_source(told: "dict[str, Any]") -> Source:
     return Source(told["op"], told["sides"], tuple(told["children"]), told["always"], told.get("file"), told.get("again"),
                   told.get("track"), told.get("overlap"), told.get("sensitive"),
-                  tuple(map(read_windows, told.get("windows", ()))), told.get("at"))
+                  tuple(told.get("windows", ())), told.get("at"))
 
 
-def read_windows(told: "dict[str, Any]") -> Windows:
-    return Windows(told["count"], told.get("shortest", 0), told.get("longest", 0))
+class Shared:
+    """Reads the windows of the cases of a script: equal ones, of which there may be hundreds of thousands, are held once. An
+    instance is the `object_hook` of the reader of JSON."""
+
+    def __init__(self) -> None:
+        self.known: "dict[tuple[int, int, int], Windows]" = {}
+
+    def __call__(self, told: "dict[str, Any]") -> "Union[Windows, dict[str, Any]]":
+        if "count" not in told:
+            return told
+        key = told["count"], told.get("shortest", 0), told.get("longest", 0)
+        found = self.known.get(key)
+        if found is None:
+            found = self.known[key] = Windows(*key)
+        return found
 
 
 def read_list(told: "dict[str, Any]") -> Listed:

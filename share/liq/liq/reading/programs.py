@@ -8,8 +8,9 @@ from liq.failed import Failed
 LIQ, COMPANION = "liq_program", "about_program"
 TOP = os.path.dirname(os.path.dirname(os.path.dirname(os.path.dirname(os.path.dirname(os.path.realpath(__file__))))))
 FOLDER = "LIQ_PROGRAMS"     # the variable of the environment that names a folder of programs, for tests
-# Large blocks are taken in large pages, where the C library and the system can; others pass it over.
-PAGES = "glibc.malloc.hugetlb=1:glibc.malloc.mmap_threshold=4294967296"
+# Large blocks are taken in large pages, where the C library and the system can; others pass it over. The last setting of a
+# kind counts, so that the caller's own comes behind.
+PAGES = "glibc.malloc.hugetlb=1"
 TUNED = "GLIBC_TUNABLES"
 
 
@@ -42,7 +43,7 @@ def programs_of(names: Sequence[str], given: Optional[str] = None, may_build: bo
     they are those of the folder that LIQ_PROGRAMS names, those that are installed, or those of the checkout. The last
     are unpacked or built first if need be, unless `may_build` is false."""
     if PAGES not in os.environ.get(TUNED, ""):
-        os.environ[TUNED] = ":".join(filter(None, (os.environ.get(TUNED), PAGES)))
+        os.environ[TUNED] = ":".join(filter(None, (PAGES, os.environ.get(TUNED))))
     if given is not None:
         return [path_beside(os.path.abspath(given), name) for name in names]
     for paths in places_of(names, may_build):

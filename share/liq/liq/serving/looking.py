@@ -65,7 +65,7 @@ class Look:
             return []
         script = Script(data, self.companion.tokens_of(data))
         found = []
-        for line in week.lines:
+        for line in week.once():
             match = re.search(r":(\d+):(\d+)$", line.place or "")
             at = script.place(int(match[1]), int(match[2])) if match else 0
             found.append(Told("warning", "week", word_at(script, at), line.text))

@@ -145,7 +145,7 @@ class Looked:
 
     def holes(self) -> "Iterator[Mark]":
         """The marks of the hours in which no case of a switch holds."""
-        for line in self.week.lines:
+        for line in self.week.once():
             match = re.search(r":(\d+):(\d+)$", line.place or "")
             if match:
                 span = word_at(self.script, self.script.place(int(match[1]), int(match[2])))

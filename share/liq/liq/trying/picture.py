@@ -12,6 +12,7 @@ SECONDS = 10               # for which graphviz may draw
 MOST = 1 << 20             # bytes of a picture's text that graphviz is given
 BOXES = 600                # sources that can be clicked
 PAD = 4.0                  # points round a picture
+TOO_LARGE = "the picture is too large to be drawn here; liq-picture prints it"
 MISSING = "graphviz is missing: install the package graphviz, and the picture of the station stands here"
 NODE = re.compile(r"node n(\d+) ([\d.]+) ([\d.]+) ([\d.]+) ([\d.]+) ")
 
@@ -28,11 +29,14 @@ def picture_of(companion: Companion, file: str, week: Week) -> "tuple[Optional[P
     if not shutil.which("dot"):
         return None, MISSING
     try:
-        text = noted(companion.picture(file).decode(errors="surrogateescape"), week).encode(errors="surrogateescape")
+        picture = companion.picture(file)
     except NoAnswer as error:
         return None, str(error)
+    if len(picture) > MOST:
+        return None, TOO_LARGE
+    text = noted(picture.decode(errors="surrogateescape"), week).encode(errors="surrogateescape")
     if len(text) > MOST:
-        return None, "the picture is too large to be drawn here; liq-picture prints it"
+        return None, TOO_LARGE
     try:
         done = subprocess.run(["dot", "-Tsvg", "-Tplain"], input=text, capture_output=True, check=False, timeout=SECONDS)
     except subprocess.TimeoutExpired:

@@ -20,6 +20,8 @@ def numbered(character: str) -> str:
 
 def shown(text: str) -> str:
     """A text as a line can hold it: what is unseen as numbers. Bytes that are no UTF-8 stand in it as surrogates."""
+    if text.isascii() and text.isprintable():       # as most lines are, of which there may be many
+        return text
     return "".join(numbered(c) if is_unseen(c) else c for c in text)
 
 
