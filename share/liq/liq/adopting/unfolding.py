@@ -5,7 +5,7 @@ from typing import Any, Dict, Iterator, List, Optional, Set, Tuple
 
 from liq.adopting.classes import MAY_STOP, SOURCE, classes
 from liq.adopting.conditions import branches
-from liq.adopting.knowing import Bound, Env, Knowing, Local, Names, walk
+from liq.adopting.knowing import Bound, Env, Knowing, Local, Names, spread_in, taken_apart, walk
 from liq.adopting.marks import mark, plain
 from liq.adopting.notes import LESS, SAME, YOU, Note
 from liq.adopting.outputs import bare_of, is_output
@@ -50,6 +50,7 @@ class Unfolder:
         self.above: List[str] = []             # statements that have to stand before the one that is written
         self.used = {token.text for token in tree.tokens if token.kind == "name"}
         self.calls, self.deep, self.length = 0, 0, 0
+        self.taken_apart = taken_apart(tree)
         self.assigned = {token.text for token, after in zip(tree.tokens, tree.tokens[1:]) if after.text == ":="}
 
     # Statements.
@@ -175,10 +176,22 @@ class Unfolder:
             self.names.bind(name, Bound(value, env, is_part=True))
             self.note(SAME, statement, f"`{name}` is a part of an output: its arguments are written where it is called")
             return None
+        if name in self.taken_apart and (value.kind == "list" or value.kind == "call" and value.name.startswith("list.")):
+            return self.each_bound(statement, value, env)
         bound = self.knowing.resolved(value, env)
         text = self.emit(value, env)
         self.names.bind(name, self.kept(bound, value, env))
         return self.tree.cut_out(self.tree.at(statement), self.tree.at(value)) + text
+
+    def each_bound(self, statement: Statement, value: Node, env: Env) -> str:
+        """A list that is taken apart behind: each source in it is bound by itself, as a call that stands twice is two."""
+        items = self.listed(value, env)
+        if items is None:
+            self.names.bind(statement.name, None)
+            return self.tree.cut_out(self.tree.at(statement), self.tree.at(value)) + self.emit(value, env)
+        made = [item if self.is_plain(item) else self.bound_above(statement.name, item) for item in items]
+        self.names.bind(statement.name, Bound(value, env, made))
+        return f"{statement.name} = [{', '.join(map(self.written, made))}]"
 
     def kept(self, bound: Bound, value: Any, env: Env) -> Optional[Bound]:
         """What is to be known of a name: a list, a record, a function, a reference, or a plain value; of a source
@@ -234,11 +247,11 @@ class Unfolder:
         if not match or place is None or not 0 <= int(match[3]) - int(match[2]) < MOST_TURNS:
             return False
         body = self.tree.block(place + 1, statement.behind - 1)
-        for _ in range(int(match[2]), int(match[3]) + 1):
+        for number in range(int(match[2]), int(match[3]) + 1):
             for step in body:
                 if step.kind != "other" or self.tree.word(step.first + 1) != ":=" or step.value is None:
                     return False
-                self.assign(step, self.env())
+                self.assign(step, self.env().within({match[1]: Bound(None, env, text=str(number))}))
         self.note(LESS, statement, f"`{self.short(statement)}` is written out")
         return True
 
@@ -321,6 +334,9 @@ class Unfolder:
             if text is not None:
                 self.note(SAME, node, f"of `{self.short(node)}` the part stays that is taken")
             return text
+        if node.kind == "list" and any(spread_in(self.tree, one.value) is not None for one in node.args):
+            items = self.listed(node, env)
+            return f"[{', '.join(self.written(item) for item in items)}]" if items is not None else None
         if node.kind == "block" and node.name == "begin" and len(node.parts) > 1:
             return self.block(node.parts, env)
         return self.call(node, env) if node.kind == "call" else None
@@ -436,11 +452,15 @@ class Unfolder:
         given = [one.value for one in node.args if one.label is None][1:] if isinstance(node, Node) else []
         return self.written(Bound(given[0], bound.env)) if given else None
 
-    def listed(self, node: Node, env: Env) -> Optional[List[Bound]]:
-        """The items of a call that makes a list, or of a list that is known."""
+    def listed(self, node: Node, env: Env, is_read: bool = False) -> Optional[List[Bound]]:
+        """The items of a call that makes a list, or of a list that is known; with `is_read` of what a reference holds."""
+        if node.kind == "list" and any(spread_in(self.tree, one.value) is not None for one in node.args):
+            return self.spread(node, env)
         if node.kind != "call" or not node.name.startswith("list."):
-            held = self.knowing.resolved(node, env)
-            known = held.items if held.items is not None else self.knowing.items(node, env)
+            bound = self.knowing.resolved(node, env)
+            held = self.knowing.held(bound) if is_read else None
+            known = bound.items if bound.items is not None else self.knowing.items(node, env) if held is None \
+                else self.knowing.items(held.node, held.env) if isinstance(held.node, Node) else None
             self.units.told.update([node.name] if known is not None and node.kind == "name" else [])
             return known
         values = [one.value for one in node.args if one.label is None]
@@ -456,6 +476,18 @@ class Unfolder:
             return None if rest is None else [Bound(values[0], env), *rest]
         first = self.listed(values[0], env) if len(values) == 1 and node.name in ("list.rev", "list.tl") else None
         return None if first is None else first[::-1] if node.name == "list.rev" else first[1:]
+
+    def spread(self, node: Node, env: Env) -> Optional[List[Bound]]:
+        """The items of a list in which others are spread, or nothing where one of these is not known."""
+        found: List[Bound] = []
+        for one in node.args:
+            inner = spread_in(self.tree, one.value)
+            is_read = inner is not None and self.tree.word(inner.first - 1) == "!"
+            items = self.listed(inner, env, is_read) if inner is not None else [Bound(one.value, env)]
+            if items is None:
+                return None
+            found += items
+        return found
 
     def picked(self, node: Node, env: Env) -> Optional[str]:
         """An item of a list or a tuple."""
