@@ -27,6 +27,7 @@ class Names:
     def __init__(self) -> None:
         self.step = 0
         self.found: Dict[str, Tuple[List[int], List[Optional[Bound]]]] = {}
+        self.others: Dict[str, List[Tuple[int, str]]] = {}
 
     def bind(self, name: str, bound: Optional[Bound]) -> None:
         """Binds a name; to nothing that is known where `bound` is nothing."""
@@ -40,6 +41,15 @@ class Names:
         steps, values = self.found.get(name, ([], []))
         number = bisect.bisect_right(steps, step) - 1
         return values[number] if number >= 0 else None
+
+
+    def call_otherwise(self, name: str, other: str) -> None:
+        """What a name is bound to up to here has another name, too, which holds it when the first is bound anew."""
+        self.others.setdefault(name, []).append((self.step, other))
+
+    def other(self, name: str, step: int) -> Optional[str]:
+        """The name that still has what another one was bound to at a step; nothing where the other one has it."""
+        return next((other for last, other in self.others.get(name, ()) if last >= step), None)
 
 
 class Env:

@@ -29,11 +29,12 @@ WORTH = re.compile(r"%if|\blist\.|\bnull\b|\bfst\b|\bsnd\b|\bref\b|\blet\b|\bdef
 @dataclass
 class Units:
     """Statements with marks, each with the number of that of the old script from which it comes, and what is noted;
-    `told` are names whose values were written where they are read."""
+    `told` are names whose values were written where they are read, and `others` new names for values that have one."""
     texts: List[str]
     homes: List[int]
     notes: List[Note] = field(default_factory=list)
     told: Set[str] = field(default_factory=set)
+    others: Set[str] = field(default_factory=set)
 
 
 class TooMuch(Exception):
@@ -51,6 +52,7 @@ class Unfolder:
         self.used = {token.text for token in tree.tokens if token.kind == "name"}
         self.calls, self.deep, self.length = 0, 0, 0
         self.taken_apart = taken_apart(tree)
+        self.read_within: Dict[str, int] = {}  # where the last def is that reads a name and is written out where it is called
         self.assigned = {token.text for token, after in zip(tree.tokens, tree.tokens[1:]) if after.text == ":="}
 
     # Statements.
@@ -140,6 +142,9 @@ class Unfolder:
             return None
         local: Local = {one.label.lstrip("~?"): None for one in statement.parameters}
         self.names.bind(statement.name, Bound(statement, env))
+        if self.is_written_out(Bound(statement, env)):
+            tokens = self.tree.tokens[statement.first:statement.behind]
+            self.read_within.update({token.text: self.names.step for token in tokens if token.text not in local})
         if not WORTH.search(raw.partition("=")[2]):
             return self.tree.said(statement)
         return self.steps_said(statement, env.within(local))
@@ -180,8 +185,17 @@ class Unfolder:
             return self.each_bound(statement, value, env)
         bound = self.knowing.resolved(value, env)
         text = self.emit(value, env)
+        self.keep_name(name)
         self.names.bind(name, self.kept(bound, value, env))
         return self.tree.cut_out(self.tree.at(statement), self.tree.at(value)) + text
+
+    def keep_name(self, name: str) -> None:
+        """Before a name is bound anew that a def reads which is written out behind: another name for what it is now."""
+        if self.read_within.pop(name, None) is not None and name in self.names.found:
+            other = self.fresh(name)
+            self.units.others.add(other)
+            self.above.append(f"{other} = {name}")
+            self.names.call_otherwise(name, other)
 
     def each_bound(self, statement: Statement, value: Node, env: Env) -> str:
         """A list that is taken apart behind: each source in it is bound by itself, as a call that stands twice is two."""
@@ -347,6 +361,9 @@ class Unfolder:
         if head in env.local and not rest:
             bound = env.local[head]
             return self.written(bound) if bound is not None else None
+        other = self.names.other(head, env.step) if not rest and head not in env.local else None
+        if other is not None:
+            return other
         if rest and env.get(head) is not None:
             found = self.knowing.resolved(node, env)
             if found.node is not node and (found.text is not None or found.items is not None

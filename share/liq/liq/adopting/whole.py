@@ -57,6 +57,7 @@ def rewritten(tree: Tree, may_stop: bool) -> Tuple[str, Notes, Places]:
     inner = Tree(inner_text)
     writer = Rewriter(inner, notes, classes(), tables.calls(), scope_of(inner))
     writer.scope.told |= units.told
+    writer.scope.others |= units.others
     writer.may_stop = may_stop
     lines = settings_first(Slicer(writer, inner.statements).lines())
     homes = homes_of(inner, units.texts, units.homes)
