@@ -39,9 +39,17 @@ class Neutral:
     def text(self):
         """The whole text."""
         staying = [one for one in self.tree.statements if self.stays(one)]
+        read = self.read_by(staying)
+        staying = [one for one in self.tree.statements if one in staying or one.kind == "bind" and one.name in read]
         bound = {one.name for one in staying if one.kind in ("bind", "def")}
         return "".join(self.said(one.first, one.behind) + "\n" for one in staying
                        if one.name != "ignore" or one.value.args[:1] and self.tree.raw(one.value.args[0]) in bound)
+
+    def read_by(self, statements):
+        """The names that the texts of these statements read."""
+        texts = " ".join(self.said(one.value.first, one.value.behind) if one.kind == "bind" and one.value is not None
+                         else self.said(one.first, one.behind) for one in statements if one.name != "ignore")
+        return set(re.findall(r"[A-Za-z_][\w']*", texts))
 
     def stays(self, statement):
         """Whether a statement is rendered."""

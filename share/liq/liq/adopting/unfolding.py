@@ -240,9 +240,12 @@ class Unfolder:
         tree, place = self.tree, statement.first + 1
         if tree.word(place) not in ("(", "["):
             return False
-        names = [tree.word(first) for first, _ in tree.items(place)]
+        names = ["".join(map(tree.word, range(*span))) for span in tree.items(place)]
         sign = tree.next(place)
         items = self.knowing.items(tree.value(sign + 1, statement.behind), env) if tree.word(sign) == "=" else None
+        if items is not None and names and names[-1].startswith("...") and len(items) >= len(names) - 1:
+            rest = [item if self.is_plain(item) else self.bound_above(names[-1][3:], item) for item in items[len(names) - 1:]]
+            names[-1], items = names[-1][3:], [*items[:len(names) - 1], Bound(None, env, rest)]
         if items is None or len(items) != len(names):
             return False
         for name, item in zip(names, items):
@@ -261,13 +264,25 @@ class Unfolder:
         if not match or place is None or not 0 <= int(match[3]) - int(match[2]) < MOST_TURNS:
             return False
         body = self.tree.block(place + 1, statement.behind - 1)
+        if not all(step.value is not None and (step.kind == "call" or self.is_assigned(step)) for step in body):
+            return False
         for number in range(int(match[2]), int(match[3]) + 1):
             for step in body:
-                if step.kind != "other" or self.tree.word(step.first + 1) != ":=" or step.value is None:
-                    return False
-                self.assign(step, self.env().within({match[1]: Bound(None, env, text=str(number))}))
+                self.turn(step, self.env().within({match[1]: Bound(None, env, text=str(number))}))
         self.note(LESS, statement, f"`{self.short(statement)}` is written out")
         return True
+
+    def is_assigned(self, step: Statement) -> bool:
+        """Whether a statement is `x := ..`."""
+        return step.kind == "other" and self.tree.word(step.first + 1) == ":="
+
+    def turn(self, step: Statement, env: Env) -> None:
+        """A step of a round."""
+        if self.is_assigned(step):
+            self.assign(step, env)
+        elif step.value is not None:
+            text = self.call_statement(step, step.value, env)
+            self.above += [text] if text is not None else []
 
     def assign(self, statement: Statement, env: Env) -> None:
         """`x := ..`: what the reference holds from here on, each of its sources bound by itself."""
@@ -457,7 +472,7 @@ class Unfolder:
             return None
         if bound.is_part:
             return self.completed(node, bound, env)
-        if self.is_written_out(bound):
+        if self.is_written_out(bound) or isinstance(bound.node, Statement) and self.takes_record(node, env):
             return self.inlined(node, bound, env)
         if isinstance(bound.node, Node) and bound.node.name.startswith("interactive.") and not node.args:
             return self.default(bound)
@@ -564,6 +579,12 @@ class Unfolder:
         """Whether a value is a call of an output."""
         return node.kind == "call" and is_output(node.name) or self.is_part(node, env)
 
+    def takes_record(self, node: Node, env: Env) -> bool:
+        """Whether a record is given to a call: its fields have no form here, so that the def is written out."""
+        records = [one.value for one in node.args if self.knowing.fields(self.knowing.resolved(one.value, env))]
+        self.units.told.update(value.name for value in records if value.kind == "name")
+        return bool(records)
+
     def inlined(self, node: Node, bound: Bound, env: Env) -> Optional[str]:
         """A call of a def, written out."""
         statement = bound.node
@@ -651,7 +672,7 @@ class Unfolder:
         """A predicate by times, or nothing where it is not known."""
         if node.kind == "call" and node.name.startswith("predicate."):
             inner = [one.value for one in node.args if one.value.kind in ("braces", "name", "call", "fun")]
-            text = self.predicate(inner[-1], env) if inner else None
+            text = self.predicate(inner[-1], env) or self.as_it_stands(inner[-1], env) if inner else None
             if text is not None:
                 self.note(LESS, node, f"`{node.name}(..)` is left out, its times stay: they hold without its rule")
             return text
@@ -675,6 +696,11 @@ class Unfolder:
             if held is not None and isinstance(held.node, Node) and held.node.kind == "bool":
                 return f"{{{held.node.name}}}"
         return None
+
+    def as_it_stands(self, node: Node, env: Env) -> Optional[str]:
+        """A predicate of times in braces, or nothing where another value stands in them."""
+        value = node.parts[0].value if node.kind == "braces" and len(node.parts) == 1 else None
+        return self.tree.said(node) if value is not None and self.condition(value, env) is not None else None
 
     def condition(self, node: Node, env: Env) -> Optional[str]:
         """Times and truth values with `and`, `or` and `not`, or nothing where another value stands in it."""

@@ -5,7 +5,7 @@ from typing import Callable, Dict, List, NamedTuple, Optional, Tuple
 
 from liq.adopting.classes import classes
 from liq.adopting.laying import by_home, laid, settings_first
-from liq.adopting.marks import Places, read
+from liq.adopting.marks import Places, plain, read
 from liq.adopting.notes import YOU, Notes
 from liq.adopting.rewriting import Rewriter
 from liq.adopting.scope import scope_of
@@ -76,7 +76,7 @@ def homes_of(tree: Tree, texts: List[str], homes: List[int]) -> List[int]:
     begins, at = [], 0
     for text in texts:
         begins.append(at)
-        at += len(read(text)[0]) + 1
+        at += len(plain(text)) + 1
     return [homes[bisect.bisect_right(begins, tree.at(one)) - 1] for one in tree.statements]
 
 
