@@ -22,7 +22,7 @@ MIXES = ("crossfade", "cross", "cross.smart", "cross.simple", "smart_cross", "sm
 READ_AS_FALSE = re.compile(r"`!(\w+)` changes while it plays, and is read as `false`")
 LEFT_OUT = re.compile(r"`.*` is left out")
 TIMES = re.compile(r"\{\s*!\w+\s*\}|\{[\s\dwhms()-]*(?:(?:and|or|not|true|false|&&|\|\|)[\s\dwhms()-]*)*\}")
-PREFETCHED = 40
+PREFETCHED = 12
 
 
 class Neutral:
