@@ -236,8 +236,9 @@ def written_out(writer: "Rewriter", value: Node, name: str) -> str:
 def listed(writer: "Rewriter", value: Node, name: str) -> Optional[str]:
     """The name of a list; nothing where it is none that is read here."""
     if name.lower().endswith(OTHER_LISTS):
-        writer.lost(value, "source", "is a list of another form: write the names of its files into a list `NAME.m3u`, a line "
-                    "each")
+        way = f"`liq-prepare {name} OUT` makes WAV files of its sounds, and the list `OUT/all.m3u`" \
+            if name.lower().endswith(".pls") else "write the names of its files into a list `NAME.m3u`, a line each"
+        writer.lost(value, "source", f"is a list of another form: {way}")
         return None
     if re.search(r"\.\w+$", name) and not os.path.isdir(name):
         return name

@@ -2,13 +2,14 @@
 itself is made to stop here, so that what is left out does not make silence look safe."""
 import re
 from dataclasses import dataclass, field
-from typing import IO, Iterator, List, Optional, Tuple
+from typing import IO, Dict, Iterator, List, Optional, Tuple
 
 from liq.adopting.answer import Asked, answer, place_in, put
 from liq.adopting.marks import Places
 from liq.adopting.notes import LESS, YOU, Notes
 from liq.adopting.scope import content
 from liq.adopting.tokens import Token, Trouble, tokens_of
+from liq.adopting.tree import Tree
 from liq.adopting.whole import Brought, brought_over, same_places
 from liq.advising.lines import Advice, place_of
 from liq.reading.companion import Companion, temporary_folder
@@ -149,13 +150,29 @@ class Check:
     def lists(self, path: str) -> None:
         """The lists of which no entry can be played: what plays them may be silence, though it is never without a source."""
         facts = self.companion.files(path)
-        dead = {one.name for one in facts.lists if not facts.playable(one)} if isinstance(facts, Facts) else set()
+        if not isinstance(facts, Facts):
+            return
         data = self.verdict.new.encode("utf-8", "surrogateescape")
-        for source in facts.sources if isinstance(facts, Facts) else ():
-            if source.op == "playlist" and source.file in dead:
-                self.verdict.may_fall_silent = True
-                at = len(data[:source.at or 0].decode("utf-8", "surrogateescape"))
-                self.add(SILENT, at, f"no entry of {source.file} can be played: silence, or what stands behind it")
+        dead = {one.name for one in facts.lists if not facts.playable(one)}
+        lists = [(len(data[:source.at or 0].decode("utf-8", "surrogateescape")), source.file) for source in facts.sources
+                 if source.op == "playlist"]
+        is_safe = bool(dead) and self.plays_without([(at, name in dead) for at, name in lists])
+        for at, name in lists:
+            if name in dead:
+                self.verdict.may_fall_silent = self.verdict.may_fall_silent or not is_safe
+                self.add(HINT if is_safe else SILENT, at, f"no entry of {name} can be played: " + (
+                    "what stands behind it plays" if is_safe else "silence, or what stands behind it"))
+
+    def plays_without(self, lists: List[Tuple[int, bool]]) -> bool:
+        """Whether liq says that each output always has a source, without `mksafe`, if the lists that stand at these places
+        of the new text never play where they are dead, and always do where they are not."""
+        try:
+            text = AsTheyAre(self.verdict.new, dict(sorted(lists))).text()
+        except Trouble:
+            return False
+        with temporary_folder("liq-adopt-") as place:
+            done = answer([self.asked.liq, "check", put(place, text)], self.folder)
+        return done.returncode == 0 and not any(match and match[2] == "fallible" for match in map(OUTPUT.fullmatch, done.stdout.split("\n")))
 
     def hours(self, path: str) -> None:
         """The hours of the week in which a switch has nothing to play."""
@@ -173,6 +190,55 @@ def tokens_or_none(text: str) -> List[Token]:
         return tokens_of(text)
     except Trouble:
         return []
+
+
+class AsTheyAre:
+    """A text of this language without `mksafe`. At the places of `lists` `fail()` stands for those that are dead, and
+    `blank()` for the others, but for those that end. What stood in a `mksafe` is an output of its own, since silence
+    hides whether it plays."""
+
+    def __init__(self, text: str, lists: Dict[int, bool]) -> None:
+        self.tree, self.lists = Tree(text), lists
+        self.above: List[str] = []
+        self.count = 0
+
+    def text(self) -> str:
+        """The whole text. Trouble where a `mksafe` stands in a def, of which no output can be made."""
+        found = []
+        for statement in self.tree.statements:
+            said = self.between(statement.first, statement.behind, statement.kind == "def")
+            found += [*self.above, said]
+            self.above = []
+        outputs = [f'output.file(%wav, "liq-adopt-{number}.wav", liq_adopt_{number})' for number in range(self.count)]
+        return "\n".join([*found, *outputs, ""])
+
+    def between(self, first: int, behind: int, is_def: bool) -> str:
+        """What stands between two tokens."""
+        tree, parts, number = self.tree, [], first
+        place = tree.tokens[first].at if first < behind else 0
+        while number < behind:
+            token, last = tree.tokens[number], tree.mates.get(number + 1)
+            made = self.call(number, last, is_def) if last is not None and last < behind else None
+            if made is not None and last is not None:
+                parts += [tree.text[place:token.at], made]
+                place, number = tree.tokens[last].behind, last
+            number += 1
+        return "".join(parts) + tree.text[place:tree.tokens[behind - 1].behind] if first < behind else ""
+
+    def call(self, number: int, last: int, is_def: bool) -> Optional[str]:
+        """What stands for a call of a list or of `mksafe`, or nothing where it stays."""
+        tree, token = self.tree, self.tree.tokens[number]
+        if token.at in self.lists:
+            is_ending = any(tree.word(k) == "loop" for k in range(number, last))
+            return "fail()" if self.lists[token.at] else None if is_ending else "blank()"
+        if tree.word(number) != "mksafe":
+            return None
+        if is_def:
+            raise Trouble(token.at, "a `mksafe` in a def")
+        said = f"amplify(1., {self.between(number + 2, last, False)})"
+        name, self.count = f"liq_adopt_{self.count}", self.count + 1
+        self.above.append(f"{name} = {said}")
+        return name
 
 
 def output_at(text: str, name: str) -> int:

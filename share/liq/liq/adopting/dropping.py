@@ -128,7 +128,7 @@ class Dropping:
     def note(self, statement: Statement) -> None:
         """Notes that a statement goes."""
         sort, what = self.why(statement)
-        if what:
+        if what and statement.name not in self.writer.scope.others:
             self.writer.note(sort, statement, what)
         self.gone[statement.first] = sort
 

@@ -1,7 +1,7 @@
 """What is known of the names of a script of Liquidsoap while it is read: the values that they are bound to."""
 import bisect
 from dataclasses import dataclass
-from typing import Dict, Iterator, List, Optional, Tuple, Union
+from typing import Dict, Iterator, List, Optional, Set, Tuple, Union
 
 from liq.adopting.scope import content, is_plain
 from liq.adopting.tree import Node, Statement, Tree
@@ -27,6 +27,7 @@ class Names:
     def __init__(self) -> None:
         self.step = 0
         self.found: Dict[str, Tuple[List[int], List[Optional[Bound]]]] = {}
+        self.others: Dict[str, List[Tuple[int, str]]] = {}
 
     def bind(self, name: str, bound: Optional[Bound]) -> None:
         """Binds a name; to nothing that is known where `bound` is nothing."""
@@ -40,6 +41,15 @@ class Names:
         steps, values = self.found.get(name, ([], []))
         number = bisect.bisect_right(steps, step) - 1
         return values[number] if number >= 0 else None
+
+
+    def call_otherwise(self, name: str, other: str) -> None:
+        """What a name is bound to up to here has another name, too, which holds it when the first is bound anew."""
+        self.others.setdefault(name, []).append((self.step, other))
+
+    def other(self, name: str, step: int) -> Optional[str]:
+        """The name that still has what another one was bound to at a step; nothing where the other one has it."""
+        return next((other for last, other in self.others.get(name, ()) if last >= step), None)
 
 
 class Env:
@@ -137,18 +147,23 @@ class Knowing:
         if bound.items is not None:
             return bound.items
         value = bound.node
-        if isinstance(value, Node) and value.kind in ("list", "tuple"):
-            if any(self.tree.word(one.first) == "..." for one in value.args):
+        if not isinstance(value, Node) or value.kind not in ("list", "tuple"):
+            return None
+        found: List[Bound] = []
+        for one in value.args:
+            spread = spread_in(self.tree, one.value)
+            inner = self.items(spread, bound.env) if spread is not None else [Bound(one.value, bound.env)]
+            if inner is None:
                 return None
-            return [Bound(one.value, bound.env) for one in value.args]
-        return None
+            found += inner
+        return found
 
     def text(self, bound: Bound) -> Optional[str]:
         """The text that a value is, or the digits of a number, or nothing."""
         bound = self.followed(bound)
         node = bound.node
         if not isinstance(node, Node):
-            return None
+            return bound.text if bound.text is not None and bound.text.isdigit() else None
         raw = self.tree.raw(node)
         if node.kind == "text" and is_plain(raw):
             return content(raw)
@@ -215,6 +230,26 @@ class Knowing:
         else:
             return None
         return (value, bound.env) if value is not None else None
+
+
+def spread_in(tree: Tree, node: Node) -> Optional[Node]:
+    """The list of which the items stand in another one by `...l`, or nothing where a value is no such item."""
+    if node.kind == "op" and tree.word(node.first) == "..." and len(node.parts) == 1:
+        inner: Node = node.parts[0]
+        return inner
+    return None
+
+
+def taken_apart(tree: Tree) -> Set[str]:
+    """The names of which the items are spread in a list, or that are handed to a function of lists."""
+    found = set()
+    for number, token in enumerate(tree.tokens):
+        if token.kind == "name" and token.text.startswith("list.") and tree.word(number + 1) == "(":
+            inner = range(number + 2, tree.mates[number + 1])
+            found |= {tree.word(k) for k in inner if tree.tokens[k].kind == "name"}
+        elif token.kind == "name" and tree.word(number - 1) == "...":
+            found.add(token.text)
+    return found
 
 
 def walk(node: Optional[Node]) -> Iterator[Node]:

@@ -105,12 +105,13 @@ def name_all(writer: "Rewriter", nodes: Sequence[Node]) -> None:
 
 def format_of(writer: "Rewriter", node: Node, bare: List[Node]) -> str:
     """The format of an output."""
-    first = bare[0] if len(bare) > 1 else None
+    first = bare[0] if len(bare) > 1 and not node.name.endswith("hls") else None
     if first is None or first.kind not in ("format", "name", "op", "method"):
         return "%wav"
     if first.kind == "name":
-        is_bound = not first.name.startswith("%") and first.name in writer.scope.values
-        return str(writer.new(first, "format")) if is_bound else "%wav"
+        node = writer.scope.nodes.get(first.name)
+        is_format = first.name in writer.scope.values and (node is None or node.kind == "format")
+        return str(writer.new(first, "format")) if is_format else "%wav"
     if first.kind == "format":
         return writer.new(first, "format")
     writer.note(LESS, first, f"`{writer.short(first)}` becomes `%wav`: encode the file or the pipe with another program")

@@ -17,6 +17,7 @@ class Scope:
     texts: Dict[str, str] = field(default_factory=dict)
     told: Set[str] = field(default_factory=set)                # names whose values were written where they are read
     nodes: Dict[str, Node] = field(default_factory=dict)       # the value that each name has last
+    others: Set[str] = field(default_factory=set)              # new names for values that have one in the old script
 
     def inner(self, statement: Statement, tree: Tree) -> "Scope":
         """The names within a def."""

@@ -1,6 +1,5 @@
 """The tokens of a script of Liquidsoap, 1.x or 2.x, and which bracket closes which."""
 import re
-from dataclasses import dataclass
 from typing import Dict, List, Optional
 
 DEEPEST = 200          # brackets within each other; liq takes no more
@@ -9,8 +8,8 @@ KEYWORDS = {"def", "end", "begin", "if", "then", "elsif", "else", "while", "for"
 CLOSES = {"(": ")", "[": "]", "{": "}", "def": "end", "if": "end", "begin": "end", "try": "end", "while": "end",
           "for": "end"}
 CLOSERS = (")", "]", "}", "end")
-TOKEN = re.compile(r"""(?P<gap>[ \t\r\n\f\u00a0\ufeff]+|[#%]<.*?>[#%]|\#[^\n]*)
-    |(?P<time>\d+[whms](?:\d+[hms])*\d*(?![A-Za-z_]))
+GAP = re.compile(r"[ \t\r\n\f\u00a0\ufeff]+|[#%]<.*?>[#%]|#[^\n]*", re.S)
+TOKEN = re.compile(r"""(?P<time>\d+[whms](?:\d+[hms])*\d*(?![A-Za-z_]))
     |(?P<number>\d[\d_]*\.(?:\d[\d_]*)?(?:[eE][+-]?\d+)?(?![A-Za-z_.])|\.\d[\d_]*(?:[eE][+-]?\d+)?|\d[\d_]*[eE][+-]?\d+)
     |(?P<int>0[xX][0-9A-Fa-f_]+|0[oO][0-7_]+|0[bB][01_]+|\d[\d_]*)
     |(?P<regexp>r/(?:\\.|[^/\\\n])+/[a-z]*)
@@ -27,17 +26,12 @@ class Trouble(Exception):
         self.at, self.what = at, what
 
 
-@dataclass
 class Token:
-    """A token: its kind, its text, and where it begins, in characters."""
-    kind: str
-    text: str
-    at: int
+    """A token: its kind, its text, and where it begins and ends, in characters."""
+    __slots__ = ("kind", "text", "at", "behind")
 
-    @property
-    def behind(self) -> int:
-        """Where it ends."""
-        return self.at + len(self.text)
+    def __init__(self, kind: str, text: str, at: int) -> None:
+        self.kind, self.text, self.at, self.behind = kind, text, at, at + len(text)
 
     @property
     def ends_value(self) -> bool:
@@ -86,12 +80,15 @@ def token_at(script: str, at: int, before: Optional[Token]) -> Token:
 def tokens_of(script: str) -> List[Token]:
     """The tokens of a script without blanks and comments."""
     found: List[Token] = []
-    at = 0
-    while at < len(script):
+    at, end, gap = 0, len(script), GAP.match
+    while at < end:
+        blank = gap(script, at)
+        if blank:
+            at = blank.end()
+            continue
         token = token_at(script, at, found[-1] if found else None)
         at = token.behind
-        if token.kind != "gap":
-            found.append(token)
+        found.append(token)
     return found
 
 

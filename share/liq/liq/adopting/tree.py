@@ -68,6 +68,7 @@ class Tree:
         self.text = text
         self.tokens: List[Token] = tokens_of(text)
         self.mates = mates_of(self.tokens)
+        self.words = ["" if token.kind == "text" else token.text for token in self.tokens]
         self.begins_at = [token.at for token in self.tokens]
         self.statements = self.block(0, len(self.tokens))
 
@@ -75,9 +76,7 @@ class Tree:
 
     def word(self, number: int) -> str:
         """The text of a token that is a sign, a word or a name, or an empty one."""
-        if not 0 <= number < len(self.tokens) or self.tokens[number].kind == "text":
-            return ""
-        return self.tokens[number].text
+        return self.words[number] if 0 <= number < len(self.words) else ""
 
     def raw(self, node: Part) -> str:
         """The text of a value, a statement or an argument."""

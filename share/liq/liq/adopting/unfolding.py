@@ -5,7 +5,7 @@ from typing import Any, Dict, Iterator, List, Optional, Set, Tuple
 
 from liq.adopting.classes import MAY_STOP, SOURCE, classes
 from liq.adopting.conditions import branches
-from liq.adopting.knowing import Bound, Env, Knowing, Local, Names, walk
+from liq.adopting.knowing import Bound, Env, Knowing, Local, Names, spread_in, taken_apart, walk
 from liq.adopting.marks import mark, plain
 from liq.adopting.notes import LESS, SAME, YOU, Note
 from liq.adopting.outputs import bare_of, is_output
@@ -29,11 +29,12 @@ WORTH = re.compile(r"%if|\blist\.|\bnull\b|\bfst\b|\bsnd\b|\bref\b|\blet\b|\bdef
 @dataclass
 class Units:
     """Statements with marks, each with the number of that of the old script from which it comes, and what is noted;
-    `told` are names whose values were written where they are read."""
+    `told` are names whose values were written where they are read, and `others` new names for values that have one."""
     texts: List[str]
     homes: List[int]
     notes: List[Note] = field(default_factory=list)
     told: Set[str] = field(default_factory=set)
+    others: Set[str] = field(default_factory=set)
 
 
 class TooMuch(Exception):
@@ -50,6 +51,8 @@ class Unfolder:
         self.above: List[str] = []             # statements that have to stand before the one that is written
         self.used = {token.text for token in tree.tokens if token.kind == "name"}
         self.calls, self.deep, self.length = 0, 0, 0
+        self.taken_apart = taken_apart(tree)
+        self.read_within: Dict[str, int] = {}  # where the last def is that reads a name and is written out where it is called
         self.assigned = {token.text for token, after in zip(tree.tokens, tree.tokens[1:]) if after.text == ":="}
 
     # Statements.
@@ -139,6 +142,9 @@ class Unfolder:
             return None
         local: Local = {one.label.lstrip("~?"): None for one in statement.parameters}
         self.names.bind(statement.name, Bound(statement, env))
+        if self.is_written_out(Bound(statement, env)):
+            tokens = self.tree.tokens[statement.first:statement.behind]
+            self.read_within.update({token.text: self.names.step for token in tokens if token.text not in local})
         if not WORTH.search(raw.partition("=")[2]):
             return self.tree.said(statement)
         return self.steps_said(statement, env.within(local))
@@ -175,10 +181,31 @@ class Unfolder:
             self.names.bind(name, Bound(value, env, is_part=True))
             self.note(SAME, statement, f"`{name}` is a part of an output: its arguments are written where it is called")
             return None
+        if name in self.taken_apart and (value.kind == "list" or value.kind == "call" and value.name.startswith("list.")):
+            return self.each_bound(statement, value, env)
         bound = self.knowing.resolved(value, env)
         text = self.emit(value, env)
+        self.keep_name(name)
         self.names.bind(name, self.kept(bound, value, env))
         return self.tree.cut_out(self.tree.at(statement), self.tree.at(value)) + text
+
+    def keep_name(self, name: str) -> None:
+        """Before a name is bound anew that a def reads which is written out behind: another name for what it is now."""
+        if self.read_within.pop(name, None) is not None and name in self.names.found:
+            other = self.fresh(name)
+            self.units.others.add(other)
+            self.above.append(f"{other} = {name}")
+            self.names.call_otherwise(name, other)
+
+    def each_bound(self, statement: Statement, value: Node, env: Env) -> str:
+        """A list that is taken apart behind: each source in it is bound by itself, as a call that stands twice is two."""
+        items = self.listed(value, env)
+        if items is None:
+            self.names.bind(statement.name, None)
+            return self.tree.cut_out(self.tree.at(statement), self.tree.at(value)) + self.emit(value, env)
+        made = [item if self.is_plain(item) else self.bound_above(statement.name, item) for item in items]
+        self.names.bind(statement.name, Bound(value, env, made))
+        return f"{statement.name} = [{', '.join(map(self.written, made))}]"
 
     def kept(self, bound: Bound, value: Any, env: Env) -> Optional[Bound]:
         """What is to be known of a name: a list, a record, a function, a reference, or a plain value; of a source
@@ -213,9 +240,12 @@ class Unfolder:
         tree, place = self.tree, statement.first + 1
         if tree.word(place) not in ("(", "["):
             return False
-        names = [tree.word(first) for first, _ in tree.items(place)]
+        names = ["".join(map(tree.word, range(*span))) for span in tree.items(place)]
         sign = tree.next(place)
         items = self.knowing.items(tree.value(sign + 1, statement.behind), env) if tree.word(sign) == "=" else None
+        if items is not None and names and names[-1].startswith("...") and len(items) >= len(names) - 1:
+            rest = [item if self.is_plain(item) else self.bound_above(names[-1][3:], item) for item in items[len(names) - 1:]]
+            names[-1], items = names[-1][3:], [*items[:len(names) - 1], Bound(None, env, rest)]
         if items is None or len(items) != len(names):
             return False
         for name, item in zip(names, items):
@@ -234,13 +264,25 @@ class Unfolder:
         if not match or place is None or not 0 <= int(match[3]) - int(match[2]) < MOST_TURNS:
             return False
         body = self.tree.block(place + 1, statement.behind - 1)
-        for _ in range(int(match[2]), int(match[3]) + 1):
+        if not all(step.value is not None and (step.kind == "call" or self.is_assigned(step)) for step in body):
+            return False
+        for number in range(int(match[2]), int(match[3]) + 1):
             for step in body:
-                if step.kind != "other" or self.tree.word(step.first + 1) != ":=" or step.value is None:
-                    return False
-                self.assign(step, self.env())
+                self.turn(step, self.env().within({match[1]: Bound(None, env, text=str(number))}))
         self.note(LESS, statement, f"`{self.short(statement)}` is written out")
         return True
+
+    def is_assigned(self, step: Statement) -> bool:
+        """Whether a statement is `x := ..`."""
+        return step.kind == "other" and self.tree.word(step.first + 1) == ":="
+
+    def turn(self, step: Statement, env: Env) -> None:
+        """A step of a round."""
+        if self.is_assigned(step):
+            self.assign(step, env)
+        elif step.value is not None:
+            text = self.call_statement(step, step.value, env)
+            self.above += [text] if text is not None else []
 
     def assign(self, statement: Statement, env: Env) -> None:
         """`x := ..`: what the reference holds from here on, each of its sources bound by itself."""
@@ -321,6 +363,9 @@ class Unfolder:
             if text is not None:
                 self.note(SAME, node, f"of `{self.short(node)}` the part stays that is taken")
             return text
+        if node.kind == "list" and any(spread_in(self.tree, one.value) is not None for one in node.args):
+            items = self.listed(node, env)
+            return f"[{', '.join(self.written(item) for item in items)}]" if items is not None else None
         if node.kind == "block" and node.name == "begin" and len(node.parts) > 1:
             return self.block(node.parts, env)
         return self.call(node, env) if node.kind == "call" else None
@@ -331,6 +376,9 @@ class Unfolder:
         if head in env.local and not rest:
             bound = env.local[head]
             return self.written(bound) if bound is not None else None
+        other = self.names.other(head, env.step) if not rest and head not in env.local else None
+        if other is not None:
+            return other
         if rest and env.get(head) is not None:
             found = self.knowing.resolved(node, env)
             if found.node is not node and (found.text is not None or found.items is not None
@@ -424,7 +472,7 @@ class Unfolder:
             return None
         if bound.is_part:
             return self.completed(node, bound, env)
-        if self.is_written_out(bound):
+        if self.is_written_out(bound) or isinstance(bound.node, Statement) and self.takes_record(node, env):
             return self.inlined(node, bound, env)
         if isinstance(bound.node, Node) and bound.node.name.startswith("interactive.") and not node.args:
             return self.default(bound)
@@ -436,11 +484,15 @@ class Unfolder:
         given = [one.value for one in node.args if one.label is None][1:] if isinstance(node, Node) else []
         return self.written(Bound(given[0], bound.env)) if given else None
 
-    def listed(self, node: Node, env: Env) -> Optional[List[Bound]]:
-        """The items of a call that makes a list, or of a list that is known."""
+    def listed(self, node: Node, env: Env, is_read: bool = False) -> Optional[List[Bound]]:
+        """The items of a call that makes a list, or of a list that is known; with `is_read` of what a reference holds."""
+        if node.kind == "list" and any(spread_in(self.tree, one.value) is not None for one in node.args):
+            return self.spread(node, env)
         if node.kind != "call" or not node.name.startswith("list."):
-            held = self.knowing.resolved(node, env)
-            known = held.items if held.items is not None else self.knowing.items(node, env)
+            bound = self.knowing.resolved(node, env)
+            held = self.knowing.held(bound) if is_read else None
+            known = bound.items if bound.items is not None else self.knowing.items(node, env) if held is None \
+                else self.knowing.items(held.node, held.env) if isinstance(held.node, Node) else None
             self.units.told.update([node.name] if known is not None and node.kind == "name" else [])
             return known
         values = [one.value for one in node.args if one.label is None]
@@ -456,6 +508,18 @@ class Unfolder:
             return None if rest is None else [Bound(values[0], env), *rest]
         first = self.listed(values[0], env) if len(values) == 1 and node.name in ("list.rev", "list.tl") else None
         return None if first is None else first[::-1] if node.name == "list.rev" else first[1:]
+
+    def spread(self, node: Node, env: Env) -> Optional[List[Bound]]:
+        """The items of a list in which others are spread, or nothing where one of these is not known."""
+        found: List[Bound] = []
+        for one in node.args:
+            inner = spread_in(self.tree, one.value)
+            is_read = inner is not None and self.tree.word(inner.first - 1) == "!"
+            items = self.listed(inner, env, is_read) if inner is not None else [Bound(one.value, env)]
+            if items is None:
+                return None
+            found += items
+        return found
 
     def picked(self, node: Node, env: Env) -> Optional[str]:
         """An item of a list or a tuple."""
@@ -514,6 +578,12 @@ class Unfolder:
     def is_output_call(self, node: Node, env: Env) -> bool:
         """Whether a value is a call of an output."""
         return node.kind == "call" and is_output(node.name) or self.is_part(node, env)
+
+    def takes_record(self, node: Node, env: Env) -> bool:
+        """Whether a record is given to a call: its fields have no form here, so that the def is written out."""
+        records = [one.value for one in node.args if self.knowing.fields(self.knowing.resolved(one.value, env))]
+        self.units.told.update(value.name for value in records if value.kind == "name")
+        return bool(records)
 
     def inlined(self, node: Node, bound: Bound, env: Env) -> Optional[str]:
         """A call of a def, written out."""
@@ -602,7 +672,7 @@ class Unfolder:
         """A predicate by times, or nothing where it is not known."""
         if node.kind == "call" and node.name.startswith("predicate."):
             inner = [one.value for one in node.args if one.value.kind in ("braces", "name", "call", "fun")]
-            text = self.predicate(inner[-1], env) if inner else None
+            text = self.predicate(inner[-1], env) or self.as_it_stands(inner[-1], env) if inner else None
             if text is not None:
                 self.note(LESS, node, f"`{node.name}(..)` is left out, its times stay: they hold without its rule")
             return text
@@ -626,6 +696,11 @@ class Unfolder:
             if held is not None and isinstance(held.node, Node) and held.node.kind == "bool":
                 return f"{{{held.node.name}}}"
         return None
+
+    def as_it_stands(self, node: Node, env: Env) -> Optional[str]:
+        """A predicate of times in braces, or nothing where another value stands in them."""
+        value = node.parts[0].value if node.kind == "braces" and len(node.parts) == 1 else None
+        return self.tree.said(node) if value is not None and self.condition(value, env) is not None else None
 
     def condition(self, node: Node, env: Env) -> Optional[str]:
         """Times and truth values with `and`, `or` and `not`, or nothing where another value stands in it."""

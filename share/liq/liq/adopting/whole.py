@@ -5,7 +5,7 @@ from typing import Callable, Dict, List, NamedTuple, Optional, Tuple
 
 from liq.adopting.classes import classes
 from liq.adopting.laying import by_home, laid, settings_first
-from liq.adopting.marks import Places, read
+from liq.adopting.marks import Places, plain, read
 from liq.adopting.notes import YOU, Notes
 from liq.adopting.rewriting import Rewriter
 from liq.adopting.scope import scope_of
@@ -57,6 +57,7 @@ def rewritten(tree: Tree, may_stop: bool) -> Tuple[str, Notes, Places]:
     inner = Tree(inner_text)
     writer = Rewriter(inner, notes, classes(), tables.calls(), scope_of(inner))
     writer.scope.told |= units.told
+    writer.scope.others |= units.others
     writer.may_stop = may_stop
     lines = settings_first(Slicer(writer, inner.statements).lines())
     homes = homes_of(inner, units.texts, units.homes)
@@ -75,7 +76,7 @@ def homes_of(tree: Tree, texts: List[str], homes: List[int]) -> List[int]:
     begins, at = [], 0
     for text in texts:
         begins.append(at)
-        at += len(read(text)[0]) + 1
+        at += len(plain(text)) + 1
     return [homes[bisect.bisect_right(begins, tree.at(one)) - 1] for one in tree.statements]
 
 

@@ -12,6 +12,8 @@ from liq.watching.names import shown
 
 SILENCE = "; where the list is to be played there is silence, or what stands behind it"
 ADDRESS = "is an address, and nothing is fetched"
+ANNOTATED = "has annotate: before its name; liq-prepare reads such a list, and writes one of names alone"
+LINE_OF_PLS = "is a line of a PLS list; liq-prepare reads it, and writes a list of names alone"
 
 
 class Entries:
@@ -36,6 +38,10 @@ class Entries:
         folder = os.path.dirname(self.listed.name)
         if is_address(entry):
             return ADDRESS
+        if is_missing and entry.startswith("annotate:"):
+            return ANNOTATED
+        if is_missing and self.listed.name.lower().endswith(".pls"):
+            return LINE_OF_PLS
         if is_missing and folder and "\0" not in entry and os.path.exists(os.path.join(folder, entry)):
             return f"is not there, but beside the list; names count from the folder of the call, so write {folder}/ before it"
         return trouble
