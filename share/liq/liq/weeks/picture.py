@@ -21,7 +21,7 @@ def week_of(companion: Companion, file: str) -> Week:
 def main(words: List[str]) -> int:
     """Prints the picture as a text for graphviz."""
     if len(words) != 1:
-        raise Usage("usage: liq-picture FILE")
+        raise Usage("usage: liq picture FILE")
     companion = companion_of(seconds=SECONDS)
     try:
         drawn = companion.picture(words[0]).decode(errors="surrogateescape")
