@@ -32,11 +32,13 @@ class Way(NamedTuple):
 
 
 class Made(NamedTuple):
-    """What all readers of a run share: a repository to clone, the built programs by their names, a prefix, and a home."""
+    """What all readers of a run share: a repository to clone, the built programs by their names, a prefix, a home, and a folder
+    with the sounds of the examples."""
     repository: str
     programs: Dict[str, str]
     prefix: str
     home: str
+    sounds: str
 
 
 def python_39() -> Optional[str]:
@@ -53,7 +55,12 @@ def make(programs: Dict[str, str], place: str) -> Made:
     """Makes what readers share below a folder."""
     checkout = Checkout(programs, place)
     put_programs(checkout.top, programs)
-    made = Made(checkout.top, programs, os.path.join(place, "prefix"), os.path.join(place, "home"))
+    made = Made(checkout.top, programs, os.path.join(place, "prefix"), os.path.join(place, "home"),
+                os.path.join(place, "sounds"))
+    os.mkdir(made.sounds)
+    for name in ("sounds.py", "songs.py"):
+        shutil.copy(checkout.command(f"examples/{name}"), made.sounds)
+        subprocess.run([sys.executable, name], cwd=made.sounds, check=True, stdout=subprocess.DEVNULL)
     if shutil.which("git"):
         for words in (["init", "-q"], ["add", "-A"], ["-c", "user.name=A", "-c", "user.email=a@dizhuppan.example", "commit", "-q", "-m", "one"]):
             subprocess.run(["git", "-C", checkout.top, *words], check=True)
@@ -112,8 +119,7 @@ class Reader:
 
     def prepare(self) -> None:
         """Makes what the pages name and do not make: the sounds, a password, dates, and scripts of the names OLD.liq and FILE."""
-        for name in ("sounds.py", "songs.py"):
-            subprocess.run([self.way.python or sys.executable, name], cwd=self.examples, check=True, stdout=subprocess.DEVNULL)
+        shutil.copytree(self.made.sounds, self.examples, dirs_exist_ok=True)
         old = 'output.file(%wav, "old.wav", mksafe(playlist("music.m3u")))\n'
         for name, text in (("secret", "hackme\n"), ("dates", "2026-12-24 friday\n"), ("OLD.liq", old), ("FILE", old)):
             for folder in {self.examples, self.examples if self.way.is_prefix else self.top}:
