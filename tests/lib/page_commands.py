@@ -5,6 +5,9 @@ from typing import Dict, Iterator, List, NamedTuple, Tuple
 # What an indented block begins with where its lines are commands and none stands behind `$`.
 FIRST = re.compile(r"(?:\./|\.\./)?(?:bin/)?liq(?:-[a-z]+| (?!trace\b))|\./test\b|(?:tools|tests)/\w|(?:python3|cd|export|git|dpkg|pip|rt) ")
 
+# A form of a call, with what may be left out in brackets; it is no command.
+FORM = re.compile(r"\[-")
+
 # A line of a crontab: five fields, and the command.
 CRON = re.compile(r"(?:[\d*/,-]+ ){5}(.+)")
 
@@ -72,7 +75,7 @@ def of_block(first: int, lines: List[str]) -> Iterator[Command]:
     """The commands of an indented block whose first line has this number."""
     if not lines[0].startswith("$ "):
         if FIRST.match(lines[0]):
-            yield from (Command(first + at, text, ()) for at, text in logical(lines) if text.strip())
+            yield from (Command(first + at, text, ()) for at, text in logical(lines) if text.strip() and not FORM.search(text))
         return
     starts = [at for at, line in enumerate(lines) if line.startswith("$ ")]
     for at, end in zip(starts, [*starts[1:], len(lines)]):

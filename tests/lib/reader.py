@@ -21,7 +21,7 @@ OF_CHECKOUT = re.compile(r"(?:^|[|&;\n] *)(?:\.\.?/|tools/|tests/|bin/|git )|^ex
 NEEDS = {"liq prepare": ("ffmpeg",), "liq station": ("ffmpeg",), "| dot ": ("dot",), "python3 -m unittest": ("ffmpeg",), "git ": ("git",), "parallel ": ("parallel",)}
 
 # Commands that say on standard error what they did, too.
-TALKS = re.compile(r"python3 -m unittest|liq[ -]adopt")
+TALKS = re.compile(r"python3 (?:-m unittest|ci\.py)|liq[ -]adopt|git clone")
 
 
 class Way(NamedTuple):
