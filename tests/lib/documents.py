@@ -4,7 +4,6 @@ import os
 import re
 import shutil
 import subprocess
-import sys
 import tempfile
 
 from lib import contracts
@@ -508,28 +507,6 @@ def copy_examples(folder):
             shutil.copy(os.path.join(TOP, "examples", name), folder)
 
 
-def recipes_that_fail(program):
-    """Each recipe whose program is installed runs twice, in a folder of the examples with `bin` on PATH, and leaves no pipe and no
-    empty file there."""
-    found = []
-    for needs, script in re.findall(r"```sh\n# needs (\w+)\n(.*?)```", text_of("examples/README.md"), flags=re.S):
-        if not shutil.which(needs):
-            continue
-        with tempfile.TemporaryDirectory(prefix="liq-page-") as place:
-            copy_examples(os.path.join(place, "examples"))
-            run = {"cwd": os.path.join(place, "examples"), "capture_output": True, "timeout": SECONDS}
-            subprocess.run([sys.executable, "sounds.py"], check=True, **run)
-            for turn in ("first", "second"):
-                done = subprocess.run(["sh", "-c", re.sub("540000|90000", "50", script)], check=False, stdin=subprocess.DEVNULL,
-                                      env={**os.environ, "PATH": f"{TOP}/bin:{os.environ['PATH']}",
-                                           "LIQ_PROGRAMS": os.path.dirname(program)}, **run)
-                if done.returncode or done.stderr:
-                    found.append(f"the {turn} run of the recipe with {needs} ends with {done.returncode}: {done.stderr.decode()[-300:]}")
-                left = [entry.name for entry in os.scandir(run["cwd"]) if not entry.is_file() or not entry.stat().st_size]
-                found += [f"the {turn} run of the recipe with {needs} leaves {left}"] if left else []
-    return found
-
-
 def versions_that_differ(_program):
     """The README, the list of changes and the pages of the manual have the version of the file VERSION."""
     version = text_of("VERSION").strip()
@@ -571,5 +548,4 @@ checks = {
     "documents/builtins": builtins_that_differ,
     "documents/forms": forms_that_differ,
     "documents/trusted": trusted_crates_that_differ,
-    "documents/recipes": recipes_that_fail,
 }

@@ -6,7 +6,7 @@ from typing import List, Optional
 
 from liq.airing.failed import Failed
 
-USAGE = ("usage: liq-air [--password-file=FILE] [--bitrate=KILOBITS] [--meanwhile=FILE] [--repeat] [--titles=FILE]... [--stay] "
+USAGE = ("usage: liq air [--password-file=FILE] [--bitrate=KILOBITS] [--meanwhile=FILE] [--repeat] [--titles=FILE]... [--stay] "
          "[--no-clock] [--state=FILE] [--log=FILE] [--name=TEXT] http://HOST:PORT/MOUNT NAME...")
 BITRATES = (32, 48, 64, 96, 128, 160, 192, 224, 256, 320)
 FLAGS = {"--stay": "stays", "--repeat": "repeats", "--no-clock": "is_free"}

@@ -12,7 +12,7 @@ from liq.failed import Failed, Usage
 from liq.keeping.keeper import Keeper
 from liq.watching.names import shown
 
-USAGE = "usage: liq-station [--once | --nights=N] FOLDER"
+USAGE = "usage: liq station [--once | --nights=N] FOLDER"
 LOCK = ".station.lock"
 
 

@@ -8,7 +8,7 @@ from liq.pages.times import DAY, DAYS, read_date, read_start
 WEEK = 7 * DAY
 LONGEST = 6 * 3600              # seconds of a part, which fit for two sides of 16 bits at 44100
 CACHE = 10.0                    # GB
-USAGE = ("usage: liq-night [--start=TIME] [--part=HOURS] [--go-on] [--calendar=FILE] [--strict] [--anyway] "
+USAGE = ("usage: liq night [--start=TIME] [--part=HOURS] [--go-on] [--calendar=FILE] [--strict] [--anyway] "
          "[--cache=FOLDER] [--cache-size=GB] [--loudness=LUFS] [--quiet] [--report=FILE] [--call=URL] FILE HOURS")
 
 

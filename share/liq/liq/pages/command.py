@@ -16,7 +16,7 @@ from liq.reading.companion import NoAnswer, NoPlan, companion_of
 from liq.weeks.spans import spans_of
 from liq.weeks.told import told
 
-USAGE = ("usage: liq-page [--start=D:HH:MM:SS|DATE] [--title=TEXT] [--silence=SECONDS] [--as=FORM] [--week=FILE] "
+USAGE = ("usage: liq page [--start=D:HH:MM:SS|DATE] [--title=TEXT] [--silence=SECONDS] [--as=FORM] [--week=FILE] "
          "[--sound[=FOLDER]] [--titles=FILE]... [--note=TEXT]... [NAME [--then=NAME]...]...")
 LOG = "log"
 STANDARD: Dict[str, Any] = {

@@ -14,7 +14,7 @@ from liq.reading.companion import Companion, companion_of
 from liq.reading.facts import Facts, Refused
 from liq.watching.names import shown
 
-USAGE = ("usage: liq-prepare [--rate=HERTZ] [--loudness=LUFS] [--whole-seconds] [--shuffle=SEED] [--jobs=N] [--prune] "
+USAGE = ("usage: liq prepare [--rate=HERTZ] [--loudness=LUFS] [--whole-seconds] [--shuffle=SEED] [--jobs=N] [--prune] "
          "[--strict] [--all-gone] FOLDER|LIST.m3u OUT")
 BOUNDS = {"shuffle": (0, (1 << 64) - 1), "jobs": (1, 64)}
 LOUDNESS = (-40, -5)           # LUFS

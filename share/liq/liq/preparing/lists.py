@@ -49,7 +49,7 @@ def line_of(name: str, entries: List[str], sizes: Mapping[str, Size], rate: int,
     text = f"list {shown(name)}: {len(entries)} file{'s' * (len(entries) != 1)}, {hours:.1f} h"
     if size > limits.most:
         text += (f"; more than one script may play ({limits.most} bytes, {limits.most / 4 / rate / 3600:.1f} h of stereo): "
-                 "use lists of folders, or liq-night")
+                 "use lists of folders, or liq night")
     if sum(len(entry.encode()) + 1 for entry in entries) > limits.list_most:
         text += f"; longer than liq reads ({limits.list_most} bytes)"
     return text

@@ -9,7 +9,7 @@ from liq.reading.programs import COMPANION, LIQ, program_of, programs_of
 from liq.serving.lines import as_json, as_line, looked, passed, text_of
 from liq.serving.looking import Look
 
-USAGE = "usage: liq-where [--lines|--json] [--text] FILE"
+USAGE = "usage: liq where [--lines|--json] [--text] FILE"
 FORMS = {"--lines": as_line, "--json": as_json}
 
 

@@ -16,7 +16,7 @@ from liq.trying.server import Server
 from liq.trying.station import Shown
 from liq.watching.names import shown
 
-USAGE = "usage: liq-try [--port=N] [--no-browser] FILE"
+USAGE = "usage: liq try [--port=N] [--no-browser] FILE"
 SECONDS = 30               # for which the companion may run
 DOOR = "open.html"
 

@@ -24,7 +24,7 @@ def refused(program: str, file: str) -> int:
 def main(words: List[str]) -> int:
     """Prints when in the week no case of a switch holds."""
     if len(words) != 1:
-        raise Usage("usage: liq-week FILE")
+        raise Usage("usage: liq week FILE")
     program, companion = programs_of((LIQ, COMPANION))
     try:
         week = told(Companion(companion, SECONDS), words[0])

@@ -43,7 +43,7 @@ def pass_on(picture: IO[bytes], week: Week) -> None:
 def main(words: List[str]) -> int:
     """Prints the picture as a text for graphviz."""
     if len(words) != 1:
-        raise Usage("usage: liq-picture FILE")
+        raise Usage("usage: liq picture FILE")
     companion = companion_of(seconds=SECONDS)
     try:
         picture = tempfile.TemporaryFile(prefix="liq-picture-")
