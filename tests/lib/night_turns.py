@@ -123,6 +123,19 @@ def a_script_that_is_refused(place):
     place.wants("the script that is kept", content(place.path("f.last")), good)
 
 
+def what_was_next_is_gone(place):
+    """Where the entry that was next is taken out of a list, and others before it, the list goes on with the one that came then."""
+    names = short_songs(place, 12)
+    write_file(place.folder, "m.m3u", "".join(name + "\n" for name in names))
+    place.night("--go-on", TODAY, "f", "0.0028")
+    place.wants("the first night", played(place), names[:6])
+    write_file(place.folder, "m.m3u", "".join(name + "\n" for name in names if name not in (*names[1:4], *names[6:8])))
+    lines = place.night("--go-on", "--start=tomorrow:20:00", "f", "0.0028")
+    place.wants("the night behind it", played(place), [*names[8:], names[0], names[4]])
+    place.wants("what is told", [line for line in lines if line.endswith("s06.wav was next, and is no entry now; it goes on with s08.wav")] != [],
+                True)
+
+
 def places_that_are_none(place):
     """An empty or broken NAME.next is told and kept under another name; the night is there."""
     for k, text in enumerate((b"", b"my notes", b"\0" * 512, b'{"is": "lists of a night", "next": {"m.m3u": {"entry": "t0.wav", '
@@ -313,5 +326,5 @@ def refused_behind_the_replacing(place):
 
 
 RUNS = (lists_that_share, a_length_that_is_told_too_long, the_same_night_once_more, a_day_of_another_script,
-        what_cannot_be_read, a_script_that_is_refused, places_that_are_none, a_name_with_a_tab, an_entry_that_goes,
+        what_cannot_be_read, a_script_that_is_refused, what_was_next_is_gone, places_that_are_none, a_name_with_a_tab, an_entry_that_goes,
         one_loudness_for_all, a_report, behind_a_crossfade, two_nights_over_one_cache, parts_are_joined_where_they_lie, refused_behind_the_replacing)
