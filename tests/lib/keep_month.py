@@ -11,7 +11,7 @@ from lib.night_month import FIRST, Rows, Songs, out_of_order
 from lib.stations import cues_in, write_file
 
 RATE, TRACKS = 8000, 30        # of the station; its nights have some thirty tracks
-SPEED = 4000                   # times as fast as the clock of the wall the faked one goes
+SPEED = 1200                   # times as fast as the clock of the wall the faked one goes
 SCRIPT = (f'set("frame.audio.samplerate", {RATE})\n'
           'output.file(%wav, "A.wav", mean(mksafe(playlist("library/all.m3u"))))\n')
 SETTINGS = f"""script = f
@@ -49,7 +49,7 @@ class Kept(Songs):
 
     def befall(self, is_over: threading.Event) -> None:
         """Changes what is there, as long as the station is kept."""
-        while not is_over.wait(self.chance.uniform(2, 6)):
+        while not is_over.wait(self.chance.uniform(8, 20)):
             night = len(self.nights())
             if night != self.night:
                 self.night = night
@@ -101,7 +101,7 @@ def month(folder: str, nights: int, begin: Callable[..., Any]) -> Tuple[List[str
                threading.Thread(target=lambda: played.append(played_of(kept, is_over)))]
     for thread in threads:
         thread.start()
-    printed, said = run.communicate(timeout=40 * nights + 600)
+    printed, said = run.communicate(timeout=150 * nights + 600)
     time.sleep(1)
     is_over.set()
     for thread in threads:
