@@ -22,21 +22,14 @@ EARLY, LATE = -1.6, 1.2         # seconds from the clock at which a second may c
 FULL = "cannot"                 # what the file of others is called that fills the disk of the state
 
 
-class Heard:
-    """The moments that listeners heard: the second since 1970 at which each twentieth of a second came, and its tone."""
-
-    def __init__(self):
-        self.moments, self.titles = [], []
-
-    def take(self, listener):
-        """Takes what one listener heard."""
-        came, k = listener.came, 0
-        for number, tone in enumerate(listener.moments()):
-            at = number * 0.05 * BYTES
-            while k + 1 < len(came) and came[k][1] < at:
-                k += 1
-            self.moments.append((came[k][0], tone))
-        self.titles += list(zip(listener.told, listener.titles))
+def moments_of(listener):
+    """The moments that a listener heard: the second since 1970 at which each twentieth of a second came, and its tone."""
+    came, k = listener.came, 0
+    for number, tone in enumerate(listener.moments()):
+        at = number * 0.05 * BYTES
+        while k + 1 < len(came) and came[k][1] < at:
+            k += 1
+        yield came[k][0], tone
 
 
 class Show:
@@ -44,12 +37,12 @@ class Show:
 
     def __init__(self, folder, seconds):
         self.folder, self.unit, self.found, self.lines = folder, seconds / 60, [], []
-        self.server, self.heard = Server(folder), Heard()
+        self.server, self.moments, self.titles = Server(folder), [], []
         self.server.start()
         os.mkdir(self.path("air"))
         os.mkdir(self.path("small"))
         rendering(self.path("meanwhile.wav"), MEANWHILE, 1)
-        self.listener = Listener(self.server.port)
+        self.listener = Listener(self.server.port, stays=True)
         self.is_small = os.geteuid() == 0 and bool(shutil.which("unshare"))
         self.run = self.started()
         self.begin = int(time.time()) + 3
@@ -100,11 +93,8 @@ class Show:
     def restart(self):
         """Stops the server, and starts it again after a while."""
         self.server.stop()
-        self.listener.join(LIMIT)
-        self.heard.take(self.listener)
         time.sleep(DOWN)
         self.server.start()
-        self.listener = Listener(self.server.port)
 
     def fill(self):
         """Fills the disk of the state."""
@@ -136,10 +126,13 @@ class Show:
                 self.found.append(f"it ends at {time.time() - self.begin:.0f} s with {self.run.returncode}")
                 break
             action()
+        self.listener.stays = False
         self.run.send_signal(signal.SIGTERM)
         self.run.wait(LIMIT)
         self.listener.join(LIMIT)
-        self.heard.take(self.listener)
+        self.moments = list(moments_of(self.listener))
+        self.titles = list(zip(self.listener.told, self.listener.titles))
+        self.lines.append(f"the listener joined {self.listener.joins} times")
         self.server.stop()
         if self.run.returncode:
             self.found.append(f"the status is {self.run.returncode}")
@@ -174,7 +167,7 @@ class Show:
     def examine_one(self, name, start, seconds, first):
         """Looks when each second of a rendering was heard: how far from the clock, and which were not."""
         heard = {}
-        for moment, tone in self.heard.moments:
+        for moment, tone in self.moments:
             nearest = round(moment - start)
             for second in range(max(0, nearest - 3), min(seconds, nearest + 4)):
                 if (first + second) % TONES == tone:
@@ -193,7 +186,7 @@ class Show:
 
     def examine_titles(self, name, start, seconds, tracks):
         """Looks when listeners were told each title."""
-        told = [(moment, title) for moment, title in self.heard.titles if title[:1] == name]
+        told = [(moment, title) for moment, title in self.titles if title[:1] == name]
         joined = self.joined()
         offs = []
         for at, file in tracks:

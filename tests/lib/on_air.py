@@ -78,17 +78,18 @@ def until(is_so):
 
 
 class Listener(threading.Thread):
-    """Listens to a mount until it ends: the MP3 that comes, and the titles."""
+    """Listens to a mount until it ends: the MP3 that comes, and the titles. One that stays joins it again and again."""
 
-    def __init__(self, port, mount="/air.mp3"):
+    def __init__(self, port, mount="/air.mp3", stays=False):
         super().__init__(daemon=True)
+        self.stays, self.joins = stays, 0
         self.port, self.mount, self.data, self.titles = port, mount, bytearray(), []
         self.came, self.told = [], []          # when so many bytes had come, and when each title came
         self.start()
 
     def run(self):
         end = time.monotonic() + LIMIT
-        while time.monotonic() < end and not self.data:
+        while self.stays or time.monotonic() < end and not self.data:
             with contextlib.suppress(OSError), socket.create_connection(("127.0.0.1", self.port), 5) as link:
                 link.sendall(f"GET {self.mount} HTTP/1.0\r\nIcy-MetaData: 1\r\n\r\n".encode())
                 self.take(link.makefile("rb"))
@@ -103,6 +104,7 @@ class Listener(threading.Thread):
                 return
             head += line
         told = re.search(rb"icy-metaint:\s*(\d+)", head, re.I)
+        self.joins += told is not None
         while told and head.split(b" ")[1] == b"200":
             piece = file.read(int(told[1]))
             self.data += piece
