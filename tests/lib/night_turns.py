@@ -108,6 +108,41 @@ def what_cannot_be_read(place):
     place.wants("where nothing is left", place.run("f", "0.02")[0], 1)
 
 
+LACKING = (
+    # what a radio is made of, how it goes on, and the songs that are heard; a file of single is not there
+    ('switch(track_sensitive=false, [({0s-5s or 30s-35s}, single("none.wav")), ({true}, playlist("m.m3u"))])',
+     "what stands beside it is played", True),
+    ('rotate([single("none.wav"), playlist("m.m3u")])', "what stands beside it is played", True),
+    ('random([single("none.wav"), playlist("m.m3u")])', "what stands beside it is played", True),
+    ('fallback([playlist("m.m3u"), single("none.wav")])', "silence stands in for it", False),
+    ('fallback([switch([({0s-5s}, single("none.wav"))]), playlist("m.m3u"), single("none.wav")])',
+     "what stands beside it is played, or silence stands in for it", False),
+    ('switch([({0s-5s}, clip("none.wav")), ({true}, clip("t0.wav"))])', "silence stands in for it", True))
+
+
+def a_single_that_is_gone(place):
+    """A file of a single that cannot be read costs no night where something else is played: what stands beside it is, or silence
+    stands in for it, and a line says which. Where nothing else is played, there is no night."""
+    write_file(place.folder, "m.m3u", "t0.wav\nt1.wav\n")
+    for source, how, is_safe in LACKING:
+        radio = f"mksafe({source})" if is_safe else source
+        place.script(f'def clip(name) = single(name) end\nj = "none.wav"\noutput.file(%wav, "A.wav", {radio})')
+        lines = place.night("f", "0.02")
+        place.wants(f"what is told of {source}", f"audio file none.wav: is not there; {how}" in lines, True)
+        place.wants(f"what is played by {source}", set(played(place)) <= {"t0.wav", "t1.wav"} and played(place) != [], True)
+        samples = left_samples(place.path("A.wav"))
+        place.wants(f"seconds of silence in {source}", samples.count(0) // RATE in ((5, 6) if "clip" in source else (0,)), True)
+        place.wants("by --strict", place.run("--strict", "f", "0.02")[0], 1)
+    os.mkdir(place.path("none.wav"))
+    place.script('j = "none.wav"\noutput.file(%wav, "A.wav", mksafe(switch([({0s-5s}, single(j)), ({true}, playlist("m.m3u"))])))')
+    lines = place.night("--part=0.01", "f", "0.02")
+    place.wants("of a folder", lines[0], "audio file none.wav: is a folder; what stands beside it is played")
+    place.wants("what is found", lines[-1].partition("; found ")[2][:27], "1: audio file none.wav: is ")
+    place.lies("afterwards", "A.wav", "A.wav.cue", "A.wav.html", "none.wav")
+    place.script('output.file(%wav, "A.wav", mksafe(single("none.wav")))')
+    place.wants("where nothing else is played", place.run("f", "0.02")[0], 1)
+
+
 def a_script_that_is_refused(place):
     """With --go-on the script that was rendered last is played where the new one is refused, or is not there."""
     place.night("--go-on", TODAY, "f", "0.01")
@@ -326,5 +361,5 @@ def refused_behind_the_replacing(place):
 
 
 RUNS = (lists_that_share, a_length_that_is_told_too_long, the_same_night_once_more, a_day_of_another_script,
-        what_cannot_be_read, a_script_that_is_refused, what_was_next_is_gone, places_that_are_none, a_name_with_a_tab, an_entry_that_goes,
+        what_cannot_be_read, a_single_that_is_gone, a_script_that_is_refused, what_was_next_is_gone, places_that_are_none, a_name_with_a_tab, an_entry_that_goes,
         one_loudness_for_all, a_report, behind_a_crossfade, two_nights_over_one_cache, parts_are_joined_where_they_lie, refused_behind_the_replacing)
