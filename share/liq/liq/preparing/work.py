@@ -51,6 +51,7 @@ class Work:
         self.made, self.kept, self.left = 0, 0, 0
         self.told: List[str] = []                           # of sounds that are left out or damaged, and of what was changed
         self.written: List[str] = []
+        self.texts: Dict[str, Dict[str, str]] = {}          # of sources the texts that a list has before their names
         self.unseen: Set[str] = set()                       # sources below folders that could not be read
         self.is_unread: Callable[[str], bool] = lambda source: False
         self.lock = locked(out)
@@ -216,8 +217,13 @@ class Work:
             file.write(data)
         self.record.put([(name, path)])
 
+    def told_of(self, source: str) -> Dict[str, Any]:
+        """What is known of a source. The texts of a list count for more than those of the file."""
+        told = self.record.sources.get(source)
+        return {**told, **self.texts.get(source, {})} if told else {}
+
     def artist(self, source: str) -> str:
-        return str(self.record.sources.get(source, {}).get("artist", "")).casefold()
+        return str(self.told_of(source).get("artist", "")).casefold()
 
     def write_lists(self, found: Found, seed: Optional[int], whole: str, has_folders: bool,
                     limits: Facts) -> Tuple[List[str], Size]:
@@ -234,8 +240,8 @@ class Work:
             entries = [entry for member in members for entry in self.parts(member)]
             self.write(name, entries)
             lines.append(lists.line_of(self.record.at(name), entries, sizes, self.form.rate, limits))
-        known = [(source, self.record.sources.get(source)) for source in dict(found)]
-        self.write(lists.TITLES, [line for source, told in known if told and any(told.get(text) for text in sounds.TAGS)
+        known = [(source, self.told_of(source)) for source in dict(found)]
+        self.write(lists.TITLES, [line for source, told in known if any(told.get(text) for text in sounds.TAGS)
                                   for line in lists.titles_of(told, self.parts(source))])
         return lines, Size(sum(size.bytes for size in sizes.values()), sum(size.seconds for size in sizes.values()))
 
