@@ -155,12 +155,14 @@ class Show:
         self.lines.append(f"the log has {len(rows)} rows, {sum(length for _, length, _ in rows):.0f} s")
 
     def joined(self):
-        """The files of tracks that may begin in their middle: those in which the stream was joined or broken."""
+        """The files of tracks that may begin in their middle, or not at all: those that were over when their rendering came, and
+        those in which the stream was joined or broken."""
         marks = [self.at(units) for units in (7, 11, 20, 35, 52)] + [self.at(11) + DOWN]
+        there = {name: self.at(units) for name, _, units, _, _ in RENDERINGS}
         found = set()
-        for start, seconds, _, tracks in self.made.values():
+        for name, (start, seconds, _, tracks) in self.made.items():
             for (at, file), (end, _) in zip(tracks, [*tracks[1:], (seconds, "")]):
-                if any(start + at - 2 <= mark <= start + end + 12 for mark in marks):
+                if start + end < there[name] + 2 or any(start + at - 2 <= mark <= start + end + 12 for mark in marks):
                     found.add(file)
         return found
 

@@ -94,6 +94,7 @@ class Songs:
             write_file(self.folder, "part", data[:len(data) * 3 // 5])
             os.replace(self.path("part"), path)
             self.cut.add(song.name)
+            song.touched.update(range(self.night - 1, 1000) if song.form == "m4a" else ())       # nothing can be read of that
         elif self.gone:
             back = self.gone.pop(0)
             self.songs.append(self.made(back.number, back.form))
@@ -184,10 +185,22 @@ class Month(Songs):
         if station == "two":
             self.rows["faded"] += [(self.night, at, name) for at, name in cues if name]
             return
+        orders = {name: content(self.path(f"{name}.m3u")).decode(errors="surrogateescape").split("\n")[:-1] for name in ("rock", "all")}
         for at, name in cues:
             if name:
-                self.rows["rock" if 120 <= at < 240 else "all"].append((self.night, at, name))
+                self.rows[self.list_of(at, name, orders)].append((self.night, at, name))
         self.hear(cues)
+
+    def list_of(self, at: float, file: str, orders: Dict[str, List[str]]) -> str:
+        """Of which list a track was played that begins at a second of its night. A switch may come a second late, so that then
+        it is the list that goes on with it."""
+        if not (120 <= at < 121.2 or 240 <= at < 241.2):
+            return "rock" if 120 <= at < 240 else "all"
+
+        def steps(name: str) -> int:
+            order, last = orders[name], self.rows[name][-1][2] if self.rows[name] else ""
+            return (order.index(file) - order.index(last)) % len(order) if file in order and last in order else len(order)
+        return min(orders, key=steps)
 
     def compare_log(self, rows: List[Tuple[int, str]], cues: List[Tuple[float, str]]) -> None:
         """Compares the log with the cue file: the same files, in the same seconds."""

@@ -219,8 +219,8 @@ class Work:
 
     def told_of(self, source: str) -> Dict[str, Any]:
         """What is known of a source. The texts of a list count for more than those of the file."""
-        told = self.record.sources.get(source)
-        return {**told, **self.texts.get(source, {})} if told else {}
+        told, texts = self.record.sources.get(source), self.texts.get(source)
+        return {**told, **(texts or {})} if told else {}
 
     def artist(self, source: str) -> str:
         return str(self.told_of(source).get("artist", "")).casefold()

@@ -10,6 +10,7 @@ import tempfile
 from typing import Any, Callable, Iterator, Optional, TypeVar, Union
 
 from liq.failed import Failed
+from liq.reading import patience
 from liq.reading.facts import Facts, Refused, Tokens, read_facts, read_tokens
 from liq.reading.programs import COMPANION, NotBuilt, program_of
 from liq.watching.names import shown
@@ -32,10 +33,11 @@ class NoPlan(NoAnswer):
 
 
 class Companion:
-    """The companion program at a path, and for how many seconds a call of it may run. It remembers what it answered of
-    the text of a script alone. What it says of files is asked anew each time."""
+    """The companion program at a path, and for how many seconds a call of it may run. Where none are given, a call may take as
+    long as it makes progress. It remembers what it answered of the text of a script alone. What it says of files is asked anew
+    each time."""
 
-    def __init__(self, path: str, seconds: float = SECONDS):
+    def __init__(self, path: str, seconds: Optional[float] = None):
         self.path, self.seconds = path, seconds
         self.limit: "dict[Optional[int], Union[Facts, Refused]]" = {}
         self.kept: "collections.OrderedDict[tuple[str, bytes], bytes]" = collections.OrderedDict()
@@ -116,10 +118,9 @@ class Companion:
                     opened.write(given)
                 return self.call(verb, path, folder=folder)
         try:
-            done = subprocess.run([self.path, verb, file], input=given, capture_output=True, cwd=folder, check=False,
-                                  timeout=self.seconds)
-        except subprocess.TimeoutExpired:
-            raise NoAnswer(f"{shown(file)}: no answer of the companion within {self.seconds:g} seconds", 5) from None
+            done = patience.run([self.path, verb, file], self.seconds or SECONDS, given, folder=folder, is_patient=self.seconds is None)
+        except subprocess.TimeoutExpired as error:
+            raise NoAnswer(f"{shown(file)}: no answer of the companion within {error.timeout:g} seconds", 5) from None
         except ValueError:
             raise NoAnswer(f"{shown(file)}: a NUL in its name, which no file can have", 3) from None
         except OSError as error:
@@ -168,7 +169,7 @@ def read(reader: "Callable[[dict[str, Any]], Told]", data: bytes, file: str) -> 
         raise NoAnswer(f"{shown(file)}: the companion is of another version: {error!r}", 126) from None
 
 
-def companion_of(given: Optional[str] = None, seconds: float = SECONDS, may_build: bool = True) -> Companion:
+def companion_of(given: Optional[str] = None, seconds: Optional[float] = None, may_build: bool = True) -> Companion:
     """The companion beside a built program that is named, or else the one that is installed or of the checkout."""
     try:
         path = program_of(COMPANION, given, may_build)
