@@ -5,6 +5,7 @@ import datetime
 import http.server
 import json
 import os
+import resource
 import shutil
 import subprocess
 import threading
@@ -239,6 +240,34 @@ def log_of(place):
     return list(csv.reader(done.stdout.split("\n")[1:-1]))
 
 
+def what_is_damaged_is_told(place):
+    """A sound that is cut, and is played as far as it goes, is told by each night; nothing of it is lost in another way."""
+    if not shutil.which("ffmpeg"):
+        raise Skipped("ffmpeg is missing")
+    subprocess.run(["ffmpeg", "-v", "error", "-y", "-f", "lavfi", "-i", f"sine=d=20:r={RATE}", place.path("whole.mp3")], check=True)
+    write_file(place.folder, "cut.mp3", content(place.path("whole.mp3"))[:9 * len(content(place.path("whole.mp3"))) // 20])
+    write_file(place.folder, "m.m3u", "whole.mp3\ncut.mp3\n")
+    for _ in range(2):
+        lines = place.night(f"--cache={place.path('cache')}", "f", "0.01")
+        place.wants("what is found", lines[-1].partition("; found ")[2][:21], "1: cut.mp3: damaged: ")
+        place.wants("what is played", played(place), ["whole.mp3", "cut.mp3", "whole.mp3"])
+
+
+def a_night_asks_for_heads(place):
+    """A night reads the heads of sounds, and as a whole only those that it plays: here a library of 30 GB."""
+    names = short_songs(place, 4)
+    for k in range(120):
+        write_file(place.folder, f"l{k}.wav", header(250 << 20, rate=RATE))
+        os.truncate(place.path(f"l{k}.wav"), 44 + (250 << 20))
+    write_file(place.folder, "m.m3u", "".join(name + "\n" for name in [*names, *(f"l{k}.wav" for k in range(120))]))
+    before = resource.getrusage(resource.RUSAGE_CHILDREN)
+    place.night("f", "0.001")
+    after = resource.getrusage(resource.RUSAGE_CHILDREN)
+    place.wants("what is played", played(place), names[:2])
+    seconds = after.ru_utime + after.ru_stime - before.ru_utime - before.ru_stime
+    place.wants("seconds of a processor", seconds < 6, True)
+
+
 def one_loudness_for_all(place):
     """With --loudness each entry of a list has that loudness, a WAV file too; what a single plays stays as it is."""
     if not shutil.which("ffmpeg"):
@@ -362,4 +391,4 @@ def refused_behind_the_replacing(place):
 
 RUNS = (lists_that_share, a_length_that_is_told_too_long, the_same_night_once_more, a_day_of_another_script,
         what_cannot_be_read, a_single_that_is_gone, a_script_that_is_refused, what_was_next_is_gone, places_that_are_none, a_name_with_a_tab, an_entry_that_goes,
-        one_loudness_for_all, a_report, behind_a_crossfade, two_nights_over_one_cache, parts_are_joined_where_they_lie, refused_behind_the_replacing)
+        what_is_damaged_is_told, a_night_asks_for_heads, one_loudness_for_all, a_report, behind_a_crossfade, two_nights_over_one_cache, parts_are_joined_where_they_lie, refused_behind_the_replacing)

@@ -106,7 +106,8 @@ class Work:
             new = self.names_for(source, taken, len(made.parts))
             taken.update(new)
             form = {"rate": self.form.rate, "loudness": self.form.loudness, "whole": self.form.whole}
-            told = {"state": state, **form, "sides": sound.sides, "parts": new, **sound.texts(), "remark": made.remark}
+            told = {"state": state, **form, "sides": sound.sides, "parts": new, **sound.texts(), "remark": made.remark,
+                    "estimate": sound.is_estimate}
             self.record.put(list(zip(new, made.parts)), (source, told))
             self.made += 1
         shutil.rmtree(os.path.join(self.room, str(number)), ignore_errors=True)
@@ -150,11 +151,22 @@ class Work:
                 continue
             kept = self.record.kept(source, path)
             if kept and self.is_kept(source, kept):
+                self.mend_remark(source, path, kept)
                 self.kept += 1
                 taken.update(kept["parts"])
             else:
                 todo.append((source, path))
         return todo, taken
+
+    def mend_remark(self, source: str, path: str, told: Dict[str, Any]) -> None:
+        """Takes back what an earlier version told of a whole file: that it is damaged, by a length that was an estimate."""
+        if not told.get("remark") or "estimate" in told:
+            return
+        try:
+            is_estimate = sounds.looked_at(self.programs, path).is_estimate
+        except (Broken, OSError):
+            return
+        self.record.put([], (source, {**told, "remark": "" if is_estimate else told["remark"], "estimate": is_estimate}))
 
     def run(self, found: Found, jobs: int) -> None:
         """Makes what is not there yet, several at once."""

@@ -60,7 +60,7 @@ class Companion:
     def plan_of(self, script: bytes) -> Union[Facts, Refused]:
         """The same in an empty folder: what a text sets and plays, without a look at its files, which may take long. Those
         that it names by a whole path are looked at."""
-        with temporary_folder("liq-plan-") as folder:
+        with empty_folder() as folder:
             return self.files_of(script, folder)
 
     def limits(self, rate: Optional[int] = None) -> Union[Facts, Refused]:
@@ -142,6 +142,27 @@ def text_of(file: str) -> Optional[bytes]:
         return text if len(text) <= MOST_KEPT else None
     except (OSError, ValueError):
         return None
+
+
+@contextlib.contextmanager
+def empty_folder() -> Iterator[str]:
+    """A folder in which nothing lies. Where the system has a name for open files, it has no other one while it is used, so that
+    no kill leaves it."""
+    try:
+        name = tempfile.mkdtemp(prefix="liq-plan-")
+        handle = os.open(name, os.O_RDONLY | os.O_DIRECTORY)
+    except OSError as error:
+        raise NoAnswer(f"a temporary folder: {error.strerror or error}", 4) from None
+    place = f"/proc/self/fd/{handle}"
+    has_place = os.path.isdir(place)
+    try:
+        if has_place:
+            os.rmdir(name)
+        yield place if has_place else name
+    finally:
+        os.close(handle)
+        if not has_place:
+            os.rmdir(name)
 
 
 @contextlib.contextmanager
