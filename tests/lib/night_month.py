@@ -167,13 +167,16 @@ class Month(Songs):
     def once_more(self, date: datetime.date) -> None:
         """The same night once more, after the clock was set back by an hour, plays the same."""
         before = cues_in(self.folder, "one.wav.cue")
-        status, _, said = self.call("one", "today:20:00", f"{date} 15:00:00")
+        status, lines, said = self.call("one", "today:20:00", f"{date} 15:00:00")
         self.wants("once more", (status, said), (0, ""))
         again = cues_in(self.folder, "one.wav.cue")
         if all(self.night not in song.touched for song in self.songs):
             self.wants("what is played once more", again, before)
         else:
             self.wants("what begins once more", again[0], before[0])
+        for name in ("all", "rock"):                        # it is this one that is heard
+            self.rows[name] = [row for row in self.rows[name] if row[0] != self.night]
+        self.examine("one", date, lines)
 
     def examine(self, station: str, date: datetime.date, lines: List[str]) -> None:
         """Compares a night with its cue file, its log and its clock, and notes what was played."""
