@@ -361,10 +361,10 @@ def parts_are_joined_where_they_lie(place):
     """Parts become one file where the disk has room for the night and for little more."""
     os.mkdir(place.path("d"))
     place.script('output.file(%wav, "d/A.wav", mksafe(playlist("m.m3u")))')
-    call = f"'{NIGHT}' '--program={place.program}' --part=0.0278 f 0.15"
-    printed, said = mounted(place, f"mount -t tmpfs -o size=20m none d || exit 99; {call} >&2; echo $?; stat -c %s d/A.wav; "
+    call = f"'{NIGHT}' '--program={place.program}' --part=0.0756 f 0.15"
+    printed, said = mounted(place, f"mount -t tmpfs -o size=22m none d || exit 99; {call} >&2; echo $?; stat -c %s d/A.wav; "
                             "cp d/A.wav B.wav; cp d/A.wav.cue B.wav.cue")
-    place.wants("the end", (printed, said.count("part ") > 4), (f"0\n{44 + 540 * RATE * 4}\n", True))
+    place.wants("the end", (printed, said.count("part ") > 1), (f"0\n{44 + 540 * RATE * 4}\n", True))
     os.mkdir(place.path("e"))
     place.script('output.file(%wav, "e/A.wav", mksafe(playlist("m.m3u")))')
     place.call_to("e/A.wav", 13500)
