@@ -5,6 +5,7 @@ import datetime
 import http.server
 import json
 import os
+import resource
 import shutil
 import subprocess
 import threading
@@ -108,6 +109,41 @@ def what_cannot_be_read(place):
     place.wants("where nothing is left", place.run("f", "0.02")[0], 1)
 
 
+LACKING = (
+    # what a radio is made of, how it goes on, and the songs that are heard; a file of single is not there
+    ('switch(track_sensitive=false, [({0s-5s or 30s-35s}, single("none.wav")), ({true}, playlist("m.m3u"))])',
+     "what stands beside it is played", True),
+    ('rotate([single("none.wav"), playlist("m.m3u")])', "what stands beside it is played", True),
+    ('random([single("none.wav"), playlist("m.m3u")])', "what stands beside it is played", True),
+    ('fallback([playlist("m.m3u"), single("none.wav")])', "silence stands in for it", False),
+    ('fallback([switch([({0s-5s}, single("none.wav"))]), playlist("m.m3u"), single("none.wav")])',
+     "what stands beside it is played, or silence stands in for it", False),
+    ('switch([({0s-5s}, clip("none.wav")), ({true}, clip("t0.wav"))])', "silence stands in for it", True))
+
+
+def a_single_that_is_gone(place):
+    """A file of a single that cannot be read costs no night where something else is played: what stands beside it is, or silence
+    stands in for it, and a line says which. Where nothing else is played, there is no night."""
+    write_file(place.folder, "m.m3u", "t0.wav\nt1.wav\n")
+    for source, how, is_safe in LACKING:
+        radio = f"mksafe({source})" if is_safe else source
+        place.script(f'def clip(name) = single(name) end\nj = "none.wav"\noutput.file(%wav, "A.wav", {radio})')
+        lines = place.night("f", "0.02")
+        place.wants(f"what is told of {source}", f"audio file none.wav: is not there; {how}" in lines, True)
+        place.wants(f"what is played by {source}", set(played(place)) <= {"t0.wav", "t1.wav"} and played(place) != [], True)
+        samples = left_samples(place.path("A.wav"))
+        place.wants(f"seconds of silence in {source}", samples.count(0) // RATE in ((5, 6) if "clip" in source else (0,)), True)
+        place.wants("by --strict", place.run("--strict", "f", "0.02")[0], 1)
+    os.mkdir(place.path("none.wav"))
+    place.script('j = "none.wav"\noutput.file(%wav, "A.wav", mksafe(switch([({0s-5s}, single(j)), ({true}, playlist("m.m3u"))])))')
+    lines = place.night("--part=0.01", "f", "0.02")
+    place.wants("of a folder", lines[0], "audio file none.wav: is a folder; what stands beside it is played")
+    place.wants("what is found", lines[-1].partition("; found ")[2][:27], "1: audio file none.wav: is ")
+    place.lies("afterwards", "A.wav", "A.wav.cue", "A.wav.html", "none.wav")
+    place.script('output.file(%wav, "A.wav", mksafe(single("none.wav")))')
+    place.wants("where nothing else is played", place.run("f", "0.02")[0], 1)
+
+
 def a_script_that_is_refused(place):
     """With --go-on the script that was rendered last is played where the new one is refused, or is not there."""
     place.night("--go-on", TODAY, "f", "0.01")
@@ -121,6 +157,19 @@ def a_script_that_is_refused(place):
     os.remove(place.path("f"))
     place.night("--go-on", TODAY, "f", "0.01")
     place.wants("the script that is kept", content(place.path("f.last")), good)
+
+
+def what_was_next_is_gone(place):
+    """Where the entry that was next is taken out of a list, and others before it, the list goes on with the one that came then."""
+    names = short_songs(place, 12)
+    write_file(place.folder, "m.m3u", "".join(name + "\n" for name in names))
+    place.night("--go-on", TODAY, "f", "0.0028")
+    place.wants("the first night", played(place), names[:6])
+    write_file(place.folder, "m.m3u", "".join(name + "\n" for name in names if name not in (*names[1:4], *names[6:8])))
+    lines = place.night("--go-on", "--start=tomorrow:20:00", "f", "0.0028")
+    place.wants("the night behind it", played(place), [*names[8:], names[0], names[4]])
+    place.wants("what is told", [line for line in lines if line.endswith("s06.wav was next, and is no entry now; it goes on with s08.wav")] != [],
+                True)
 
 
 def places_that_are_none(place):
@@ -189,6 +238,34 @@ def log_of(place):
     done = subprocess.run([PAGE, "--as=log", "--start=2026-12-01:20:00", "A.wav"], cwd=place.folder, capture_output=True, text=True,
                           check=False, env={**os.environ, "LIQ_PROGRAMS": os.path.dirname(place.program)})
     return list(csv.reader(done.stdout.split("\n")[1:-1]))
+
+
+def what_is_damaged_is_told(place):
+    """A sound that is cut, and is played as far as it goes, is told by each night; nothing of it is lost in another way."""
+    if not shutil.which("ffmpeg"):
+        raise Skipped("ffmpeg is missing")
+    subprocess.run(["ffmpeg", "-v", "error", "-y", "-f", "lavfi", "-i", f"sine=d=20:r={RATE}", place.path("whole.mp3")], check=True)
+    write_file(place.folder, "cut.mp3", content(place.path("whole.mp3"))[:9 * len(content(place.path("whole.mp3"))) // 20])
+    write_file(place.folder, "m.m3u", "whole.mp3\ncut.mp3\n")
+    for _ in range(2):
+        lines = place.night(f"--cache={place.path('cache')}", "f", "0.01")
+        place.wants("what is found", lines[-1].partition("; found ")[2][:21], "1: cut.mp3: damaged: ")
+        place.wants("what is played", played(place), ["whole.mp3", "cut.mp3", "whole.mp3"])
+
+
+def a_night_asks_for_heads(place):
+    """A night reads the heads of sounds, and as a whole only those that it plays: here a library of 30 GB."""
+    names = short_songs(place, 4)
+    for k in range(120):
+        write_file(place.folder, f"l{k}.wav", header(250 << 20, rate=RATE))
+        os.truncate(place.path(f"l{k}.wav"), 44 + (250 << 20))
+    write_file(place.folder, "m.m3u", "".join(name + "\n" for name in [*names, *(f"l{k}.wav" for k in range(120))]))
+    before = resource.getrusage(resource.RUSAGE_CHILDREN)
+    place.night("f", "0.001")
+    after = resource.getrusage(resource.RUSAGE_CHILDREN)
+    place.wants("what is played", played(place), names[:2])
+    seconds = after.ru_utime + after.ru_stime - before.ru_utime - before.ru_stime
+    place.wants("seconds of a processor", seconds < 6, True)
 
 
 def one_loudness_for_all(place):
@@ -284,10 +361,10 @@ def parts_are_joined_where_they_lie(place):
     """Parts become one file where the disk has room for the night and for little more."""
     os.mkdir(place.path("d"))
     place.script('output.file(%wav, "d/A.wav", mksafe(playlist("m.m3u")))')
-    call = f"'{NIGHT}' '--program={place.program}' --part=0.0278 f 0.15"
-    printed, said = mounted(place, f"mount -t tmpfs -o size=20m none d || exit 99; {call} >&2; echo $?; stat -c %s d/A.wav; "
+    call = f"'{NIGHT}' '--program={place.program}' --part=0.0756 f 0.15"
+    printed, said = mounted(place, f"mount -t tmpfs -o size=22m none d || exit 99; {call} >&2; echo $?; stat -c %s d/A.wav; "
                             "cp d/A.wav B.wav; cp d/A.wav.cue B.wav.cue")
-    place.wants("the end", (printed, said.count("part ") > 4), (f"0\n{44 + 540 * RATE * 4}\n", True))
+    place.wants("the end", (printed, said.count("part ") > 1), (f"0\n{44 + 540 * RATE * 4}\n", True))
     os.mkdir(place.path("e"))
     place.script('output.file(%wav, "e/A.wav", mksafe(playlist("m.m3u")))')
     place.call_to("e/A.wav", 13500)
@@ -313,5 +390,5 @@ def refused_behind_the_replacing(place):
 
 
 RUNS = (lists_that_share, a_length_that_is_told_too_long, the_same_night_once_more, a_day_of_another_script,
-        what_cannot_be_read, a_script_that_is_refused, places_that_are_none, a_name_with_a_tab, an_entry_that_goes,
-        one_loudness_for_all, a_report, behind_a_crossfade, two_nights_over_one_cache, parts_are_joined_where_they_lie, refused_behind_the_replacing)
+        what_cannot_be_read, a_single_that_is_gone, a_script_that_is_refused, what_was_next_is_gone, places_that_are_none, a_name_with_a_tab, an_entry_that_goes,
+        what_is_damaged_is_told, a_night_asks_for_heads, one_loudness_for_all, a_report, behind_a_crossfade, two_nights_over_one_cache, parts_are_joined_where_they_lie, refused_behind_the_replacing)

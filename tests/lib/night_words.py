@@ -6,6 +6,7 @@ import os
 import shutil
 import subprocess
 import sys
+import time
 
 from lib.common import TOP, content, header, left_samples
 from lib.night_files import in_folder
@@ -18,6 +19,7 @@ from liq.nights import dates, memory, words, work  # noqa: E402
 from liq.nights.library import Library  # noqa: E402
 from liq.nights.rooms import Rooms  # noqa: E402
 from liq.nights.station import Station  # noqa: E402
+from liq.reading import patience  # noqa: E402
 from liq.reading.companion import companion_of  # noqa: E402
 
 FRIDAY = datetime.datetime(2026, 12, 4, 15, 30, 10)
@@ -129,6 +131,23 @@ def what_stops_and_what_is_told(place):
 def station_in(place, longest):
     companion = companion_of(place.program)
     return Station("f", companion, companion.files("f"), longest)
+
+
+def a_reader_that_is_slow(place):
+    """The reader of scripts may take as long as it makes progress, and one that stands still is ended."""
+    old, patience.LOOK = patience.LOOK, 0.2
+    reads = "while [ $k -lt 30 ]; do k=$((k + 1)); read line < f; sleep 0.1; done; echo done"
+    try:
+        for text, told in ((f"k=0; {reads}", "done"), ("sleep 20", "no answer")):
+            begin = time.monotonic()
+            try:
+                done = patience.run(["sh", "-c", text], 1, folder=place.folder)
+                got = done.stdout.decode().strip()
+            except subprocess.TimeoutExpired:
+                got = "no answer"
+            place.wants(text, (got, time.monotonic() - begin < 15), (told, True))
+    finally:
+        patience.LOOK = old
 
 
 def parts_by_memory(place):
@@ -333,6 +352,6 @@ def windows_of_a_night(place):
     os.remove(told)
 
 
-RUNS = (starts_and_words, a_calendar, lists_go_on, windows_of_a_night, what_stops_and_what_is_told, parts_by_memory,
+RUNS = (starts_and_words, a_calendar, lists_go_on, windows_of_a_night, what_stops_and_what_is_told, parts_by_memory, a_reader_that_is_slow,
         a_part_that_is_refused_memory, entries_are_decoded, settings_of_any_form, units_are_right, an_older_python,
         unused_and_unknown_names, types_that_differ)

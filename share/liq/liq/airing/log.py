@@ -4,7 +4,7 @@ import csv
 import io
 import os
 from datetime import datetime
-from typing import Any, Dict, List, Optional
+from typing import Any, Dict, Iterable, List, Optional
 
 from liq.airing.say import Say
 from liq.pages.forms import HEAD, one_line
@@ -50,23 +50,19 @@ class Log:
         """Adds a line, with the head before the first one."""
         if not self.path:
             return
-        text = io.StringIO()
-        table = csv.writer(text, lineterminator="\n")
-        if not os.path.exists(self.path) or not os.path.getsize(self.path):
-            table.writerow(HEAD)
-        table.writerow([*row[:2], f"{seconds:.1f}", *row[2:]])
         try:
-            self.append(text.getvalue().encode("utf-8", "replace"))
+            self.append(line_of(HEAD), line_of([*row[:2], f"{seconds:.1f}", *row[2:]]))
             self.trouble = ""
         except OSError as error:
             if self.trouble != error.strerror:
                 self.say(f"{self.path}: {error.strerror}; what is on the air is not logged")
             self.trouble = error.strerror or "fault"
 
-    def append(self, data: bytes) -> None:
-        """Adds bytes, all or none."""
+    def append(self, head: bytes, line: bytes) -> None:
+        """Adds a line, all or none, behind the head where there is nothing yet."""
         with open(self.path, "ab", buffering=0) as file:
             before = file.seek(0, os.SEEK_END)
+            data = line if before else head + line
             try:
                 if file.write(data) == len(data):
                     os.fsync(file.fileno())
@@ -77,3 +73,10 @@ class Log:
                 raise
             file.truncate(before)
             raise OSError(28, "No space left on device", self.path)
+
+
+def line_of(row: Iterable[str]) -> bytes:
+    """A line of CSV."""
+    text = io.StringIO()
+    csv.writer(text, lineterminator="\n").writerow(row)
+    return text.getvalue().encode("utf-8", "replace")

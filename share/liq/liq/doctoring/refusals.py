@@ -5,6 +5,7 @@ from typing import Iterator, Optional
 
 from liq.doctoring.findings import Finding, counted
 from liq.doctoring.paths import WAITS, trouble_of
+from liq.reading import patience
 from liq.reading.companion import SECONDS, Companion, NoAnswer
 from liq.reading.facts import Facts, Sound
 from liq.watching.names import shown, shown_lines
@@ -64,13 +65,12 @@ def weights_told(facts: Facts) -> str:
 def asked(program: str, script: str) -> "tuple[int, str]":
     """The status of `liq check`, and what it says."""
     try:
-        done = subprocess.run([program, "check", script], stdin=subprocess.DEVNULL, capture_output=True, encoding="utf-8",
-                              errors="surrogateescape", check=False, timeout=SECONDS)
+        done = patience.run([program, "check", script], SECONDS)
     except subprocess.TimeoutExpired:
-        return 1, f"liq check takes more than {SECONDS} seconds"
+        return 1, f"liq check stands still for {SECONDS} seconds"
     except (OSError, ValueError) as error:
         return 1, f"liq cannot be asked: {error}"
-    return done.returncode, done.stderr.removesuffix("\n")
+    return done.returncode, done.stderr.decode("utf-8", "surrogateescape").removesuffix("\n")
 
 
 def places_and_advice(companion: Companion, script: str, said: str) -> Iterator[str]:

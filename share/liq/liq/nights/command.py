@@ -9,7 +9,7 @@ from typing import Dict, List, Optional, TextIO, Tuple
 from liq.command import tell as tell_error
 from liq.doctoring.looking import findings_of
 from liq.failed import Usage
-from liq.nights import called, dates, last, long_lists, page, parts, putting, rooms, seen, words
+from liq.nights import called, dates, lacking, last, long_lists, page, parts, putting, rooms, seen, words
 from liq.nights.failed import KEPT, Failed
 from liq.nights.found import Found, Report
 from liq.nights.library import Library, decoded_of
@@ -88,16 +88,21 @@ def script_of(call: words.Call, found: Found) -> str:
     return file
 
 
-Looked = Tuple[Optional[Facts], Optional[caches.Cache], Found]
+Looked = Tuple[Optional[Facts], lacking.Lacking, Optional[caches.Cache], Found]
 
 
 def looked_at(call: words.Call, file: str, program: str, companion: Companion) -> Looked:
-    """The facts of a script, the cache that its sounds take, and what was found."""
-    found, facts = Found(), facts_of(companion, file)
+    """The facts of a script, what stands in for files that are lacking, the cache that its sounds take, and what was
+    found."""
+    found, facts, lack = Found(), facts_of(companion, file), lacking.Lacking()
+    if facts:
+        facts, lack, lines = lacking.of(companion, file, facts)
+        for line in lines:
+            found.tell(line)
     cache = cache_of(call, facts, found) if facts else None
     try:
         examine_files(file, program, facts_seen(facts, cache, found), found)
-        return facts, cache, found
+        return facts, lack, cache, found
     except BaseException:
         close(cache)
         raise
@@ -117,7 +122,7 @@ def prepared(call: words.Call, found: Found) -> Tuple[Station, str, Library]:
     companion = companion_of(program)
     scripts, first = last.candidates(script_of(call, found), call.goes_on), ""
     for file in scripts:
-        facts, cache, mine = looked_at(call, file, program, companion)
+        facts, lack, cache, mine = looked_at(call, file, program, companion)
         why = mine.refusal(call, facts)
         if not why or file == scripts[-1]:
             break
@@ -130,7 +135,7 @@ def prepared(call: words.Call, found: Found) -> Tuple[Station, str, Library]:
         found.examine(call, facts, first)
         if facts is None:                       # which is refused
             raise AssertionError
-        return Station(file, companion, facts, call.part), program, Library(facts, cache)
+        return Station(file, companion, facts, call.part, lack), program, Library(facts, cache)
     except BaseException:
         close(cache)
         raise

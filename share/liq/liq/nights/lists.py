@@ -1,5 +1,5 @@
 """The lists of a script, from where they were left, and no longer than a part of a night needs."""
-from typing import Iterable, List, Optional
+from typing import Iterable, List, Optional, Tuple
 
 from liq.nights.library import AHEAD, Library
 
@@ -52,6 +52,10 @@ class Turns:
         if entry in self.known:
             step = next(k for k in range(len(self.entries)) if self.entry(k) == entry)
             self.at = (self.at + step) % len(self.entries)
+
+    def behind(self, count: int) -> Tuple[str, ...]:
+        """So many entries behind the next one."""
+        return tuple(self.entry(k) for k in range(1, min(count + 1, len(self.entries))))
 
     @property
     def next(self) -> Optional[str]:

@@ -1,24 +1,35 @@
 """Where a night left its lists: NAME.next, put in place together with the outputs.
 
 It has the places of the lists behind the night, those before it, and when it began. So the same night once more begins
-where it began before. The places of lists that another script plays are kept.
+where it began before. The places of lists that another script plays are kept. A place has the entries behind it, too, so
+that a list from which the next one was taken away goes on with the one that comes then.
 """
 import json
 import os
-from typing import Any, Dict, List, NamedTuple, Optional
+from typing import Any, Dict, List, NamedTuple, Optional, Tuple
 
 from liq.nights.lists import Turns
 from liq.watching.names import shown
 
 KIND = "lists of a night"
 MOST = 1000            # lists of which the places are kept
+THEN = 20              # entries behind a place that are kept
 LARGEST = 1 << 24      # bytes of such a file
 
 
 class Place(NamedTuple):
-    """The entry of a list that is next, and its number."""
+    """The entry of a list that is next, its number, and some of those that come then."""
     entry: str
     number: int
+    then: Tuple[str, ...] = ()
+
+    def told(self) -> Dict[str, object]:
+        """The place as a file tells it."""
+        return {"entry": self.entry, "place": self.number, **({"then": list(self.then)} if self.then else {})}
+
+    def first_in(self, turns: Turns) -> str:
+        """The entry with which a list goes on: the one that is next, or the first one behind it that is there."""
+        return next((entry for entry in (self.entry, *self.then) if entry in turns.known), self.entry)
 
 
 class Foreign(Exception):
@@ -31,7 +42,7 @@ def path_of(output: str) -> str:
 
 def places_in(told: Any) -> Dict[str, Place]:
     """The places of lists in what a file tells."""
-    return {name: Place(str(left["entry"]), int(left["place"])) for name, left in told.items()}
+    return {name: Place(str(left["entry"]), int(left["place"]), tuple(map(str, left.get("then", ())))) for name, left in told.items()}
 
 
 class Places:
@@ -65,23 +76,25 @@ class Places:
                  f"{shown(self.kept_path())}"] if self.trouble else []
         for name, turns in lists.items():
             if name in self.before and turns.entries:
-                entry, number = self.before[name]
-                turns.go_to(entry, number)
-                if turns.next != entry:
-                    found.append(f"list {shown(name)}: {shown(entry)} was next, and is no entry now; it goes on with "
+                place = self.before[name]
+                turns.go_to(place.first_in(turns), place.number)
+                if turns.next != place.entry:
+                    found.append(f"list {shown(name)}: {shown(place.entry)} was next, and is no entry now; it goes on with "
                                  f"{shown(turns.next or '')}")
         return found
 
     def text_of(self, lists: Dict[str, Turns]) -> str:
         """What the next night has to know."""
-        left = {name: Place(turns.next, turns.at) for name, turns in lists.items() if turns.next is not None}
+        left = {name: Place(turns.next, turns.at, turns.behind(THEN)) for name, turns in lists.items() if turns.next is not None}
         others = {name: place for name, place in self.before.items() if name not in left}
         behind = dict([*others.items(), *left.items()][-MOST:])
 
-        def told(places: Dict[str, Place]) -> Dict[str, Dict[str, object]]:
-            return {name: {"entry": place.entry, "place": place.number} for name, place in places.items()}
-        return json.dumps({"is": KIND, "start": self.start, "next": told(behind), "before": told(self.before)},
-                          indent=1) + "\n"
+        def told(keeps_more: bool) -> str:
+            places = [{name: (place if keeps_more else place._replace(then=())).told() for name, place in one.items()}
+                      for one in (behind, self.before)]
+            return json.dumps({"is": KIND, "start": self.start, "next": places[0], "before": places[1]}, indent=1) + "\n"
+        text = told(True)
+        return text if len(text) <= LARGEST else told(False)
 
     def kept_path(self) -> str:
         """Where a file is kept that no night made."""

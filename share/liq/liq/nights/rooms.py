@@ -13,7 +13,7 @@ from liq.watching.names import shown
 LONGEST = 200          # bytes of a name behind which there is room for more
 FRONT = ".night-"
 # What a night makes in a room. Nothing else is removed there.
-OWN = re.compile(r"(?:[0-9]+-[0-9]+\.wav|[0-9]+\.m3u|part\.liq|page|next|titles\.tsv|moves|(?:old|small)-[0-9]+)"
+OWN = re.compile(r"(?:[0-9]+-[0-9]+\.wav|[0-9]+(?:-[0-9]+)?\.m3u|part\.liq|page|next|titles\.tsv|moves|(?:old|small)-[0-9]+)"
                  r"(?:\.cue|\.start|\.titles\.tsv)?(?:\.unfinished[0-9]*)?")
 PAGE = b"<!DOCTYPE html>\n<html lang=en><head><meta charset=utf-8>"
 

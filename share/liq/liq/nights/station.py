@@ -2,6 +2,7 @@
 import os
 from typing import Callable, Dict, List, Mapping, NamedTuple, Optional, Tuple
 
+from liq.nights import lacking
 from liq.nights.failed import Failed
 from liq.nights.parts import MOST
 from liq.reading.companion import Companion
@@ -46,8 +47,8 @@ CHOOSING = ("fallback", "switch")                              # those that do, 
 class Station:
     """A script with the names in it, and what it sets."""
 
-    def __init__(self, file: str, companion: Companion, facts: Facts, longest: float):
-        self.file, self.companion, self.facts, self.longest = file, companion, facts, longest
+    def __init__(self, file: str, companion: Companion, facts: Facts, longest: float, lack: lacking.Lacking = lacking.Lacking()):
+        self.file, self.companion, self.facts, self.longest, self.lack = file, companion, facts, longest, lack
         self.text, self.tokens = content(file), companion.tokens(file).tokens
         self.outputs = [output.name for output in facts.outputs]
         self.lists = {one.name: one for one in facts.lists}
@@ -87,15 +88,9 @@ class Station:
                 found[source.file] = wider(found.get(source.file, NOTHING), need)
         return found
 
-    def renamed(self, names: Mapping[str, str]) -> bytes:
-        """The script with other names in place of these."""
-        data, at = b"", 0
-        for token in self.tokens:
-            if token.kind == "text" and token.text is not None and token.text in names:
-                other = names[token.text].replace("\\", "\\\\").replace('"', '\\"')
-                data += self.text[at:token.start] + f'"{other}"'.encode(errors="surrogateescape")
-                at = token.end
-        return data + self.text[at:]
+    def renamed(self, names: Mapping[str, str], empty: str = "") -> bytes:
+        """The script with other names in place of these, and an empty list in place of singles that are lacking."""
+        return lacking.renamed(self.text, self.tokens, names, self.lack.calls, empty)
 
 
 def of_children(source: Source, need: Need, rate: int) -> Need:

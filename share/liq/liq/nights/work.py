@@ -6,7 +6,7 @@ import re
 import signal
 from typing import Dict, Iterator, List, NamedTuple, Optional, Tuple
 
-from liq.nights import memory, parts, places, putting, rooms, starts, titles
+from liq.nights import lacking, memory, parts, places, putting, rooms, starts, titles
 from liq.nights.copies import Copies
 from liq.nights.failed import KEPT, Crowded, Failed, NoMemory
 from liq.nights.library import Library
@@ -65,6 +65,7 @@ class Night:
         self.tracks = 0                                     # how many cues have a name
         self.played: Dict[str, None] = {}                   # the names in the cues
         self.titles: List[str] = []                         # the lines of a table of them
+        self.empty, self.silence = "", ""                   # a list and a file that stand in for files that are not there
         self.line = Line(os.path.basename(station.outputs[0]))
 
     def go_on(self, is_dated: bool = False) -> List[str]:
@@ -145,7 +146,7 @@ class Night:
                  for k, (name, room) in enumerate(self.rooms.of.items())}
         seconds, written, size = self.write_lists(wanted)
         ticks = -(-left // tick) if seconds * rate >= left else max(1, int(seconds * rate) // tick)
-        script = self.rooms.first.write("part.liq", self.station.renamed({**names, **written}))
+        script = self.rooms.first.write("part.liq", self.station.renamed({**names, **written, **self.stand_ins()}, self.empty))
         try:
             gaps, frames = self.render(script, names, ticks), min(ticks * tick, left)
         except NoMemory:
@@ -178,6 +179,14 @@ class Night:
         for k, (name, entries) in enumerate(found.items()):
             written[name] = self.rooms.first.write(f"{k}.m3u", self.copies.text(name, entries, files))
         return seconds, written, self.size(found)
+
+    def stand_ins(self) -> Dict[str, str]:
+        """Writes what stands in for files that cannot be played; of each file the name of that."""
+        lack = self.station.lack
+        if lack.files:
+            self.empty = self.rooms.first.write(lacking.EMPTY, b"")
+            self.silence = self.rooms.first.write(lacking.SILENT, lacking.silence(self.station.rate))
+        return lack.names(self.empty, self.silence)
 
     def render(self, script: str, names: Dict[str, str], ticks: int) -> int:
         """Renders so many ticks, and answers at how many instants there was nothing to play."""
@@ -256,7 +265,7 @@ class Night:
         for path in names.values():
             if parts.Wave(path).frames > frames:
                 parts.cut(path, frames)
-            played += [name for _, rest in parts.cues(path + ".cue") if (name := title_of(rest))]
+            played += [name for _, rest in parts.cues(path + ".cue") if (name := title_of(rest)) and name != self.silence]
         self.tracks += len(played)
         self.played.update(dict.fromkeys(self.library.name_of(title)[0] for title in played))
         for turns in self.turns.values():
@@ -273,11 +282,13 @@ class Night:
                   f"{len(played)} track{'s' * (len(played) != 1)}")
 
     def name_cues(self, path: str) -> None:
-        """Puts the entries of the lists into a cue file, in place of the files that were decoded for them."""
-        if not self.library.names:
+        """Puts the entries of the lists into a cue file, in place of the files that were decoded for them. Silence has no
+        name."""
+        if not self.library.names and not self.silence:
             return
         lines = [(at, b" " + self.library.name_of(title)[0].encode(errors="surrogateescape")
-                  if (title := title_of(rest)) else rest) for at, rest in parts.cues(path)]
+                  if (title := title_of(rest)) and title != self.silence else rest if not title else b"")
+                 for at, rest in parts.cues(path)]
         parts.write_cues(path, lines)
 
     def run(self, is_anyway: bool) -> None:

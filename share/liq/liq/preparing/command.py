@@ -2,7 +2,7 @@
 import os
 import re
 import shutil
-from typing import Any, Callable, Dict, Iterator, List, Optional, Tuple
+from typing import Any, Callable, Dict, Iterator, List, NamedTuple, Optional, Tuple
 
 from liq.command import Stopped, tell
 from liq.failed import Broken, Failed, Usage
@@ -43,15 +43,26 @@ def examined(source: str, out: str) -> None:
         raise Failed(f"{shown(out)}: holds files that were not made by prepare; name a new folder", 4)
 
 
-def found_in(source: str, out: str) -> Tuple[Found, int, List[str], str, Callable[[str], bool]]:
-    """The sounds, how many other files lie between them, what is left out, how the list of all is called, and which other
-    sounds may be there, since their folder could not be read."""
+class Input(NamedTuple):
+    """The sounds, how many other files lie between them, lines on what is left out, how the list of all is called, which
+    other sounds may be there, since their folder could not be read, and the texts that a list has before its names."""
+    found: Found
+    others: int
+    told: List[str]
+    whole: str
+    is_unread: Callable[[str], bool] = lambda _: False
+    texts: Dict[str, Dict[str, str]] = {}
+
+
+def found_in(source: str, out: str) -> Input:
+    """What is to be made."""
     try:
         if os.path.isdir(source):
             below = sources.Below(source, out)
-            return below.found, below.others, below.told, "all.m3u", below.is_unread
+            return Input(below.found, below.others, below.told, "all.m3u", below.is_unread)
         whole = names.plain(os.path.splitext(os.path.basename(source))[0]) + ".m3u"
-        return sources.of_list(source), 0, [], whole, lambda _: False
+        named = sources.of_list(source)
+        return Input(named.found, 0, named.told, whole, texts=named.texts)
     except OSError as error:
         raise Failed(f"{shown(str(error.filename or source))}: {error.strerror}", 3) from None
 
@@ -83,22 +94,23 @@ def prepared(source: str, out: str, options: Options, companion: Companion, limi
     """Does the work, by the limits of liq, and answers the lines that are told and the status."""
     examined(source, out)
     os.makedirs(out, exist_ok=True)
-    found, others, told, whole, is_unread = found_in(source, out)
+    given = found_in(source, out)
     form = waves.Form(limits.rate, options["loudness"], options["whole"], limits.file_most)
     work = Work(out, form, Programs(), companion)
     try:
-        work.told += told
-        found = work.with_unseen(found, is_unread)
+        work.told += given.told
+        work.texts = given.texts
+        found = work.with_unseen(given.found, given.is_unread)
         work.examine(found, options["all_gone"])
         work.run(found, options["jobs"])
-        lines, size = work.write_lists(found, options["shuffle"], whole, os.path.isdir(source), limits)
+        lines, size = work.write_lists(found, options["shuffle"], given.whole, os.path.isdir(source), limits)
         long_ones, gone = work.long_ones(found), gone_text(work, found, options["prune"])
     finally:
         work.end()
     more = [*some_of(work.told, FILES, "files"), *some_of(long_ones, LISTS, "long sounds"), *some_of(lines, LISTS, "lists")]
     if gone:
         more.append(gone)
-    rest = f", {others} other files passed over" if others else ""
+    rest = f", {given.others} other files passed over" if given.others else ""
     more.append(f"{work.made} made, {work.kept} as before, {len(work.told)} to look at{rest}; "
                 f"{size.seconds / 3600:.1f} h, {size.bytes / 1e9:.1f} GB")
     is_bad = work.left or not size.bytes or options["strict"] and work.told

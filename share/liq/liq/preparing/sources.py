@@ -1,9 +1,10 @@
 """Which sounds are to be made: those below a folder, or those that a list names. Each is known by a relative path."""
 import os
 import stat
-from typing import Dict, List, Optional, Set, Tuple
+from typing import Dict, List, NamedTuple, Optional, Set, Tuple
 
 from liq.preparing import names
+from liq.preparing.entries import entries_of
 from liq.watching.names import shown
 
 
@@ -70,27 +71,38 @@ class Below:
         self.told.append(f"{shown(os.path.relpath(path, self.folder))}: left out: {why}")
 
 
-def of_list(name: str) -> List[Source]:
+class Named(NamedTuple):
+    """The sounds that a list names, the texts that stand there before them, and lines on what is passed over."""
+    found: List[Source]
+    texts: Dict[str, Dict[str, str]]
+    told: List[str]
+
+
+def of_list(name: str) -> Named:
     """The sounds that a list names; an entry counts from the folder of the call, or else from that of the list. Lines
     of one file are one source."""
     with open(name, "rb") as file:
-        data = file.read().removeprefix(b"\xef\xbb\xbf")
+        entries = entries_of(file.read())
     folder, found = os.path.dirname(name), []
     of_line: Dict[str, Source] = {}
     known: Dict[object, Source] = {}
     used: Set[str] = set()
     numbers: Dict[str, int] = {}
-    for line in map(os.fsdecode, data.split(b"\n")):
-        line = line.removesuffix("\r")
-        if not line or line.startswith("#"):
-            continue
+    texts: Dict[str, Dict[str, str]] = {}
+    others: Dict[str, None] = {}
+    for entry in entries:
+        line = entry.name
         if line not in of_line:
             path, key = place_of(line, folder)
             if key not in known:
                 known[key] = free(short(line), used, numbers), path
             of_line[line] = known[key]
         found.append(of_line[line])
-    return found
+        if entry.texts:
+            texts.setdefault(of_line[line][0], entry.texts)
+        others.update(dict.fromkeys(entry.others))
+    told = [f"{shown(name)}: what annotate: says is passed over, but for titles: {', '.join(map(shown, others))}"] if others else []
+    return Named(found, texts, told)
 
 
 def place_of(line: str, folder: str) -> Tuple[str, object]:

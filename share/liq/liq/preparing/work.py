@@ -51,6 +51,7 @@ class Work:
         self.made, self.kept, self.left = 0, 0, 0
         self.told: List[str] = []                           # of sounds that are left out or damaged, and of what was changed
         self.written: List[str] = []
+        self.texts: Dict[str, Dict[str, str]] = {}          # of sources the texts that a list has before their names
         self.unseen: Set[str] = set()                       # sources below folders that could not be read
         self.is_unread: Callable[[str], bool] = lambda source: False
         self.lock = locked(out)
@@ -105,7 +106,8 @@ class Work:
             new = self.names_for(source, taken, len(made.parts))
             taken.update(new)
             form = {"rate": self.form.rate, "loudness": self.form.loudness, "whole": self.form.whole}
-            told = {"state": state, **form, "sides": sound.sides, "parts": new, **sound.texts(), "remark": made.remark}
+            told = {"state": state, **form, "sides": sound.sides, "parts": new, **sound.texts(), "remark": made.remark,
+                    "estimate": sound.is_estimate}
             self.record.put(list(zip(new, made.parts)), (source, told))
             self.made += 1
         shutil.rmtree(os.path.join(self.room, str(number)), ignore_errors=True)
@@ -149,11 +151,22 @@ class Work:
                 continue
             kept = self.record.kept(source, path)
             if kept and self.is_kept(source, kept):
+                self.mend_remark(source, path, kept)
                 self.kept += 1
                 taken.update(kept["parts"])
             else:
                 todo.append((source, path))
         return todo, taken
+
+    def mend_remark(self, source: str, path: str, told: Dict[str, Any]) -> None:
+        """Takes back what an earlier version told of a whole file: that it is damaged, by a length that was an estimate."""
+        if not told.get("remark") or "estimate" in told:
+            return
+        try:
+            is_estimate = sounds.looked_at(self.programs, path).is_estimate
+        except (Broken, OSError):
+            return
+        self.record.put([], (source, {**told, "remark": "" if is_estimate else told["remark"], "estimate": is_estimate}))
 
     def run(self, found: Found, jobs: int) -> None:
         """Makes what is not there yet, several at once."""
@@ -216,8 +229,13 @@ class Work:
             file.write(data)
         self.record.put([(name, path)])
 
+    def told_of(self, source: str) -> Dict[str, Any]:
+        """What is known of a source. The texts of a list count for more than those of the file."""
+        told, texts = self.record.sources.get(source), self.texts.get(source)
+        return {**told, **(texts or {})} if told else {}
+
     def artist(self, source: str) -> str:
-        return str(self.record.sources.get(source, {}).get("artist", "")).casefold()
+        return str(self.told_of(source).get("artist", "")).casefold()
 
     def write_lists(self, found: Found, seed: Optional[int], whole: str, has_folders: bool,
                     limits: Facts) -> Tuple[List[str], Size]:
@@ -234,8 +252,8 @@ class Work:
             entries = [entry for member in members for entry in self.parts(member)]
             self.write(name, entries)
             lines.append(lists.line_of(self.record.at(name), entries, sizes, self.form.rate, limits))
-        known = [(source, self.record.sources.get(source)) for source in dict(found)]
-        self.write(lists.TITLES, [line for source, told in known if told and any(told.get(text) for text in sounds.TAGS)
+        known = [(source, self.told_of(source)) for source in dict(found)]
+        self.write(lists.TITLES, [line for source, told in known if any(told.get(text) for text in sounds.TAGS)
                                   for line in lists.titles_of(told, self.parts(source))])
         return lines, Size(sum(size.bytes for size in sizes.values()), sum(size.seconds for size in sizes.values()))
 

@@ -10,6 +10,7 @@ import tempfile
 from typing import IO, Any, Callable, Iterator, Optional, TypeVar, Union
 
 from liq.failed import Failed
+from liq.reading import patience
 from liq.reading.facts import Facts, Refused, Shared, Tokens, read_facts, read_tokens
 from liq.reading.programs import COMPANION, NotBuilt, program_of
 from liq.watching.names import shown
@@ -32,10 +33,11 @@ class NoPlan(NoAnswer):
 
 
 class Companion:
-    """The companion program at a path, and for how many seconds a call of it may run. It remembers what it answered of
-    the text of a script alone. What it says of files is asked anew each time."""
+    """The companion program at a path, and for how many seconds a call of it may run. Where none are given, a call may take as
+    long as it makes progress. It remembers what it answered of the text of a script alone. What it says of files is asked anew
+    each time."""
 
-    def __init__(self, path: str, seconds: float = SECONDS):
+    def __init__(self, path: str, seconds: Optional[float] = None):
         self.path, self.seconds = path, seconds
         self.limit: "dict[Optional[int], Union[Facts, Refused]]" = {}
         self.kept: "collections.OrderedDict[tuple[str, bytes], bytes]" = collections.OrderedDict()
@@ -58,7 +60,7 @@ class Companion:
     def plan_of(self, script: bytes) -> Union[Facts, Refused]:
         """The same in an empty folder: what a text sets and plays, without a look at its files, which may take long. Those
         that it names by a whole path are looked at."""
-        with temporary_folder("liq-plan-") as folder:
+        with empty_folder() as folder:
             return self.files_of(script, folder)
 
     def limits(self, rate: Optional[int] = None) -> Union[Facts, Refused]:
@@ -118,10 +120,10 @@ class Companion:
                     opened.write(given)
                 return self.call(verb, path, folder=folder, out=out)
         try:
-            done = subprocess.run([self.path, verb, file], input=given, stdout=out or subprocess.PIPE, stderr=subprocess.PIPE,
-                                  cwd=folder, check=False, timeout=self.seconds)
-        except subprocess.TimeoutExpired:
-            raise NoAnswer(f"{shown(file)}: no answer of the companion within {self.seconds:g} seconds", 5) from None
+            done = patience.run([self.path, verb, file], self.seconds or SECONDS, given, out or subprocess.PIPE, folder,
+                                is_patient=self.seconds is None)
+        except subprocess.TimeoutExpired as error:
+            raise NoAnswer(f"{shown(file)}: no answer of the companion within {error.timeout:g} seconds", 5) from None
         except ValueError:
             raise NoAnswer(f"{shown(file)}: a NUL in its name, which no file can have", 3) from None
         except OSError as error:
@@ -143,6 +145,27 @@ def text_of(file: str) -> Optional[bytes]:
         return text if len(text) <= MOST_KEPT else None
     except (OSError, ValueError):
         return None
+
+
+@contextlib.contextmanager
+def empty_folder() -> Iterator[str]:
+    """A folder in which nothing lies. Where the system has a name for open files, it has no other one while it is used, so that
+    no kill leaves it."""
+    try:
+        name = tempfile.mkdtemp(prefix="liq-plan-")
+        handle = os.open(name, os.O_RDONLY | os.O_DIRECTORY)
+    except OSError as error:
+        raise NoAnswer(f"a temporary folder: {error.strerror or error}", 4) from None
+    place = f"/proc/self/fd/{handle}"
+    has_place = os.path.isdir(place)
+    try:
+        if has_place:
+            os.rmdir(name)
+        yield place if has_place else name
+    finally:
+        os.close(handle)
+        if not has_place:
+            os.rmdir(name)
 
 
 @contextlib.contextmanager
@@ -170,7 +193,7 @@ def read(reader: "Callable[[dict[str, Any]], Told]", data: bytes, file: str, sha
         raise NoAnswer(f"{shown(file)}: the companion is of another version: {error!r}", 126) from None
 
 
-def companion_of(given: Optional[str] = None, seconds: float = SECONDS, may_build: bool = True) -> Companion:
+def companion_of(given: Optional[str] = None, seconds: Optional[float] = None, may_build: bool = True) -> Companion:
     """The companion beside a built program that is named, or else the one that is installed or of the checkout."""
     try:
         path = program_of(COMPANION, given, may_build)
