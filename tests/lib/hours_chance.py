@@ -25,23 +25,18 @@ def value(mark):
     return sum(((number - 1) % 7 if unit == "w" else number) * UNIT[unit] for number, unit in mark)
 
 
-@functools.lru_cache(maxsize=None)
-def seconds_in(period):
-    """Of each second of the week, how many seconds went by since its period began."""
-    return [second % period for second in range(WEEK)]
-
-
 @functools.lru_cache(maxsize=64)
 def leaf_table(leaf):
-    """A number whose bytes are 1 at each second of the week at which a mark or an interval holds, and else 0."""
+    """A number whose bytes are 1 at each second of the week at which a mark or an interval holds, and else 0. Of a period
+    each second is asked, and the week is so many of them, as the rule knows no more than the seconds since its start."""
+    period = max(PERIOD[mark[0][1]] for mark in leaf[1:])
     if leaf[0] == "at":
-        period, start, length = PERIOD[leaf[1][0][1]], value(leaf[1]), UNIT[leaf[1][-1][1]]
-        held = bytes([(x - start) % period < length for x in seconds_in(period)])
+        start, length = value(leaf[1]), UNIT[leaf[1][-1][1]]
+        held = bytes([(x - start) % period < length for x in range(period)])
     else:
-        seconds = seconds_in(max(PERIOD[mark[0][1]] for mark in leaf[1:]))
         a, b = map(value, leaf[1:])
-        held = bytes([a <= x < b for x in seconds] if a <= b else [x >= a or x < b for x in seconds])
-    return int.from_bytes(held, "big")
+        held = bytes([a <= x < b for x in range(period)] if a <= b else [x >= a or x < b for x in range(period)])
+    return int.from_bytes(held * (WEEK // period), "big")
 
 
 EACH = int.from_bytes(b"\1" * WEEK, "big")
@@ -100,7 +95,7 @@ def text(pred):
 
 def mark(words):
     """A mark of one to four units that follow one another."""
-    first = words.choice([0, 0, 1, 1, 1, 2, 3])
+    first = words.choice([0, 1, 1, 1, 2, 3])
     units = "whms"[first:first + words.choice([1, 1, 2, 2, 3, 4])]
     return tuple((words.randint(0, GREATEST[unit]), unit) for unit in units)
 

@@ -1,6 +1,6 @@
 """What is told of the week of the switches, as notes in the text of a picture."""
 import textwrap
-from typing import Dict, List
+from typing import Dict, Iterable, List
 
 from liq.weeks.told import Week
 
@@ -10,7 +10,7 @@ NOTE = f'shape=note, style=filled, fillcolor="#fff6dd", color="{COLOUR}", fontco
 LINE = f'style=dotted, color="{COLOUR}", arrowhead=none'
 
 
-def label(texts):
+def label(texts: Iterable[str]) -> str:
     """The lines of a note; no text of `week` has a sign that graphviz takes for its own."""
     return "\\n".join(line for text in texts for line in textwrap.wrap(text, WIDTH))
 
