@@ -9,9 +9,9 @@ import webbrowser
 from typing import List, NamedTuple
 
 from liq.failed import Usage
+from liq.guarded import Folder
 from liq.reading.companion import Companion
 from liq.reading.programs import COMPANION, LIQ, programs_of
-from liq.trying.folder import Folder
 from liq.trying.server import Server
 from liq.trying.station import Shown
 from liq.watching.names import shown
@@ -63,7 +63,7 @@ def main(words: List[str]) -> int:
     """Shows a station until a signal ends it."""
     call = call_of(words)
     program, path = programs_of((LIQ, COMPANION))
-    folder = Folder()
+    folder = Folder("liq-try-")
     station = Shown(call.file, program, Companion(path, SECONDS), folder)
     try:
         server = Server(station, call.port)

@@ -13,13 +13,13 @@ from liq.doctoring.findings import Finding
 from liq.doctoring.lists import findings_of_lists
 from liq.doctoring.looking import findings_of_singles
 from liq.doctoring.windows import findings_of_windows
+from liq.guarded import Folder
 from liq.hearing import Asked, whole_facts
 from liq.reading.companion import Companion, NoAnswer, NoPlan
 from liq.reading.facts import Facts, Refused, Tokens
 from liq.serving.looking import span_of, word_at
 from liq.trying.brought import OF_LANGUAGE, Brought, brought
 from liq.trying.calendar import Hours, switches_of
-from liq.trying.folder import Folder
 from liq.trying.lines import FAULT, SILENT, Mark, line_of, lines_of, plain, told_of
 from liq.trying.picture import Picture, picture_of
 from liq.watching.names import shown

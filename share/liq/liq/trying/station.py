@@ -4,11 +4,11 @@ import time
 from typing import Dict, Iterable, List, Optional
 
 from liq.failed import Failed
+from liq.guarded import Folder
 from liq.hearing import Asked
 from liq.reading.companion import Companion, NoAnswer
 from liq.reading.hours import WEEK
 from liq.trying.changes import Changes
-from liq.trying.folder import Folder
 from liq.trying.lines import plain
 from liq.trying.looks import Looked, State
 from liq.trying.moments import Moments
