@@ -51,9 +51,9 @@ class Page:
         own = {"PATH": "/usr/bin:/bin", "HOME": self.temporary, "TMPDIR": self.temporary, "LIQ_PROGRAMS": os.environ["LIQ_PROGRAMS"]}
         return {**own, **more}
 
-    def call(self, *words, **more):
-        """Starts the command; what it is."""
-        return subprocess.Popen([sys.executable, "-X", "utf8", COMMAND, *words], cwd=self.folder, stdin=subprocess.DEVNULL,
+    def call(self, *words, before=(), **more):
+        """Starts the command, behind these words of another one; what it is."""
+        return subprocess.Popen([*before, sys.executable, "-X", "utf8", COMMAND, *words], cwd=self.folder, stdin=subprocess.DEVNULL,
                                 stdout=subprocess.PIPE, stderr=subprocess.PIPE, **{"env": self.environment(), **more})
 
     def start(self, file="station.liq", **more):

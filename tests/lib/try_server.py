@@ -4,10 +4,11 @@ import resource
 import shutil
 import signal
 import subprocess
+import sys
 import threading
 import time
 
-from lib.common import content
+from lib.common import TOP, content
 from lib.try_page import LIVE, SET, STATION
 
 LATE = 2.0             # seconds within which a change is seen on a machine with other work; a second on one without
@@ -257,15 +258,17 @@ def scripts_that_are_none(page):
 
 
 def many_saves_are_one_look(page):
-    """200 saves within four seconds: one look behind them, perhaps two."""
+    """200 saves within ten seconds: one look behind them, and one more for each time that this process waited for others."""
     state = page.whole(page.start())
+    before, waits = time.monotonic(), 0
     for k in range(200):
         page.write("station.liq", STATION + f"# {k}\n")
-        time.sleep(0.02)
+        time.sleep(0.04)
+        waits, before = waits + (time.monotonic() - before > 0.15), time.monotonic()
     last, _ = page.later(state["number"], lambda other: ["# 199"] in other["lines"])
     count = last["number"] - state["number"]
-    if ["# 199"] not in last["lines"] or count > 4:                  # a look is told twice: with and without its picture
-        yield f"{count} states, the last line {last['lines'][-2:]}"
+    if ["# 199"] not in last["lines"] or count > 2 * (1 + waits):    # a look is told twice: with and without its picture
+        yield f"{count} states, {waits} waits, the last line {last['lines'][-2:]}"
 
 
 def names_of_every_kind(page):
@@ -284,8 +287,10 @@ def names_of_every_kind(page):
         yield f"the tracks are {names[:5]}"
 
 
-def without_graphviz(page):
-    """Where a program is missing the page says it, and the rest works."""
+def without_programs(page):
+    """Where graphviz and ffmpeg are missing the page says it, and the rest works."""
+    page.write("music.m3u", "one.wav\ntwo.mp3\n")
+    page.write("two.mp3", b"ID3\4" + bytes(6) + b"\xff\xfb\x90\0" * 500)
     tools = os.path.join(page.temporary, "tools")
     os.mkdir(tools)
     for name in ("sh", "rm", "python3"):
@@ -293,13 +298,56 @@ def without_graphviz(page):
     state = page.whole(page.start(env=page.environment(PATH=tools)))
     if "graphviz is missing" not in state["picture"].get("note", "") or state["verdict"] != "taken":
         yield f"the picture is {state['picture']}"
+    if "ffmpeg is missing: install the package ffmpeg, and 1 sound of the lists can be heard here" not in str(state["sounds"]["found"]):
+        yield f"the sounds are {state['sounds']}"
     if "outputs" not in page.told(f"hear?at={FRIDAY}&for=5"):
         yield "nothing is heard"
 
 
+def other_formats_are_heard(page):
+    """A list of MP3, decoded by ffmpeg where it is installed: what is said of it, and its tracks."""
+    if not shutil.which("ffmpeg"):
+        return
+    subprocess.run(["ffmpeg", "-loglevel", "error", "-i", "two.wav", "-metadata", "title=Two", "two.mp3"], cwd=page.folder, check=True)
+    page.write("music.m3u", "two.mp3\none.wav\n")
+    state = page.whole(page.start())
+    found = [line for line, _ in state["sounds"]["found"][:2]]
+    wanted = ["1 sound of the lists: decoded by ffmpeg here, as liq night does; liq render plays WAV files alone", "list music.m3u: 2 entries are played"]
+    if (found, state["sounds"]["used"]) != (wanted, 4):
+        yield f"the sounds are {state['sounds']}"
+    told = page.told(f"hear?at={FRIDAY + 120}&for=20")
+    if [track["name"] for track in told["outputs"][0]["tracks"]] != ["Two", "one.wav"]:
+        yield f"it plays {str(told)[:300]}"
+
+
+def faults_end_it(page):
+    """Where the command itself is at fault: one line and status 126, and nothing is left."""
+    code = (f"import sys\nsys.path.insert(0, {os.path.join(TOP, 'share', 'liq')!r})\nimport liq.trying.looks as looks\n"
+            "looks.Looked.marks = lambda self: [][0]\nfrom liq.command import run\nfrom liq.trying.command import main\n"
+            "sys.argv[1:] = ['--no-browser', 'station.liq']\nrun(main, '', 'liq-try')\n")
+    page.process = subprocess.Popen([sys.executable, "-X", "utf8", "-c", code], cwd=page.folder, env=page.environment(),
+                                    stdin=subprocess.DEVNULL, stdout=subprocess.PIPE, stderr=subprocess.PIPE)
+    _, err = page.process.communicate(timeout=60)
+    last = err.decode().splitlines()[-1]
+    if page.process.returncode != 126 or "liq-try: a fault of this command, at " not in last or b"Traceback" in err:
+        yield f"it ends with {page.process.returncode}: {err!r}"
+
+
 def a_full_disk(page):
-    """Where a file cannot grow, as on a full disk: a line, and the page goes on."""
+    """Where a file cannot grow, and on a temporary disk that is full, where this user may make one: a line, and the page
+    goes on."""
     page.start(preexec_fn=lambda: resource.setrlimit(resource.RLIMIT_FSIZE, (200000, 200000)))
+    yield from too_long_for_a_disk(page)
+    page.ended()
+    own = ["unshare", "-rm"]
+    if subprocess.run([*own, "true"], stderr=subprocess.DEVNULL, check=False).returncode == 0:
+        mount = 'mount -t tmpfs -o size=400k none "$TMPDIR" && exec "$@"'
+        page.start(before=[*own, "sh", "-c", mount, "sh"])
+        yield from too_long_for_a_disk(page)
+
+
+def too_long_for_a_disk(page):
+    """What differs where a minute has no room, and five seconds have."""
     told = page.told(f"hear?at={FRIDAY}&for=60")
     if not isinstance(told.get("error"), str):
         yield f"it is {str(told)[:80]}"
@@ -309,4 +357,4 @@ def a_full_disk(page):
 
 RUNS = (the_verdict_follows_the_file, a_live_script_is_brought_over, lists_and_sounds_are_followed, the_week_is_told, a_moment_is_that_of_liq, moments_that_are_none,
         a_later_call_ends_the_one_before, others_find_nothing, the_words_of_a_call, signals_leave_nothing, scripts_that_are_none,
-        many_saves_are_one_look, names_of_every_kind, without_graphviz, a_full_disk)
+        many_saves_are_one_look, names_of_every_kind, without_programs, other_formats_are_heard, a_full_disk, faults_end_it)

@@ -3,14 +3,14 @@ heard at a moment of its week."""
 import atexit
 import os
 import re
-import shutil
 import subprocess
-import tempfile
 from dataclasses import dataclass
 from functools import cached_property
 from typing import Dict, List, NamedTuple, Optional, Tuple, Union
 
 from liq.advising.lines import Advice, place_of
+from liq.failed import Failed
+from liq.guarded import Folder
 from liq.hearing import Asked, Rendering, whole_facts
 from liq.heard import Heard
 from liq.moments import length_of, second_of
@@ -77,10 +77,11 @@ class Key(NamedTuple):
 
 
 class Store:
-    """The renderings of this process, in a folder that goes when it ends."""
+    """The renderings of this process, in a folder that goes when it ends, also where a signal ends it."""
 
     def __init__(self) -> None:
-        self.folder, self.made = "", {}                     # type: Tuple[str, Dict[Key, Rendering]]
+        self.folder: Optional[Folder] = None
+        self.made: Dict[Key, Rendering] = {}
 
     def rendering(self, key: Key, asked: Asked) -> Rendering:
         """The rendering of a key, which is made once."""
@@ -93,13 +94,13 @@ class Store:
 
     def place(self) -> str:
         """The name of a folder that is not there yet."""
-        if not self.folder:
+        if self.folder is None:
             try:
-                self.folder = tempfile.mkdtemp(prefix="liq-heard-")
-            except OSError as error:
-                raise NoAnswer(f"a temporary folder: {error.strerror}", 4) from None
-            atexit.register(shutil.rmtree, self.folder, True)
-        return os.path.join(self.folder, str(len(self.made)))
+                self.folder = Folder("liq-heard-")
+            except Failed as error:
+                raise NoAnswer(str(error), error.status) from None
+            atexit.register(self.folder.end)
+        return self.folder.at(str(len(self.made)))
 
     def bound(self, last: Rendering) -> None:
         """Removes the oldest sounds where there are too many."""

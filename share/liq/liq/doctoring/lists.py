@@ -2,18 +2,20 @@
 import collections
 import os
 import re
-from typing import Iterator, Optional
+from typing import Dict, Iterator, Optional, Tuple
 
 from liq.doctoring.findings import SHOWN, Finding, Told, counted, weighed
 from liq.doctoring.paths import absence_of, trouble_of
 from liq.doctoring.sounds import trouble_of_sound
-from liq.reading.facts import Facts, Listed
+from liq.reading.facts import Facts, Listed, Sound
 from liq.watching.names import shown
 
 SILENCE = "; where the list is to be played there is silence, or what stands behind it"
 ADDRESS = "is an address, and nothing is fetched"
 ANNOTATED = "has annotate: before its name; liq-prepare reads such a list, and writes one of names alone"
 LINE_OF_PLS = "is a line of a PLS list; liq-prepare reads it, and writes a list of names alone"
+ADDRESSED = re.compile(r"\w+://")
+LOOKED = 256           # files of one ending, in a row and of one form, after which no more of them are opened
 
 
 class Entries:
@@ -22,10 +24,14 @@ class Entries:
 
     def __init__(self, listed: Listed, facts: Facts):
         self.listed, self.played = listed, 0
+        self.folder = os.path.dirname(listed.name)
+        self.absent: Dict[str, str] = {}                    # by the folder of a file why it is not there
+        # by the fault and the ending of a file its form, and how many files in a row are of that form
+        self.forms: Dict[Tuple[int, str], Tuple[Optional[str], int]] = {}
         self.skipped, self.ending = collections.defaultdict(list), collections.defaultdict(list)
         for entry in listed.entries:
             sound = facts.sounds[entry]
-            trouble = trouble_of_sound(sound, facts)
+            trouble = None if sound.is_used else self.trouble(sound, facts)
             if trouble is None:
                 self.played += 1
             elif sound.state == "unread" and not is_address(entry):
@@ -33,9 +39,27 @@ class Entries:
             else:
                 self.skipped[self.reason(entry, trouble, sound.state == "missing")].append(entry)
 
+    def trouble(self, sound: Sound, facts: Facts) -> Optional[str]:
+        """Why a sound is not played. The folder of a file that is not there is looked for once. A file that liq does not
+        read is opened, but not after many of its ending, in a row, are of one form."""
+        if sound.state == "missing":
+            folder = sound.name.rpartition("/")[0]
+            if folder not in self.absent:
+                self.absent[folder] = absence_of(sound.name)
+            return self.absent[folder]
+        if sound.state != "not wav":
+            return trouble_of_sound(sound, facts)
+        kind = sound.fault, os.path.splitext(sound.name)[1].lower()
+        form, count = self.forms.get(kind, (None, 0))
+        if count < LOOKED:
+            found = trouble_of_sound(sound, facts)
+            self.forms[kind] = (found, count + 1) if not count or found == form else (found, 1)
+            return found
+        return form
+
     def reason(self, entry: str, trouble: str, is_missing: bool) -> str:
         """Why an entry is left out."""
-        folder = os.path.dirname(self.listed.name)
+        folder = self.folder
         if is_address(entry):
             return ADDRESS
         if is_missing and entry.startswith("annotate:"):
@@ -65,7 +89,7 @@ class Entries:
 
 
 def is_address(entry: str) -> bool:
-    return re.match(r"\w+://", entry) is not None
+    return "://" in entry and ADDRESSED.match(entry) is not None
 
 
 def some_of(entries: "list[str]") -> str:

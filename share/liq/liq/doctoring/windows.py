@@ -1,7 +1,8 @@
 """A case of a switch that plays one sound whose length does not fit its windows: when in the week this case is the first
 that holds."""
+import itertools
 import math
-from typing import Dict, Iterator, Optional
+from typing import Dict, Iterator, List, Optional
 
 from liq.doctoring.findings import Told
 from liq.reading.companion import Companion
@@ -24,11 +25,17 @@ def one_sound(facts: Facts, source: Source) -> "tuple[Optional[Sound], bool]":
     if source.op == "single" and source.file is not None:
         names, again = [source.file], True
     elif source.op == "playlist":
-        names, again = [name for listed in facts.lists if listed.name == source.file for name in facts.playable(listed)], bool(source.again)
+        names, again = first_names(facts, source.file), bool(source.again)
     else:
         return None, False
     sound = facts.sounds[names[0]] if len(names) == 1 else None
     return (sound, again) if sound and sound.is_used else (None, False)
+
+
+def first_names(facts: Facts, file: Optional[str]) -> List[str]:
+    """The first two entries of a list that are played."""
+    entries = (name for listed in facts.lists if listed.name == file for name in listed.entries)
+    return list(itertools.islice((name for name in entries if facts.sounds[name].is_used), 2))
 
 
 def lasting(seconds: float) -> str:

@@ -13,7 +13,7 @@ SHOWN = 8              # names in a line
 
 def with_decoded(facts: Facts) -> Facts:
     """What is decoded is as good as a sound that liq reads."""
-    sounds = {name: dataclasses.replace(sound, state="used") if sound.state in DECODED else sound
+    sounds = {name: sound._replace(state="used") if sound.state in DECODED else sound
               for name, sound in facts.sounds.items()}
     return dataclasses.replace(facts, sounds=sounds)
 

@@ -1,7 +1,7 @@
 """The command liq-page: a page of what a rendering played."""
 import re
 import sys
-from typing import Any, Dict, List
+from typing import Any, Callable, Dict, List, Optional, Tuple
 
 from liq.command import tell
 from liq.failed import Failed, Usage
@@ -12,7 +12,7 @@ from liq.pages.outputs import read_output
 from liq.pages.sounds import NoSound
 from liq.pages.times import read_date, read_start, second_of
 from liq.pages.titles import read_titles, tables_beside
-from liq.reading.companion import NoAnswer, NoPlan, companion_of
+from liq.reading.companion import Companion, NoAnswer, NoPlan, companion_of
 from liq.weeks.spans import spans_of
 from liq.weeks.told import told
 
@@ -24,23 +24,24 @@ STANDARD: Dict[str, Any] = {
     "titles": [], "note": []}
 
 
-def read_silence(text):
+def read_silence(text: str) -> Optional[float]:
     seconds = float(text) if re.fullmatch(r"[0-9]{1,4}(\.[0-9]{1,3})?", text) else 0
     return seconds or None
 
 
-def read_form(text):
+def read_form(text: str) -> Optional[str]:
     return text if text in ("html", LOG) or text in FORMS else None
 
 
-READERS = {"start": read_start, "silence": read_silence, "as": read_form, "title": str,
-           "week": str, "sound": lambda text: text or None}
+READERS: Dict[str, Callable[[str], Any]] = {"start": read_start, "silence": read_silence, "as": read_form, "title": str,
+                                            "week": str, "sound": lambda text: text or None}
 SEVERAL = ("titles", "note")
 
 
-def words_of(words):
+def words_of(words: List[str]) -> Optional[Tuple[Dict[str, Any], List[List[str]]]]:
     """The options and the outputs, each a list of files that follow each other; None where the words are wrong."""
-    options, outputs = {}, []
+    options: Dict[str, Any] = {}
+    outputs: List[List[str]] = []
     for word in words:
         option, equals, value = word.removeprefix("--").partition("=")
         if not word.startswith("--"):
@@ -51,9 +52,8 @@ def words_of(words):
             outputs[-1].append(value)
         elif option in SEVERAL and equals:
             options[option] = options.get(option, []) + [value]
-        elif option == "start" and equals and option not in options and read_date(value):
-            options["date"] = read_date(value)
-            options["start"] = second_of(options["date"])
+        elif option == "start" and equals and option not in options and (date := read_date(value)):
+            options["date"], options["start"] = date, second_of(date)
         elif option in READERS and equals and option not in options:
             options[option] = READERS[option](value)
         else:
@@ -63,21 +63,22 @@ def words_of(words):
     return {**STANDARD, **options}, outputs
 
 
-def read_report(data):
+def read_report(data: bytes) -> Tuple[Dict[str, int], List[Tuple[str, ...]]]:
     """The outputs of a report with their gaps, and its buffers. A line is read from its right end, since a name may
     hold any words."""
-    outputs, buffers = {}, []
+    outputs: Dict[str, int] = {}
+    buffers: List[Tuple[str, ...]] = []
     for line in data.decode("utf-8", "surrogateescape").split("\n"):
         output = re.fullmatch(r"output (.*) samples [0-9]+ gaps ([0-9]{1,20})", line, re.DOTALL)
         buffer = re.fullmatch(r"buffer ([0-9]+) accepted ([0-9]+) full ([0-9]+) got ([0-9]+) empty ([0-9]+)", line)
         if output:
             outputs[output[1]] = int(output[2])
         elif buffer:
-            buffers.append(buffer.groups())
+            buffers.append(tuple(buffer.groups()))
     return outputs, buffers
 
 
-def hours_of(companion, script):
+def hours_of(companion: Companion, script: str) -> Hours:
     """What is told of the week of a script, or of none."""
     if not script:
         return Hours([])
@@ -92,9 +93,10 @@ def hours_of(companion, script):
     return Hours([(f"{line.place or 'a switch'}: {line.text}", spans_of(line.text)) for line in week.once()])
 
 
-def made(options, names):
+def made(options: Dict[str, Any], names: List[List[str]]) -> str:
     """The text that is asked for."""
-    gaps, buffers = {}, []
+    gaps: Dict[str, int] = {}
+    buffers: List[Tuple[str, ...]] = []
     if not names:
         with open(0, "rb", closefd=False) as file:
             gaps, buffers = read_report(file.read())

@@ -1,19 +1,22 @@
 """The page of a rendering, as one HTML document that loads nothing."""
 import json
 import os
+from typing import Any, Dict, Sequence
 from urllib.parse import quote
 
 from liq.pages.hours import Hours
 from liq.pages.marks import isolated, places, shown
+from liq.pages.outputs import Output
 from liq.pages.story import Story
 from liq.pages.tables import by_file, by_time, of_buffers, within
 from liq.pages.timeline import QUIETEST, Timeline
+from liq.pages.titles import Titles
 
 FINDABLE = 20  # lines above which a field to find some is there
 HERE = os.path.dirname(os.path.abspath(__file__))
 
 
-def facts(story):
+def facts(story: Story) -> str:
     """What a glance should give. What somebody should see has a triangle and is bold."""
     output, clock = story.output, story.clock
     told = [("length", clock.length(output.length), False)]
@@ -32,7 +35,7 @@ def facts(story):
     return f"<dl>{''.join(items)}</dl>"
 
 
-def legend(story, hours):
+def legend(story: Story, hours: Hours) -> str:
     """What the colours and forms say; only what occurs."""
     output, kinds = story.output, story.kinds
     told = [
@@ -49,7 +52,7 @@ def legend(story, hours):
     return f'<p class=legend>{"".join(f"<span>{text}</span>" for occurs, text in told if occurs)}</p>'
 
 
-def finder(story):
+def finder(story: Story) -> str:
     """A field to find plays by parts of names, where there are many; or that there is no cue file."""
     if not story.output.has_cues:
         return (f"<p class=soft>No list of starts lies beside this output ({isolated(story.output.name + '.cue')}): "
@@ -60,12 +63,12 @@ def finder(story):
             "<output></output></p>")
 
 
-def address(name, folder):
+def address(name: str, folder: str) -> str:
     """The address of a file, seen from a page that lies in a folder."""
     return quote(os.fsencode(name if os.path.isabs(name) else "./" + os.path.relpath(name, folder)))
 
 
-def player(output, folder):
+def player(output: Output, folder: str) -> str:
     """What plays the files of an output, seen from the folder of the page: of each where it begins, in seconds, and
     its address."""
     files = [[first / output.rate, address(name, folder)] for name, (first, _) in zip(output.names, output.parts)]
@@ -76,7 +79,7 @@ def player(output, folder):
             "plays what is chosen, and stops.</p>")
 
 
-def section(story, folder, hours):
+def section(story: Story, folder: str, hours: Hours) -> str:
     """One output, with a player where the page is to lie in a folder, and the hours in which no case of a switch holds."""
     parts = [f"<h2 id=o{story.number}>{isolated(story.output.name)}</h2>", facts(story)]
     if folder and story.output.length:
@@ -92,7 +95,7 @@ def section(story, folder, hours):
     return f"<section data-output>{''.join(parts)}{within(story)}</section>"
 
 
-def links(stories):
+def links(stories: Sequence[Story]) -> str:
     """Links to the outputs, or to the tables of a single one."""
     found = [(f"o{story.number}", isolated(story.output.name)) for story in stories]
     if len(stories) == 1:
@@ -101,7 +104,7 @@ def links(stories):
     return f"<nav>{items}</nav>" if items else ""
 
 
-def when(stories):
+def when(stories: Sequence[Story]) -> str:
     """Day and clock time of the begin and the end of the longest output."""
     longest = max(stories, key=lambda story: story.clock.seconds)
     clock, end = longest.clock, longest.output.length
@@ -109,13 +112,14 @@ def when(stories):
     return f"{clock.day(0)} {clock.text(0, False)} to {last_day}{clock.text(end, False)}"
 
 
-def beside(name):
+def beside(name: str) -> str:
     """The text of a file that lies beside this module."""
     with open(f"{HERE}/{name}", encoding="utf-8") as file:
         return file.read()
 
 
-def document(options, outputs, buffers, titles, hours=Hours([])):
+def document(options: Dict[str, Any], outputs: Sequence[Output], buffers: Sequence[Sequence[str]], titles: Titles,
+             hours: Hours = Hours([])) -> str:
     """The page of these outputs, by the options of the call: its title, the second of the week at which all start,
     notes below the heading, and the folder in which it will lie where it is to play them; with the hours in which no
     case of a switch holds."""

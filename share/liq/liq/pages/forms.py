@@ -2,12 +2,17 @@
 import csv
 import io
 from datetime import datetime, timedelta
+from typing import Callable, Dict, Iterable, List
+
+from liq.pages.outputs import Output
+from liq.pages.plays import Play
+from liq.pages.titles import Titles
 
 TRACKS = 99            # of a cue sheet
 HEAD = ["date", "time", "seconds", "artist", "title", "album", "isrc", "label", "file"]
 
 
-def shown_name(play, titles):
+def shown_name(play: Play, titles: Titles) -> str:
     return titles.of(play.name) if play.name is not None else "(no title)"
 
 
@@ -16,20 +21,21 @@ def one_line(text: str) -> str:
     return "".join(" " if ord(c) < 32 or c in "\x7f\x85\u2028\u2029" else c for c in text)
 
 
-def labels(output, titles):
+def labels(output: Output, titles: Titles) -> str:
     """A label track of Audacity: seconds from, seconds to, name, with TABs between."""
     return "".join(f"{p.start / output.rate:.6f}\t{p.end / output.rate:.6f}\t{one_line(shown_name(p, titles))}\n"
                    for p in output.plays)
 
 
-def sheet(output, titles):
+def sheet(output: Output, titles: Titles) -> str:
     """A cue sheet of players and disc writers, with 75 frames a second. A name in it has no double quote. A sheet ends
     at 99 tracks, so more of them are several sheets, each behind a remark with its number."""
-    def quoted(text):
+    def quoted(text: str) -> str:
         return one_line(text).replace('"', "''")
     entries = [(name, first, play) for name, (first, sound) in zip(output.names, output.parts)
                for play in output.plays if first <= play.start < first + sound.frames]
-    lines, sheets = [], -(-len(entries) // TRACKS)
+    lines: List[str] = []
+    sheets = -(-len(entries) // TRACKS)
     for k, (name, first, play) in enumerate(entries):
         if sheets > 1 and k % TRACKS == 0:
             lines.append(f"REM SHEET {k // TRACKS + 1} OF {sheets}\n")
@@ -41,7 +47,7 @@ def sheet(output, titles):
     return "".join(lines)
 
 
-def chapters(output, titles):
+def chapters(output: Output, titles: Titles) -> str:
     """Chapters in the form of ffmpeg's metadata, to the sample."""
     lines = [";FFMETADATA1\n"]
     for p in output.plays:
@@ -52,9 +58,9 @@ def chapters(output, titles):
     return "".join(lines)
 
 
-def vtt(output, titles):
+def vtt(output: Output, titles: Titles) -> str:
     """Chapters for the track element of a web page, in milliseconds."""
-    def time(frame):
+    def time(frame: int) -> str:
         unit = frame * 1000 // output.rate
         return f"{unit // 3600000:02}:{unit // 60000 % 60:02}:{unit // 1000 % 60:02}.{unit % 1000:03}"
     lines = ["WEBVTT\n"]
@@ -65,7 +71,7 @@ def vtt(output, titles):
     return "".join(lines)
 
 
-def tsv(output, titles):
+def tsv(output: Output, titles: Titles) -> str:
     """All that is known of each play, in instants: for a spreadsheet, or a script."""
     lines = ["start\tend\tname\tfrom\tleft\tending\toverlap\n"]
     for p in output.plays:
@@ -74,12 +80,12 @@ def tsv(output, titles):
     return "".join(lines)
 
 
-def cell(text):
+def cell(text: str) -> str:
     """A text as a cell that a program for tables takes for a text, and for no formula."""
     return "'" + text if text[:1] in ("=", "+", "-", "@") else text
 
 
-def log(outputs, titles, begin: datetime) -> str:
+def log(outputs: Iterable[Output], titles: Titles, begin: datetime) -> str:
     """A table of all that was played, by the clock of the wall: CSV with a head. A play that goes on where its file was
     left has a line of its own. The seconds of a track that is faded into the next one are all in which it is heard."""
     text = io.StringIO()
@@ -97,4 +103,4 @@ def log(outputs, titles, begin: datetime) -> str:
     return text.getvalue()
 
 
-FORMS = {"labels": labels, "sheet": sheet, "chapters": chapters, "vtt": vtt, "tsv": tsv}
+FORMS: Dict[str, Callable[[Output, Titles], str]] = {"labels": labels, "sheet": sheet, "chapters": chapters, "vtt": vtt, "tsv": tsv}

@@ -1,17 +1,21 @@
 """The hours in which no case of a switch holds, below the rows of a timeline."""
+from typing import Iterable, Iterator, List, Tuple
+
 from liq.pages.marks import percent, shown
+from liq.pages.times import Clock
 
 WEEK = 604800
+Spans = List[Tuple[int, int]]
 
 
 class Hours:
     """What is told of switches: of each a text, and the spans of the week, as pairs of a first second and one
     behind the last."""
 
-    def __init__(self, told):
+    def __init__(self, told: Iterable[Tuple[str, Spans]]):
         self.told = [(text, spans) for text, spans in told if spans]
 
-    def stretches(self, spans, clock, low, high):
+    def stretches(self, spans: Spans, clock: Clock, low: int, high: int) -> Iterator[Tuple[float, float]]:
         """The stretches of a row of instants that lie in spans."""
         for first, end in spans:
             for week in range(int(clock.start + clock.seconds) // WEEK + 1):
@@ -20,7 +24,7 @@ class Hours:
                 if start < stop:
                     yield start, stop
 
-    def row(self, clock, low, high):
+    def row(self, clock: Clock, low: int, high: int) -> str:
         """The strip of a row; nothing where there are no such hours at all."""
         parts = []
         for text, spans in self.told:

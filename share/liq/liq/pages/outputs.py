@@ -1,12 +1,13 @@
 """Outputs: WAV files that follow each other, with what was played in them and where they are silent."""
 import bisect
 from dataclasses import dataclass, field
-from typing import Optional
+from typing import Iterable, Iterator, List, Optional, Sequence, Tuple
 
 from liq.pages.cues import cues_of
-from liq.pages.plays import Listener
+from liq.pages.plays import Cue, Listener, Play, Run
 from liq.pages.shelf import Shelf
-from liq.pages.sounds import NoSound, sound_of
+from liq.pages.sounds import NoSound, Sound, sound_of
+from liq.reading.companion import Companion
 
 
 @dataclass
@@ -21,21 +22,21 @@ class Silence:
 @dataclass
 class Output:
     """One WAV file, or several that follow each other, of one rate and one number of channels."""
-    names: list
+    names: List[str]
     rate: int = 0
     channels: int = 0
     length: int = 0
     gaps: Optional[int] = None
-    parts: list = field(default_factory=list)      # pairs (first instant, Sound)
-    plays: list = field(default_factory=list)
-    silences: list = field(default_factory=list)
+    parts: List[Tuple[int, Sound]] = field(default_factory=list)   # each with its first instant
+    plays: List[Play] = field(default_factory=list)
+    silences: List[Silence] = field(default_factory=list)
     has_cues: bool = False
 
     @property
-    def name(self):
+    def name(self) -> str:
         return self.names[0]
 
-    def power(self, start, end):
+    def power(self, start: int, end: int) -> float:
         """The mean square of a stretch."""
         total = 0.0
         for first, sound in self.parts:
@@ -44,7 +45,7 @@ class Output:
                 total += sound.power(low - first, high - first) * (high - low)
         return total / max(1, end - start)
 
-    def add(self, name, least_silence, shelf):
+    def add(self, name: str, least_silence: float, shelf: Shelf) -> None:
         """Adds a file behind those that are there."""
         sound = sound_of(shelf.companion, name)
         if self.parts and (sound.rate, sound.channels) != (self.rate, self.channels):
@@ -67,7 +68,7 @@ class Output:
         self.length += sound.frames
 
 
-def read_output(names, least_silence, companion):
+def read_output(names: Iterable[str], least_silence: float, companion: Companion) -> Output:
     """An output of files that follow each other; silence is told from so many seconds on."""
     output, shelf = Output(list(names)), Shelf(companion)
     for name in names:
@@ -75,28 +76,28 @@ def read_output(names, least_silence, companion):
     return output
 
 
-def zeros_of(cues, sound, least):
+def zeros_of(cues: Sequence[Cue], sound: Sound, least: int) -> List[Run]:
     """The silent stretches of a file, cut where tracks start: many recordings begin with zeros, and what stands
     before a start belongs to the track that ended."""
     found = sound.silences(least)
-    starts, cut = [start for start, _ in cues], []
+    starts, cut = [start for start, _ in cues], []                 # type: Tuple[List[int], List[Run]]
     for low, high in sorted(found + untitled_zeros(cues, sound, found)):
         inner = starts[bisect.bisect_right(starts, low):bisect.bisect_left(starts, high)]
         cut += zip([low] + inner, inner + [high])
     return cut
 
 
-def untitled_zeros(cues, sound, known):
+def untitled_zeros(cues: Sequence[Cue], sound: Sound, known: Sequence[Run]) -> List[Run]:
     """Stretches without a title that are zero all along, however short, and not yet known."""
     found, lows = [], [low for low, _ in known]
-    for (start, name), (end, _) in zip(cues, cues[1:] + [(sound.frames, None)]):
+    for (start, name), (end, _) in zip(cues, [*cues[1:], (sound.frames, None)]):
         k = bisect.bisect_right(lows, start) - 1
         if name is None and not (k >= 0 and end <= known[k][1]) and sound.is_zero(start, end):
             found.append((start, end))
     return found
 
 
-def told(silences, plays, least):
+def told(silences: Iterable[Run], plays: Sequence[Play], least: int) -> Iterator[Silence]:
     """What is told of silent stretches: what lies in a recording, and what lies behind its end or has no title."""
     starts = [play.start for play in plays]
     for low, high in silences:

@@ -2,11 +2,16 @@
 import bisect
 from dataclasses import dataclass
 from operator import mul
-from typing import Optional
+from typing import Dict, List, Optional, Sequence, Tuple
+
+from liq.pages.shelf import Shelf
+from liq.pages.sounds import Sound
 
 UNLIKE = 0.9  # a misfit above which two sounds have nothing to do with each other
 LIKE = 0.02   # one below which one sound is the other
 TAIL = 4096   # instants at the end of a play that are compared
+Cue = Tuple[int, Optional[str]]         # where a track starts, and its title
+Run = Tuple[int, int]                   # a stretch of instants
 
 
 @dataclass
@@ -26,44 +31,44 @@ class Play:
 class Listener:
     """Compares one output with the files that were played in it."""
 
-    def __init__(self, sound, cues, silences, shelf):
+    def __init__(self, sound: Sound, cues: Sequence[Cue], silences: List[Run], shelf: Shelf):
         self.sound, self.cues, self.silences, self.shelf = sound, cues, silences, shelf
         self.ends = {high: low for low, high in silences}
-        self.paused = {}       # where files stand that were left before their ends, the last one last
+        self.paused: Dict[Optional[str], List[int]] = {}   # where files stand that were left before their ends, the last one last
 
-    def plays(self):
+    def plays(self) -> List[Play]:
         """The plays of the output, in order."""
-        found = []
+        found: List[Play] = []
         for k in range(len(self.cues)):
             found += self.track(k, found[-1] if found else None)
         return found
 
-    def start_of(self, k):
+    def start_of(self, k: int) -> int:
         """Where the k-th track starts; behind the last one the end of the output."""
         return self.cues[k][0] if k < len(self.cues) else self.sound.frames
 
-    def silences_within(self, start, end):
+    def silences_within(self, start: int, end: int) -> List[Run]:
         """The silent stretches from this start on that are over before this end."""
         first, last = bisect.bisect_left(self.silences, (start, 0)), bisect.bisect_left(self.silences, (end, 0))
         return [run for run in self.silences[first:last] if run[1] < end]
 
-    def last_sound(self, start, end):
+    def last_sound(self, start: int, end: int) -> int:
         """Where the silence before this end begins; the end where there is none behind this start."""
         silent = self.ends.get(end, end)
         return silent if start < silent else end
 
-    def first_sound(self, start, end):
+    def first_sound(self, start: int, end: int) -> int:
         """Where the first silence behind this start begins; the end where there is none."""
         inner = self.silences_within(start + 1, end)
         return inner[0][0] if inner else self.last_sound(start, end)
 
-    def track(self, k, before):
+    def track(self, k: int, before: Optional[Play]) -> List[Play]:
         """The plays of the k-th track, with the play before it: several where it breaks off into nothing to play and
         goes on, which starts no track."""
         (start, name), following = self.cues[k], self.start_of(k + 1)
         play = Play(start, self.first_sound(start, following), name)
         if before and before.ending == "faded":
-            play.overlap = before.left
+            play.overlap = before.left or 0
         length = self.shelf.length(name, self.sound.rate)
         if length is None or not self.find_place(play, length):
             play.end = self.last_sound(start, following)
@@ -74,7 +79,7 @@ class Listener:
             self.close(found[-1], k, length)
         return found
 
-    def stretches(self, play, k, length):
+    def stretches(self, play: Play, k: int, length: int) -> Tuple[List[Play], bool]:
         """The stretches of the k-th track that begins with this play, of which the last one is not closed yet; and
         whether all that is heard up to the next start is known."""
         found, following = [play], self.start_of(k + 1)
@@ -99,14 +104,14 @@ class Listener:
         play.end = self.last_sound(play.start, following)
         return found, True
 
-    def end_whole(self, play, following, length):
+    def end_whole(self, play: Play, following: int, length: int) -> None:
         """Lets a play last to the end of its file, where that is as silent as what is heard."""
         whole = play.start + length - play.at
         if play.end < following and play.end <= whole <= following and \
                 self.shelf.is_silent(play.name, length, whole - play.end, self.sound.rate):
             play.end = whole
 
-    def find_place(self, play, length):
+    def find_place(self, play: Play, length: int) -> bool:
         """Finds out where a play begins in a file that was left before; whether that is known."""
         left = self.paused.get(play.name)
         if play.overlap or not left:
@@ -117,10 +122,11 @@ class Listener:
             left.remove(place)
         return place is not None
 
-    def likeliest_place(self, play, places, length):
+    def likeliest_place(self, play: Play, places: Sequence[int], length: int) -> Optional[int]:
         """Which of these places of its file a play begins at, by its sound: the first of those that fit best, as
         several sources may play one file. None where none fits."""
-        found, least, span = None, UNLIKE, play.end - play.start
+        found: Optional[int] = None
+        least, span = UNLIKE, play.end - play.start
         frames = sorted({k * span // 64 for k in range(64)})
         heard = self.heard(play.start, frames)
         for place in places:
@@ -130,13 +136,13 @@ class Listener:
                     found, least = place, fit
         return found
 
-    def heard(self, start, frames):
+    def heard(self, start: int, frames: Sequence[int]) -> List[float]:
         return self.sound.means([start + k for k in frames])
 
-    def said(self, name, place, frames):
+    def said(self, name: Optional[str], place: int, frames: Sequence[int]) -> List[float]:
         return self.shelf.values(name, [place + k for k in frames], self.sound.rate)
 
-    def close(self, play, k, length):
+    def close(self, play: Play, k: int, length: int) -> None:
         """How the k-th play ends."""
         left = length - (play.at + play.end - play.start)
         if left < 0:
@@ -158,16 +164,16 @@ class Listener:
         if play.ending in ("cut", "breaks off", ""):
             self.paused.setdefault(play.name, []).append(length - left)
 
-    def ends_alike(self, play):
+    def ends_alike(self, play: Play) -> bool:
         """Whether the end of a play sounds like the place of its file at which it would be."""
         span = min(play.end - play.start, TAIL)
         frames = sorted({play.end - play.start - 1 - k * span // 64 for k in range(64)})
         return misfit(self.heard(play.start, frames), self.said(play.name, play.at, frames)) < UNLIKE
 
-    def fade_or_cut(self, play, k, length):
+    def fade_or_cut(self, play: Play, k: int, length: int) -> str:
         """Whether the rest of a file is mixed into the k-th play or left out, by the sound; "" where that does not
         say."""
-        (start, name), rest = self.cues[k], play.left
+        (start, name), rest = self.cues[k], play.left or 0
         if name is None:
             return "cut"
         next_length = self.shelf.length(name, self.sound.rate)
@@ -187,10 +193,11 @@ class Listener:
         return ""
 
 
-def misfit(heard, said):
+def misfit(heard: Sequence[float], said: Sequence[float]) -> float:
     """How much of what is heard is not what is said, whatever its strength: 0 none, 1 all."""
-    energy, said_energy = sum(map(mul, heard, heard)), sum(map(mul, said, said))
+    energy: float = sum(map(mul, heard, heard))
+    said_energy: float = sum(map(mul, said, said))
     if energy == 0 or said_energy == 0:
         return 0.0 if energy == said_energy else 1.0
-    both = sum(map(mul, heard, said))
+    both: float = sum(map(mul, heard, said))
     return max(0.0, 1 - both * both / (energy * said_energy))

@@ -23,19 +23,19 @@ class Shelf:
         self.look([name])
         return self.sounds[name]
 
-    def known(self, name: str) -> Sound:
+    def known(self, name: Optional[str]) -> Sound:
         """A file that is known to be there."""
-        sound = self.sound(name)
+        sound = self.sound(name) if name is not None else None
         if sound is None:
             raise NoSound(f"{name} cannot be read")
         return sound
 
-    def length(self, name, rate):
+    def length(self, name: Optional[str], rate: int) -> Optional[int]:
         """How many instants a file has at the rate of an output, as it is loaded; None where that is not known."""
         sound = self.sound(name) if name is not None else None
         return max(1, sound.frames * rate // sound.rate) if sound and sound.frames else None
 
-    def values(self, name: str, frames: Sequence[int], rate: int) -> List[float]:
+    def values(self, name: Optional[str], frames: Sequence[int], rate: int) -> List[float]:
         """The means of the channels of a file at instants of an output; 0 behind its end."""
         sound = self.known(name)
         if sound.rate != rate:
@@ -54,11 +54,11 @@ class Shelf:
         here, following = sound.means([at, min(at + 1, sound.frames - 1)])
         return here if part == 0 else here + (following - here) * part / rate
 
-    def is_silent(self, name, length, count, rate):
+    def is_silent(self, name: Optional[str], length: int, count: int, rate: int) -> bool:
         """Whether the last samples of a file are zero, so many, by about 64 of them."""
         return not any(self.values(name, sorted(length - 1 - k * count // 64 for k in range(min(64, count))), rate))
 
-    def zeros(self, name, frame, count, rate):
+    def zeros(self, name: Optional[str], frame: int, count: int, rate: int) -> int:
         """How many instants of a file from this one on are zero, at most so many."""
         sound = self.known(name)
         first = sound.first_sound(min(frame * sound.rate // rate, sound.frames))

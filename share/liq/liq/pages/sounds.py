@@ -6,7 +6,7 @@ import sys
 from bisect import bisect_right
 from collections import OrderedDict
 from operator import mul
-from typing import Dict, Iterable, List, Sequence, Tuple
+from typing import BinaryIO, Dict, Iterable, List, Sequence, Tuple
 
 from liq.failed import Failed
 from liq.reading.companion import Companion
@@ -25,7 +25,7 @@ class NoSound(Failed):
         super().__init__(text, 3)
 
 
-def regular(path):
+def regular(path: str) -> BinaryIO:
     """Opens a file to read it, but for one that would keep the reader waiting, as a pipe does."""
     try:
         mode = os.stat(path).st_mode
@@ -39,7 +39,7 @@ def regular(path):
 class Windows:
     """The parts of files that are mapped at a time, so many at most: the one that was used longest ago goes first."""
 
-    def __init__(self):
+    def __init__(self) -> None:
         self.held: "OrderedDict[int, Sound]" = OrderedDict()
 
     def add(self, sound: "Sound") -> None:
@@ -129,7 +129,8 @@ class Sound:
         else:
             lows = (start + k * (span - BLOCK) // (BLOCKS - 1) for k in range(BLOCKS))
             found = [value for low in lows for value in self.values(low, low + BLOCK, 1)]
-        return sum(map(mul, found, found)) / len(found) if found else 0.0
+        total: float = sum(map(mul, found, found))
+        return total / len(found) if found else 0.0
 
     def is_quiet(self, start: int, end: int) -> bool:
         """Whether a stretch is one of those, or within one, that `silences` found."""
@@ -140,7 +141,7 @@ class Sound:
         """Whether each sample of a stretch is zero."""
         return self.first_sound(start) >= min(end, self.frames)
 
-    def silences(self, least):
+    def silences(self, least: int) -> List[Tuple[int, int]]:
         """Where at least so many frames are zero, as pairs (start, end). The file is probed at each half of that, so
         none is missed, and is read byte by byte only around what is zero there."""
         step, found, at = max(1, least // 2), [], 0
@@ -158,7 +159,7 @@ class Sound:
         self.quiet = found
         return found
 
-    def _zero_before(self, frame, piece=1 << 16):
+    def _zero_before(self, frame: int, piece: int = 1 << 16) -> int:
         at = frame * self.block
         while at > 0:
             low = max(0, at - piece)

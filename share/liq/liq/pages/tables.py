@@ -1,20 +1,23 @@
 """The tables of an output: by time, and by file."""
 from dataclasses import dataclass
-from typing import Optional
+from typing import Dict, Iterable, List, Optional, Sequence, Tuple
 
 from liq.pages.marks import named, note
 from liq.pages.outputs import Silence
+from liq.pages.plays import Play
+from liq.pages.story import Story
 
 
-def titled(name, head, rows, more):
+def titled(name: str, head: str, rows: Iterable[str], more: str) -> str:
     """A table with a heading and a button that copies it."""
     return (f'<div class=scroll><table{more}><caption><h3>{name}</h3><button class=copy type=button>copy</button></caption>'
             f'<thead><tr>{head}</thead><tbody>{"".join(rows)}</tbody></table></div>')
 
 
-def by_time(story, with_sound=False):
+def by_time(story: Story, with_sound: bool = False) -> str:
     """A line for each play and each silence; with a button that plays it if that is wanted."""
-    clock, number, rows = story.clock, story.number, []
+    clock, number = story.clock, story.number
+    rows: List[str] = []
     for k, event in enumerate(story.events):
         if isinstance(event, Silence):
             words = "" if not story.output.has_cues else "blank, no title" if event.blank else "nothing to play"
@@ -42,7 +45,7 @@ class Use:
     end: Optional[int] = None
     pause: Optional[int] = None  # the least time from an end to the next start
 
-    def add(self, play):
+    def add(self, play: Play) -> None:
         if not play.resumed:
             self.plays, self.last = self.plays + 1, play.start
             if self.end is not None:
@@ -51,16 +54,16 @@ class Use:
         self.time, self.end = self.time + play.end - play.start, play.end
 
 
-def uses_of(plays):
+def uses_of(plays: Iterable[Play]) -> List[Tuple[str, Use]]:
     """The files that were played, the one most often played first."""
-    found = {}
+    found: Dict[str, Use] = {}
     for play in plays:
         if play.name is not None:
             found.setdefault(play.name, Use(play.start, play.start)).add(play)
     return sorted(found.items(), key=lambda item: (-item[1].plays, -item[1].time, item[0]))
 
 
-def by_file(story):
+def by_file(story: Story) -> str:
     """A line for each file."""
     clock, uses, rows = story.clock, uses_of(story.output.plays), []
     most = max(use.time for _, use in uses) or 1
@@ -76,20 +79,22 @@ def by_file(story):
     return titled("By file", head, rows, f" id=f{story.number}")
 
 
-def within(story):
+def within(story: Story) -> str:
     """Silence that is a part of a recording."""
     clock, items = story.clock, []
     plays = iter(story.output.plays)
-    play, following = None, next(plays, None)
+    play: Optional[Play] = None
+    following = next(plays, None)
     for silence in (s for s in story.output.silences if s.within):
         while following is not None and following.start <= silence.start:
             play, following = following, next(plays, None)
         length = clock.length(silence.end - silence.start)
-        items.append(f"<li>{clock.text(silence.start)}, {length} in {named(play.name, story.titles)}</li>")
+        name = play.name if play is not None else None
+        items.append(f"<li>{clock.text(silence.start)}, {length} in {named(name or '', story.titles)}</li>")
     return f"<h3>Silence within plays</h3><ul>{''.join(items)}</ul>" if items else ""
 
 
-def of_buffers(buffers):
+def of_buffers(buffers: Sequence[Sequence[str]]) -> str:
     """What each buffer took and gave, as the report says it."""
     if not buffers:
         return ""

@@ -1,7 +1,13 @@
 """The timeline of an output: rows of time below each other, with a block for each play and the loudness under it."""
 import math
+from typing import List, Optional, Tuple
 
+from liq.pages.hours import Hours
 from liq.pages.marks import label, percent, shown
+from liq.pages.outputs import Output
+from liq.pages.plays import Play
+from liq.pages.story import Event, Story
+from liq.pages.times import Clock
 
 STEPS = [1, 2, 5, 10, 20, 30, 60, 120, 300, 600, 900, 1800, 3600, 7200, 14400, 21600, 43200, 86400, 604800]
 ROWS = 24              # at most, where tracks are long
@@ -11,7 +17,7 @@ COLUMNS = 480          # of the loudness in a row
 QUIETEST = 40          # decibels below full scale that are drawn
 
 
-def row_seconds(output, clock):
+def row_seconds(output: Output, clock: Clock) -> int:
     """How many seconds a row has: at most 24 rows, and about 16 tracks in each."""
     lengths = sorted(p.end - p.start for p in output.plays) or [output.length]
     usual = lengths[len(lengths) // 2] / output.rate
@@ -19,7 +25,7 @@ def row_seconds(output, clock):
     return next((step for step in STEPS if step >= want - 1e-9), STEPS[-1])
 
 
-def rows_of(output, clock):
+def rows_of(output: Output, clock: Clock) -> Tuple[int, List[Tuple[int, int]]]:
     """The rows as pairs of instants. Several begin at whole multiples of their length on the clock of the week."""
     seconds = row_seconds(output, clock)
     if clock.seconds <= seconds:
@@ -32,9 +38,10 @@ def decibels(power: float) -> float:
     return 10 * math.log10(power / 32768 ** 2) if power > 0 else -200.0
 
 
-def levels(output, low, high):
+def levels(output: Output, low: int, high: int) -> Tuple[int, List[int]]:
     """The loudness of the columns of a row, from 0 to QUIETEST, with the first column that has one."""
-    first, found = max(0, math.floor(-low * COLUMNS / (high - low))), []
+    first = max(0, math.floor(-low * COLUMNS / (high - low)))
+    found: List[int] = []
     for k in range(first, COLUMNS):
         start, end = low + k * (high - low) // COLUMNS, low + (k + 1) * (high - low) // COLUMNS
         if start >= output.length:
@@ -44,7 +51,7 @@ def levels(output, low, high):
     return first, found
 
 
-def level_path(output, low, high):
+def level_path(output: Output, low: int, high: int) -> str:
     """The loudness of a row as a path over COLUMNS by QUIETEST."""
     first, found = levels(output, low, high)
     if not found:
@@ -58,7 +65,7 @@ def level_path(output, low, high):
     return "".join(parts) + f"h{width}V{QUIETEST}z"
 
 
-def classed(names):
+def classed(names: List[str]) -> str:
     """The class of an element, where it has one."""
     if not names:
         return ""
@@ -68,14 +75,14 @@ def classed(names):
 class Timeline:
     """The timeline of a story."""
 
-    def __init__(self, story, hours):
+    def __init__(self, story: Story, hours: Hours):
         self.story, self.output, self.clock, self.hours = story, story.output, story.clock, hours
         self.seconds, self.rows = rows_of(self.output, self.clock)
         self.span = self.rows[0][1] - self.rows[0][0]
         self.several = len(self.rows) > 1
         self.tick = next((s for s in STEPS if self.span / self.output.rate / s <= MARKS), STEPS[-1])
 
-    def mark(self, k):
+    def mark(self, k: int) -> str:
         """The text of the k-th mark of the axis: a time of the clock in a single row, else what is added to a row's."""
         second = k * self.tick
         if not self.several:
@@ -87,7 +94,7 @@ class Timeline:
             return f"+{second // 60}:{second % 60:02}"
         return f"+{second // 3600}:{second // 60 % 60:02}"
 
-    def axis(self):
+    def axis(self) -> str:
         """The axis. On a phone every so many of its marks alone are shown."""
         count = int(self.span / self.output.rate / self.tick + 1e-9)
         most = 4 if self.several else 3
@@ -99,11 +106,11 @@ class Timeline:
             marks.append(f'<span{classed(classes)} style="left:{percent(place, self.span)}">{self.mark(k)}</span>')
         return f'<div class=axis><i></i><div>{"".join(marks)}</div></div>'
 
-    def place(self, low, start, end):
+    def place(self, low: int, start: int, end: int) -> str:
         """Where a stretch stands in the row that begins at `low`, as a style."""
         return f'style="left:{percent(start - low, self.span)};width:{percent(end - start, self.span)}"'
 
-    def block(self, event, low, high, classes, inner):
+    def block(self, event: Event, low: int, high: int, classes: List[str], inner: str) -> str:
         """The block of an event in a row, with a link to the event's line in the table."""
         number, k = self.story.number, self.story.number_of(event)
         name = f" id=b{number}-{k}" if event.start >= low else ""
@@ -111,7 +118,7 @@ class Timeline:
         return (f'<a{name}{classed(classes)} href="#r{number}-{k}" tabindex=-1 data-k={k} '
                 f'data-f="{self.story.file_of(event)}" {place}>{inner}</a>')
 
-    def play(self, play, kind, before, low, high):
+    def play(self, play: Play, kind: str, before: str, low: int, high: int) -> str:
         """The block of a play in a row, with a wedge in the colour of the play that is faded into it."""
         classes = [kind] if kind else []
         if play.ending in ("cut", "breaks off") and play.end <= high:
@@ -125,12 +132,12 @@ class Timeline:
         text = shown(self.label_of(play.name)) if play.name is not None else "no title"
         return self.block(play, low, high, classes, f"{wedge}<span dir=auto>{text}</span>")
 
-    def label_of(self, name):
+    def label_of(self, name: str) -> str:
         """The text of a block: the title of a file, or else a short form of its name."""
         title = self.story.titles.of(name)
         return label(name) if title == name else title
 
-    def strip(self, low, high):
+    def strip(self, low: int, high: int) -> str:
         """The blocks of a row."""
         story, parts = self.story, []
         for play, kind, before in zip(self.output.plays, story.kinds, [""] + story.kinds):
@@ -146,7 +153,7 @@ class Timeline:
                 parts.append(self.block(silence, low, high, ["quiet"], "<span>silence</span>"))
         return "".join(parts)
 
-    def row(self, low, high, before):
+    def row(self, low: int, high: int, before: Optional[str]) -> str:
         """A row with its time; the day stands before it where it is another than that of the row before."""
         day, name = self.clock.day(max(0, low)), ""
         if self.several and not self.clock.one_day and day != before:
@@ -156,7 +163,7 @@ class Timeline:
                 f'<svg class=level viewBox="0 0 {COLUMNS} {QUIETEST}" preserveAspectRatio=none aria-hidden=true>'
                 f'<path d="{level_path(self.output, low, high)}"/></svg>{self.hours.row(self.clock, low, high)}</div></div>')
 
-    def text(self):
+    def text(self) -> str:
         """The whole timeline; where there is something to go through, it is a slider for keys."""
         days = [None] + [self.clock.day(max(0, low)) for low, _ in self.rows]
         rows = "".join(self.row(low, high, before) for (low, high), before in zip(self.rows, days))

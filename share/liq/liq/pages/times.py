@@ -8,7 +8,7 @@ DAY = 86400
 SHORT = 600  # seconds below which tenths are told
 
 
-def read_start(text):
+def read_start(text: str) -> Optional[int]:
     """The seconds of the week of D:HH:MM:SS, day 1 a Monday; None where it is none."""
     parts = re.fullmatch(r"([1-7]):([0-9]{2}):([0-9]{2}):([0-9]{2})", text)
     if parts is None:
@@ -43,7 +43,7 @@ def week_text(second: int) -> str:
     return f"{DAYS[second // DAY % 7][:3]} {of_day // 3600:02}:{of_day // 60 % 60:02}:{of_day % 60:02}"
 
 
-def length_text(frames, rate, tenths):
+def length_text(frames: float, rate: int, tenths: bool) -> str:
     """A length, rounded: 3:07, 1:02:03, or 0:07.5 with tenths."""
     if tenths:
         units = round(frames * 10 / rate)
@@ -57,13 +57,13 @@ def length_text(frames, rate, tenths):
 class Clock:
     """The clock of an output that starts at this second of the week."""
 
-    def __init__(self, start, rate, length):
+    def __init__(self, start: int, rate: int, length: int):
         self.start, self.rate = start, rate
         self.seconds = length / rate
         self.tenths = self.seconds < SHORT
         self.one_day = start % DAY + self.seconds <= DAY
 
-    def text(self, frame, with_day=None):
+    def text(self, frame: int, with_day: Optional[bool] = None) -> str:
         """The clock time of an instant, cut to the second, or to its tenth in a short output. The day of the week
         stands before it where the output does not lie within one day, unless something else is asked for."""
         units = frame * 10 // self.rate
@@ -77,10 +77,10 @@ class Clock:
             text = f"{DAYS[(second - at_end) // DAY % 7][:3]} {text}"
         return text
 
-    def day(self, frame):
+    def day(self, frame: int) -> str:
         """The day of the week of an instant."""
         return DAYS[(self.start + frame // self.rate) // DAY % 7]
 
-    def length(self, frames):
+    def length(self, frames: float) -> str:
         """A length as it is told of this output."""
         return length_text(frames, self.rate, self.tenths)

@@ -59,8 +59,7 @@ class Listed:
     skipped: int
 
 
-@dataclass(frozen=True)
-class Sound:
+class Sound(NamedTuple):
     """An audio file, once. Its state is `used`, `missing`, `too large`, `not wav` (with the number of E21 as `fault`) or
     `unread`. Where its header could be read: sides, bits of a sample, samples a second (`rate`), the byte at which its
     samples begin (`place`), its own samples a side, those that are played at the rate of the script, and the bytes for
@@ -170,8 +169,9 @@ def read_list(told: "dict[str, Any]") -> Listed:
 
 
 def read_sound(told: "dict[str, Any]") -> Sound:
-    return Sound(told["name"], told["state"], *(told.get(member, 0) for member in
-                                                ("fault", "sides", "bits", "rate", "place", "own", "played", "bytes")))
+    get = told.get
+    return Sound(told["name"], told["state"], get("fault", 0), get("sides", 0), get("bits", 0), get("rate", 0), get("place", 0),
+                 get("own", 0), get("played", 0), get("bytes", 0))
 
 
 def read_tokens(told: "dict[str, Any]") -> Tokens:

@@ -1,7 +1,7 @@
 """What is told of a script, a line for each: for the compilers of editors, or as JSON."""
 import json
 import re
-from typing import Iterable, Iterator, Optional
+from typing import Callable, Dict, Iterable, Iterator, Optional, Tuple
 
 from liq.advising.lines import FAULT, Advice, place_of
 from liq.advising.mending import Fault
@@ -10,6 +10,8 @@ from liq.advising.script import Script
 from liq.reading.companion import Companion
 from liq.serving.looking import Look, Span, Told, line_and_column, span_of
 from liq.watching.names import shown
+
+Form = Callable[[str, str, Told], str]      # a line, of the name of a script, its text and what is told of it
 
 
 def text_of(file: str, most: int) -> Optional[str]:
@@ -32,18 +34,19 @@ def as_line(file: str, text: str, told: Told) -> str:
 
 def as_json(file: str, text: str, told: Told) -> str:
     """The same as one object of JSON; lines and columns from 1, the end behind the last character."""
-    def place(at):
+    def place(at: int) -> Dict[str, int]:
         line, column = line_and_column(text, at)
         return {"line": line + 1, "column": column + 1}
 
-    found = {"file": file, "severity": told.sort, "code": told.code, "message": told.text, "help": told.help,
+    found: Dict[str, object] = {"file": file, "severity": told.sort, "code": told.code, "message": told.text, "help": told.help,
              "begin": place(told.span.first), "end": place(told.span.behind), "edit": None}
     if told.edit:
         found["edit"] = {"begin": place(told.edit.first), "end": place(told.edit.behind), "text": told.edit.text}
     return json.dumps(found)
 
 
-def told_of(line: str, place, script: Optional[Script], help_line: Optional[str], reader: Optional[Reader]) -> Told:
+def told_of(line: str, place: Optional[Tuple[int, int]], script: Optional[Script], help_line: Optional[str],
+            reader: Optional[Reader]) -> Told:
     """What a line of a refusal tells, with its place and its help, and the edit that the reader finds to mend it."""
     if script is None:
         return Told("error", line[:3], Span(0, 0), line[4:], help_line)
@@ -53,7 +56,7 @@ def told_of(line: str, place, script: Optional[Script], help_line: Optional[str]
     return Told("error", line[:3], span, line[4:], help_line, reader.proved(fault) if reader else None)
 
 
-def passed(lines: Iterable[str], file: str, companion: Companion, form) -> Iterator[str]:
+def passed(lines: Iterable[str], file: str, companion: Companion, form: Form) -> Iterator[str]:
     """The lines of standard input: each fault in its form, and any other line as it came."""
     reader = reader_of(companion)
     for line in lines:
@@ -68,7 +71,7 @@ def passed(lines: Iterable[str], file: str, companion: Companion, form) -> Itera
         yield form(file, advice.script.text if advice.script else "", told) + "\n"
 
 
-def looked(file: str, text: str, look: Look, form) -> Iterator[str]:
+def looked(file: str, text: str, look: Look, form: Form) -> Iterator[str]:
     """What is told of a text alone."""
     for told in look.at(text):
         yield form(file, text, told) + "\n"

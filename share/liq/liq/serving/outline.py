@@ -1,6 +1,6 @@
 """The outline of a script: what it binds, its defs and its outputs; and the word at a place."""
 import re
-from typing import Iterator, NamedTuple, Optional
+from typing import Dict, Iterator, List, NamedTuple, Optional
 
 from liq.advising import tables
 from liq.advising.script import MAKERS, Script
@@ -39,9 +39,9 @@ def items(script: Script) -> Iterator[Item]:
 class Rows:
     """The rows of the pages: of a call of this language, or of a word of Liquidsoap."""
 
-    def __init__(self):
+    def __init__(self) -> None:
         self.words, self.calls = tables.Words(), tables.calls()
-        self.rows = {}
+        self.rows: Dict[str, List[str]] = {}
         for line in tables.page("builtins.md"):
             row = tables.cells(line)
             call = tables.call_of_row(row)

@@ -1,4 +1,5 @@
 """The command liq-try: a station in the browser, while it is written."""
+import concurrent.futures
 import html
 import os
 import re
@@ -9,9 +10,9 @@ import webbrowser
 from typing import List, NamedTuple
 
 from liq.failed import Usage
+from liq.guarded import Folder
 from liq.reading.companion import Companion
 from liq.reading.programs import COMPANION, LIQ, programs_of
-from liq.trying.folder import Folder
 from liq.trying.server import Server
 from liq.trying.station import Shown
 from liq.watching.names import shown
@@ -63,7 +64,7 @@ def main(words: List[str]) -> int:
     """Shows a station until a signal ends it."""
     call = call_of(words)
     program, path = programs_of((LIQ, COMPANION))
-    folder = Folder()
+    folder = Folder("liq-try-")
     station = Shown(call.file, program, Companion(path, SECONDS), folder)
     try:
         server = Server(station, call.port)
@@ -72,10 +73,12 @@ def main(words: List[str]) -> int:
             forward = f"{server.port}:127.0.0.1:{server.port}"
             print(f"on your machine: ssh -N -L {forward} {socket.gethostname()}", flush=True)
         print("Ctrl-C ends", file=sys.stderr, flush=True)
-        threading.Thread(target=station.watch, daemon=True).start()
+        watching = concurrent.futures.ThreadPoolExecutor(1).submit(station.watch)
+        watching.add_done_callback(lambda _: server.shutdown())         # it ends by a fault alone
         if call.opens:
             open_browser(folder, server.address)
         server.serve_forever()
+        watching.result()                                               # which is told as that of the command
     finally:
         station.moments.end()
         folder.end()

@@ -1,6 +1,7 @@
 """A look at a station: what the page shows of it."""
 import os
 import re
+import shutil
 import stat
 import subprocess
 import time
@@ -9,17 +10,19 @@ from typing import Dict, Iterator, List, NamedTuple, Optional, Tuple
 from liq.advising.lines import Advice, place_of
 from liq.advising.mending import Fault
 from liq.advising.script import Script
-from liq.doctoring.findings import Finding
+from liq.doctoring.findings import Finding, counted
 from liq.doctoring.lists import findings_of_lists
 from liq.doctoring.looking import findings_of_singles
 from liq.doctoring.windows import findings_of_windows
+from liq.guarded import Folder
 from liq.hearing import Asked, whole_facts
+from liq.nights.library import decoded_of
+from liq.nights.seen import with_decoded
 from liq.reading.companion import Companion, NoAnswer, NoPlan
 from liq.reading.facts import Facts, Refused, Tokens
 from liq.serving.looking import span_of, word_at
 from liq.trying.brought import OF_LANGUAGE, Brought, brought
 from liq.trying.calendar import Hours, switches_of
-from liq.trying.folder import Folder
 from liq.trying.lines import FAULT, SILENT, Mark, line_of, lines_of, plain, told_of
 from liq.trying.picture import Picture, picture_of
 from liq.watching.names import shown
@@ -190,16 +193,28 @@ class Looked:
         """The sounds, and what the doctor says of them."""
         if self.facts is None:
             return None
-        facts = self.facts
+        facts, told = self.with_decoded(self.facts)
         sounds = [sound for sound in facts.sounds.values() if sound.is_used]
-        lines = [*findings_of_singles(facts), *findings_of_lists(facts)]
+        lines = [*findings_of_singles(self.facts), *told, *findings_of_lists(facts)]
         try:
-            lines += findings_of_windows(self.companion, self.path, facts)
+            lines += findings_of_windows(self.companion, self.path, self.facts)
         except NoAnswer:
             pass
         return {"used": len(sounds), "all": len(facts.sounds), "seconds": round(sum(sound.seconds for sound in sounds)),
                 "found": [[plain(self.placed(str(line))), isinstance(line, Finding)] for line in lines[:SHOWN]],
                 "more": max(0, len(lines) - SHOWN)}
+
+    @staticmethod
+    def with_decoded(facts: Facts) -> "Tuple[Facts, List[str]]":
+        """The facts with what ffmpeg decodes here as sounds that are played, and a line on that."""
+        count = len(decoded_of(facts, None))
+        if not count:
+            return facts, []
+        sounds = counted(count, "sound of the lists", "sounds of the lists")
+        missing = next((name for name in ("ffmpeg", "ffprobe") if not shutil.which(name)), None)
+        if missing:
+            return facts, [Finding(f"{missing} is missing: install the package ffmpeg, and {sounds} can be heard here")]
+        return with_decoded(facts), [f"{sounds}: decoded by ffmpeg here, as liq night does; liq render plays WAV files alone"]
 
     def placed(self, line: str) -> str:
         """A line of the doctor with the line of the script for its place."""

@@ -1,14 +1,14 @@
 """The station that a page shows: its last look, and the moments of it that are played."""
 import threading
 import time
-from typing import Dict, Iterable, List, Optional
+from typing import Dict, Iterable, List, Optional, Union
 
 from liq.failed import Failed
+from liq.guarded import Folder
 from liq.hearing import Asked
 from liq.reading.companion import Companion, NoAnswer
 from liq.reading.hours import WEEK
 from liq.trying.changes import Changes
-from liq.trying.folder import Folder
 from liq.trying.lines import plain
 from liq.trying.looks import Looked, State
 from liq.trying.moments import Moments
@@ -19,13 +19,9 @@ NOTHING: State = {"verdict": "none", "line": "", "lines": [], "marks": [], "outp
                   "sounds": None, "picture": {"note": ""}, "isLive": False, "isOpen": False, "isSafe": False}
 
 
-def why(error: Exception) -> str:
+def why(error: Union[Failed, OSError]) -> str:
     """Why there is nothing to show, in a line: a look that fails is followed by the next one."""
-    if isinstance(error, Failed):
-        return str(error)
-    if isinstance(error, OSError):
-        return f"a temporary folder: {error.strerror or error}"
-    return f"a fault of liq-try: {type(error).__name__}: {error}; please report it"
+    return str(error) if isinstance(error, Failed) else f"a temporary folder: {error.strerror or error}"
 
 
 class Shown:
@@ -62,7 +58,7 @@ class Shown:
             looked.draw()
             self.publish({**state, "sounds": looked.sounds(), "picture": looked.drawn()})
             return looked.names()
-        except Exception as error:                          # pylint: disable=broad-except
+        except (Failed, OSError) as error:
             self.looked = None
             self.publish({**NOTHING, "name": plain(shown(self.file)), "said": plain(why(error)),
                           "took": round(time.monotonic() - began, 3)})

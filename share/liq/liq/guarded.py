@@ -1,4 +1,4 @@
-"""The temporary folder of liq-try, which goes with the process, however that ends."""
+"""A temporary folder that goes with the process, however that ends: also by a signal that nothing hears."""
 import os
 import shutil
 import subprocess
@@ -6,22 +6,26 @@ import tempfile
 
 from liq.failed import Failed
 
-# What removes the folder once its standard input ends, which it does when this process is gone, also by a signal that
-# nothing hears.
+# What removes the folder once its standard input ends. That it does when this process is gone, and all that it forked.
 GUARD = 'trap "" HUP INT TERM; read -r _; rm -rf -- "$1" || rm -rf -- "$1"'
 
 
 class Folder:
-    """A temporary folder that this user alone may read."""
+    """A temporary folder that this user alone may read. Its name begins with a prefix. `Failed` where none can be made."""
 
-    def __init__(self) -> None:
+    def __init__(self, prefix: str) -> None:
+        self.owner = os.getpid()
         try:
-            self.path = tempfile.mkdtemp(prefix="liq-try-")
-            words = ["/bin/sh", "-c", GUARD, "liq-try", self.path]
+            self.path = tempfile.mkdtemp(prefix=prefix)
+        except OSError as error:
+            raise Failed(f"a temporary folder: {error.strerror}", 4) from None
+        try:
+            words = ["/bin/sh", "-c", GUARD, "liq", self.path]
             self.guard = subprocess.Popen(words, cwd="/", stdin=subprocess.PIPE, stdout=subprocess.DEVNULL,
                                           stderr=subprocess.DEVNULL, start_new_session=True)
         except OSError as error:
-            raise Failed(f"a temporary folder: {error.strerror}", 4) from None
+            shutil.rmtree(self.path, ignore_errors=True)
+            raise Failed(f"/bin/sh: {error.strerror}", 126) from None
 
     def at(self, *names: str) -> str:
         """The path of a file in it."""
@@ -35,7 +39,9 @@ class Folder:
         return path
 
     def end(self) -> None:
-        """Removes it."""
+        """Removes it, unless this process was forked from the one that made it. Later calls do nothing."""
+        if os.getpid() != self.owner:
+            return
         shutil.rmtree(self.path, ignore_errors=True)
         if self.guard.stdin is not None:
             self.guard.stdin.close()
