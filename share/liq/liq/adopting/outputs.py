@@ -109,8 +109,8 @@ def format_of(writer: "Rewriter", node: Node, bare: List[Node]) -> str:
     if first is None or first.kind not in ("format", "name", "op", "method"):
         return "%wav"
     if first.kind == "name":
-        node = writer.scope.nodes.get(first.name)
-        is_format = first.name in writer.scope.values and (node is None or node.kind == "format")
+        found = writer.scope.nodes.get(first.name)
+        is_format = first.name in writer.scope.values and (found is None or found.kind == "format")
         return str(writer.new(first, "format")) if is_format else "%wav"
     if first.kind == "format":
         return writer.new(first, "format")
