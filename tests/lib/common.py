@@ -1,6 +1,8 @@
 """What the runners share: the words of a call, the built programs, sounds as bytes, and the last line that each prints."""
 import argparse
+import atexit
 import os
+import shutil
 import signal
 import struct
 import subprocess
@@ -39,6 +41,20 @@ def companion_path(call):
         return call.companion or built(COMPANION)
     os.environ["LIQ_PROGRAMS"] = folder
     return beside
+
+
+def programs_folder(call):
+    """A folder with both programs, for the variable LIQ_PROGRAMS: theirs, or where they lie apart, as a build leaves them, one
+    of links, which goes with the runner."""
+    paths = [call.program, companion_path(call)]
+    if len({os.path.dirname(path) for path in paths}) == 1:
+        return os.path.dirname(call.program)
+    folder = tempfile.mkdtemp(prefix="liq-programs-")
+    atexit.register(shutil.rmtree, folder, ignore_errors=True)
+    os.chmod(folder, 0o755)
+    for path, name in zip(paths, ("liq_program", COMPANION)):
+        os.symlink(os.path.abspath(path), os.path.join(folder, name))
+    return folder
 
 
 def quick(command):
