@@ -309,7 +309,7 @@ def a_report(place):
     place.wants("no night", place.run(*words, "0.01")[0], 1)
     told = [json.loads(line) for line in content(place.path("r")).decode().split("\n")[:-1]]
     place.wants("the report", [(one["status"], one.get("tracks"), one.get("skipped"), len(one["found"])) for one in told],
-                [(0, 2, 0, 0), (0, 2, 1, 2), (1, None, None, 3)])
+                [(0, 2, 0, 0), (0, 2, 1, 2), (1, None, None, 4)])
     place.wants("what is called", calls, ["/done", "/done"])
     server.shutdown()
     place.script('output.file(%wav, "A.wav", mean(mksafe(playlist("m.m3u"))))')
