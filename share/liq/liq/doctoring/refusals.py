@@ -73,8 +73,9 @@ def asked(program: str, script: str) -> "tuple[int, str]":
     return done.returncode, done.stderr.decode("utf-8", "surrogateescape").removesuffix("\n")
 
 
-def places_and_advice(companion: Companion, script: str, said: str) -> Iterator[str]:
-    """Where a fault stands in the script, and what to do, as bin/liq-where and bin/liq-advice tell it."""
+def places_and_advice(companion: Companion, script: str, said: str, first: str = "") -> Iterator[str]:
+    """Where a fault stands in the script, and what to do, as `liq where` and `liq advice` tell it: of their lines those that
+    begin so."""
     from liq.advising.lines import passed
     try:
         shown_where = companion.where(script, said + "\n")
@@ -82,7 +83,8 @@ def places_and_advice(companion: Companion, script: str, said: str) -> Iterator[
         shown_where = said + "\n"
     lines = list(passed(shown_where.splitlines(keepends=True), script, companion))[1:]
     for line in shown_lines("".join(lines).removesuffix("\n")).split("\n") if lines else ():
-        yield Finding("  " + line)
+        if line.startswith(first):
+            yield Finding("  " + line)
 
 
 def refusals(program: str, companion: Companion, script: str, facts: Optional[Facts]) -> Iterator[str]:
@@ -103,6 +105,8 @@ def refusals(program: str, companion: Companion, script: str, facts: Optional[Fa
             yield Finding(f"  {weights_told(facts)}")
         elif said and is_fault and not re.match("E2[0-4] ", said):      # what is wrong with files is told already
             yield from places_and_advice(companion, script, said)
+        elif said and said.startswith("E20 "):
+            yield from places_and_advice(companion, script, said, "help: ")
     elif status == 5:
         yield Finding(f"{STATUS.format(5)}: memory is refused, or a type of the script passes its bound")
     elif status:
