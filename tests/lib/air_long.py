@@ -179,7 +179,8 @@ class Show:
         least, most = min((by for _, by in off), default=0), max((by for _, by in off), default=0)
         self.lines.append(f"{name}: {len(off)} of {seconds} seconds heard at their moments, {least:+.2f} to {most:+.2f} s from the clock; "
                           f"not heard: {runs_of(lost) or 'none'}")
-        if not off or least < EARLY or most > LATE:
+        more = 1.0 if name == "d" else 0.0      # what an encoder held when it was killed
+        if not off or least < EARLY - more or most > LATE + more:
             self.found.append(f"{name} is heard {least:+.2f} to {most:+.2f} s from the clock")
         there = {row[0]: round((row[2] - row[1]) * self.unit) for row in RENDERINGS}[name]
         bound = max(0, there) + 4 + {"a": DOWN + 6, "d": 3}.get(name, 0)
