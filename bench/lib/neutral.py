@@ -142,7 +142,7 @@ class Neutral:
         return self.without_lost(node, front=f'mode="normal", prefetch={PREFETCHED}, ')
 
     def of_playlist_safe(self, node):
-        return self.without_lost(node, "playlist")
+        return self.without_lost(node, "playlist", front='mode="normal", ')
 
     def of_playlist_once(self, node):
         return f"playlist.once({', '.join(self.argument(one) for one in node.args if one.label in (None, 'id'))})"
