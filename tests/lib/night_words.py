@@ -246,6 +246,7 @@ def units_are_right(place):
     for path in glob.glob(os.path.join(TOP, "share", "liq", "systemd", "*")):
         text = content(path).decode().replace("/usr/bin/liq-", os.path.join(TOP, "bin", "liq-"))
         write_file(place.folder, os.path.basename(path), text)
+        place.wants(f"a disk that is not mounted is no failure by {os.path.basename(path)}", "ConditionPath" in text, False)
     names = sorted(name.replace("@.", "@f.") for name in os.listdir(place.folder)
                    if name.endswith((".service", ".timer")))
     for name in names:
