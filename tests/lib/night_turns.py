@@ -387,7 +387,7 @@ def parts_are_joined_where_they_lie(place):
     place.script('output.file(%wav, "e/A.wav", mksafe(playlist("m.m3u")))')
     place.call_to("e/A.wav", 13500)
     for name in ("B.wav", "B.wav.cue"):
-        place.wants(f"the bytes of {name}", content(place.path(name)) == content(place.path(name.replace("B", "e/A"))), True)
+        place.wants(f"the bytes of {name}", held(place, name) == held(place, name.replace("B", "e/A")), True)
 
 
 def refused_behind_the_replacing(place):
