@@ -29,7 +29,13 @@ def short_songs(place, count, seconds=2):
 
 
 def played(place, name="A.wav.cue"):
-    return [title for _, title in cues_in(place.folder, name) if title]
+    """The titles of a cue file; none where there was no night."""
+    return [title for _, title in cues_in(place.folder, name) if title] if os.path.exists(place.path(name)) else []
+
+
+def held(place, name):
+    """The bytes of a file; none where it is not there."""
+    return content(place.path(name)) if os.path.exists(place.path(name)) else b""
 
 
 def lists_that_share(place):
@@ -76,8 +82,8 @@ def the_same_night_once_more(place):
     again = place.night("--go-on", TODAY, "f", "0.02") and played(place)
     place.wants("the same night", again, first)
     place.night("--go-on", "--start=tomorrow:20:00", "f", "0.02")
-    place.wants("the night behind it", played(place)[0], f"t{len(first)}.wav")
-    place.wants("its start", content(place.path("A.wav.start")).decode()[:19],
+    place.wants("the night behind it", played(place)[:1], [f"t{len(first)}.wav"])
+    place.wants("its start", held(place, "A.wav.start").decode()[:19],
                 f"{datetime.date.today() + datetime.timedelta(1)}T20:00:00")
 
 
@@ -88,7 +94,7 @@ def a_day_of_another_script(place):
     place.night("--go-on", TODAY, "f", "0.01")
     place.night("--go-on", "--start=tomorrow:20:00", "g", "0.01")
     place.night("--go-on", "--start=now", "f", "0.01")
-    place.wants("what goes on", played(place)[0], "t2.wav")
+    place.wants("what goes on", played(place)[:1], ["t2.wav"])
 
 
 def what_cannot_be_read(place):
@@ -131,7 +137,7 @@ def a_single_that_is_gone(place):
         lines = place.night("f", "0.02")
         place.wants(f"what is told of {source}", f"audio file none.wav: is not there; {how}" in lines, True)
         place.wants(f"what is played by {source}", set(played(place)) <= {"t0.wav", "t1.wav"} and played(place) != [], True)
-        samples = left_samples(place.path("A.wav"))
+        samples = left_samples(place.path("A.wav")) if os.path.exists(place.path("A.wav")) else []
         place.wants(f"seconds of silence in {source}", samples.count(0) // RATE in ((5, 6) if "clip" in source else (0,)), True)
         place.wants("by --strict", place.run("--strict", "f", "0.02")[0], 1)
     os.mkdir(place.path("none.wav"))
@@ -156,7 +162,7 @@ def a_script_that_is_refused(place):
         place.wants("without --go-on", place.run(TODAY, "f", "0.01")[0], 1)
     os.remove(place.path("f"))
     place.night("--go-on", TODAY, "f", "0.01")
-    place.wants("the script that is kept", content(place.path("f.last")), good)
+    place.wants("the script that is kept", held(place, "f.last"), good)
 
 
 def what_was_next_is_gone(place):
@@ -180,9 +186,9 @@ def places_that_are_none(place):
         lines = place.night("--go-on", "--start=1:00:00:00", "f", "0.01")
         place.wants(f"what is told of {text[:20]}", [line for line in lines if line.startswith("A.wav.next: is none of a night")] != [],
                     True)
-        place.wants("what is kept", content(place.path(f"A.wav.next.kept{k + 1}")), text)
+        place.wants("what is kept", held(place, f"A.wav.next.kept{k + 1}"), text)
         place.night("--go-on", "--start=1:00:00:00", "f", "0.01")
-        place.wants("the next night", played(place)[0], "t2.wav")
+        place.wants("the next night", played(place)[:1], ["t2.wav"])
 
 
 def two_nights_over_one_cache(place):
@@ -210,6 +216,18 @@ def two_nights_over_one_cache(place):
         place.wants("what is played", played(place, f"{script.upper()}.wav.cue"), [f"{script}{k}.wav" for k in range(6)])
 
 
+def a_cache_of_zeros(place):
+    """A cache whose index was never written, so that it is zeros, costs no night."""
+    if not shutil.which("ffmpeg"):
+        raise Skipped("ffmpeg is missing")
+    subprocess.run(["ffmpeg", "-v", "error", "-y", "-f", "lavfi", "-i", f"sine=d=4:r={RATE}", place.path("c.flac")], check=True)
+    write_file(place.folder, "m.m3u", "c.flac\n")
+    os.mkdir(place.path("cache"))
+    write_file(place.folder, "cache/index.json", b"\0" * 4096)
+    place.night(f"--cache={place.path('cache')}", "f", "0.002")
+    place.wants("what is played", set(played(place)), {"c.flac"})
+
+
 def a_name_with_a_tab(place):
     """A decoded entry whose name has a TAB, and one of several lists, cost no page; titles stand beside the rendering."""
     if not shutil.which("ffmpeg"):
@@ -222,8 +240,8 @@ def a_name_with_a_tab(place):
     place.script('output.file(%wav, "A.wav", mean(mksafe(rotate([playlist("m.m3u"), playlist("n.m3u")]))))')
     lines = place.night(f"--cache={place.path('cache')}", "f", "0.01")
     place.wants("the page", lines[-1].partition("; page ")[2], "A.wav.html")
-    place.wants("the titles", content(place.path("A.wav.titles.tsv")), b"c.flac\t\tSong\t\t\t\n")
-    place.wants("the page has them", b"Song</bdi>" in content(place.path("A.wav.html")), True)
+    place.wants("the titles", held(place, "A.wav.titles.tsv"), b"c.flac\t\tSong\t\t\t\n")
+    place.wants("the page has them", b"Song</bdi>" in held(place, "A.wav.html"), True)
     place.wants("the log has them", [row[4] for row in log_of(place)], ["", "Song", "Song", "Song", "", "Song", "Song", "Song", ""])
     place.script('output.file(%wav, "A.wav", mean(mksafe(crossfade(duration=4., playlist("l.m3u")))))')
     for name, seconds in (("u.wav", 20), ("v.wav", 23)):
@@ -362,14 +380,14 @@ def parts_are_joined_where_they_lie(place):
     os.mkdir(place.path("d"))
     place.script('output.file(%wav, "d/A.wav", mksafe(playlist("m.m3u")))')
     call = f"'{NIGHT}' '--program={place.program}' --part=0.0756 f 0.15"
-    printed, said = mounted(place, f"mount -t tmpfs -o size=22m none d || exit 99; {call} >&2; echo $?; stat -c %s d/A.wav; "
+    printed, said = mounted(place, f"mount -t tmpfs -o size=21m none d || exit 99; {call} >&2; echo $?; stat -c %s d/A.wav; "
                             "cp d/A.wav B.wav; cp d/A.wav.cue B.wav.cue")
     place.wants("the end", (printed, said.count("part ") > 1), (f"0\n{44 + 540 * RATE * 4}\n", True))
     os.mkdir(place.path("e"))
     place.script('output.file(%wav, "e/A.wav", mksafe(playlist("m.m3u")))')
     place.call_to("e/A.wav", 13500)
     for name in ("B.wav", "B.wav.cue"):
-        place.wants(f"the bytes of {name}", content(place.path(name)) == content(place.path(name.replace("B", "e/A"))), True)
+        place.wants(f"the bytes of {name}", held(place, name) == held(place, name.replace("B", "e/A")), True)
 
 
 def refused_behind_the_replacing(place):
@@ -390,5 +408,5 @@ def refused_behind_the_replacing(place):
 
 
 RUNS = (lists_that_share, a_length_that_is_told_too_long, the_same_night_once_more, a_day_of_another_script,
-        what_cannot_be_read, a_single_that_is_gone, a_script_that_is_refused, what_was_next_is_gone, places_that_are_none, a_name_with_a_tab, an_entry_that_goes,
+        what_cannot_be_read, a_single_that_is_gone, a_script_that_is_refused, what_was_next_is_gone, places_that_are_none, a_cache_of_zeros, a_name_with_a_tab, an_entry_that_goes,
         what_is_damaged_is_told, a_night_asks_for_heads, one_loudness_for_all, a_report, behind_a_crossfade, two_nights_over_one_cache, parts_are_joined_where_they_lie, refused_behind_the_replacing)

@@ -72,10 +72,10 @@ def a_calendar(place):
                          ("12-24 f\n12-24 g", "2: 12-24 has a script in line 1 already")):
         write_file(place.folder, "dates", text)
         status, lines, said = place.run("--calendar=dates", "f", "0.01")
-        place.wants(text, (status, said, lines[0]), (0, "", f"dates:{wanted}; the line is passed over"))
+        place.wants(text, (status, said, lines[:1]), (0, "", [f"dates:{wanted}; the line is passed over"]))
         place.wants("by --strict", place.run("--strict", "--calendar=dates", "f", "0.01")[0], 1)
-    place.wants("none", place.run("--calendar=none", "f", "0.01")[1][0],
-                "none: No such file or directory; the usual script is played")
+    place.wants("none", place.run("--calendar=none", "f", "0.01")[1][:1],
+                ["none: No such file or directory; the usual script is played"])
     write_file(place.folder, "dates", f"{FRIDAY.date().isoformat()} gone.liq\n")
     place.wants("a script that is gone", calendar_of(place).script(FRIDAY.date(), "usual"), "usual")
     write_file(place.folder, "g", content(place.path("f")).replace(b"A.wav", b"G.wav"))
@@ -246,6 +246,7 @@ def units_are_right(place):
     for path in glob.glob(os.path.join(TOP, "share", "liq", "systemd", "*")):
         text = content(path).decode().replace("/usr/bin/liq-", os.path.join(TOP, "bin", "liq-"))
         write_file(place.folder, os.path.basename(path), text)
+        place.wants(f"a disk that is not mounted is no failure by {os.path.basename(path)}", "ConditionPath" in text, False)
     names = sorted(name.replace("@.", "@f.") for name in os.listdir(place.folder)
                    if name.endswith((".service", ".timer")))
     for name in names:
