@@ -54,7 +54,9 @@ def of_argument(script: Tokens, parameter: Parameter, argument: Argument) -> Opt
 
 
 def of_number(name: str, kind: str, first: Token, alone: bool) -> str:
-    """Where a text stands for a number, of its first token."""
+    """Where a text stands for a number, of its first token. Quotes round no number are not left out."""
+    if alone and not re.search(r"\d", first.text):
+        return f"{name} is a number, as `{'1' if kind.startswith('int') else '1.'}`, and no text"
     line = f"{name} is a number: write it without quotes"
     share = re.fullmatch(r"[\"']\s*(-?\d{1,3}(?:\.\d*)?)\s*dB\s*[\"']", first.text) if alone else None
     if share and kind.startswith("decimal") and float(share[1]) < 180:

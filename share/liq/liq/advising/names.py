@@ -69,7 +69,9 @@ def unknown_name(script: Script, number: int, words: Words, calls: Dict[str, Cal
     if is_call and name.rpartition(".")[2] == "lin_of_dB" and name not in bound:
         return of_decibels(script, number) or words.told(name)
     if name in words.words and (is_call or "." in name or name == "null"):
-        return None if near in names else leaving.with_edit(words.told(name), leaving.of_call(script, number, words.words[name]))
+        if near in names:
+            return f"{words.told(name)}; or do you mean `{near}`?"
+        return leaving.with_edit(words.told(name), leaving.of_call(script, number, words.words[name]))
     if name in later and name not in bound and later[name][1] == script.statement_of(number):
         return f"`{name}` is bound by this statement itself, and by none before it"
     if is_call and is_in_def and name == own:
