@@ -57,6 +57,8 @@ def mounted(place, script):
     """Runs a script of the shell where it may mount disks; what it prints, and what it says."""
     if os.geteuid() or not shutil.which("unshare"):
         raise Skipped("it wants root")
+    if subprocess.run(["unshare", "-m", "true"], check=False, capture_output=True).returncode:
+        raise Skipped("no disks of one's own, as in a folder that is made the root")
     done = subprocess.run(["unshare", "-m", "sh", "-c", script], cwd=place.folder, capture_output=True, text=True,
                           check=False)
     if done.returncode == 99:
