@@ -2,7 +2,6 @@
 import errno
 import os
 import random
-import shutil
 import signal
 import subprocess
 import sys
@@ -10,7 +9,7 @@ import time
 
 from lib.common import TOP, content, quick
 from lib.night_place import NIGHT, SECONDS
-from lib.place import Skipped
+from lib.place import Skipped, wants_disks
 from lib.stations import write_file
 
 sys.path.insert(0, os.path.join(TOP, "share", "liq"))
@@ -55,10 +54,7 @@ def a_room_of_others(place):
 
 def mounted(place, script):
     """Runs a script of the shell where it may mount disks; what it prints, and what it says."""
-    if os.geteuid() or not shutil.which("unshare"):
-        raise Skipped("it wants root")
-    if subprocess.run(["unshare", "-m", "true"], check=False, capture_output=True).returncode:
-        raise Skipped("no disks of one's own, as in a folder that is made the root")
+    wants_disks()
     done = subprocess.run(["unshare", "-m", "sh", "-c", script], cwd=place.folder, capture_output=True, text=True,
                           check=False)
     if done.returncode == 99:

@@ -3,6 +3,7 @@ import errno
 import fcntl
 import os
 import resource
+import shutil
 import subprocess
 import termios
 import time
@@ -16,6 +17,14 @@ LONG = 200  # ticks: more than a pipe holds
 
 class Skipped(Exception):
     """The run cannot be made here."""
+
+
+def wants_disks():
+    """`Skipped` where a run cannot have disks of its own: it wants root, and a root folder that is that of a disk."""
+    if os.geteuid() or not shutil.which("unshare"):
+        raise Skipped("it wants root")
+    if subprocess.run(["unshare", "-m", "true"], check=False, capture_output=True).returncode:
+        raise Skipped("no disks of its own, as in a folder that is made the root")
 
 
 def wave(samples, ticks):
