@@ -8,6 +8,7 @@ import os
 import resource
 import shutil
 import subprocess
+import sys
 import threading
 
 from lib.common import TOP, content, header, left_samples, sound
@@ -15,6 +16,9 @@ from lib.night_files import mounted
 from lib.night_place import NIGHT, RATE, SECONDS
 from lib.place import Skipped
 from lib.stations import cues_in, write_file
+
+sys.path.insert(0, os.path.join(TOP, "share", "liq"))
+from liq.reading.programs import beside  # noqa: E402
 
 PAGE = os.path.join(TOP, "bin", "liq-page")
 TODAY = "--start=today:20:00"
@@ -286,6 +290,21 @@ def a_night_asks_for_heads(place):
     place.wants("seconds of a processor", seconds < 6, True)
 
 
+def a_night_asks_once(place):
+    """A night asks its companion each question once; the page, which is a program of its own, asks for the week again."""
+    place.slow()
+    own = place.path("slow", "about_program")
+    os.unlink(own)
+    write_file(place.folder, "slow/about_program",
+               f"#!/bin/sh\necho \"$1 $2\" >>'{place.path('asked')}'\nexec '{beside(place.program, 'about_program')}' \"$@\"\n")
+    os.chmod(own, 0o755)
+    done = place.run("f", "0.01", program=f"--program={place.path('slow', 'liq_program')}")
+    place.wants("the night", (done[0], done[2]), (0, ""))
+    asked = content(place.path("asked")).decode().split("\n")[:-1]
+    place.wants("what is asked of the script", sorted(line for line in asked if line.endswith(" f")),
+                ["files f", "tokens f", "week f", "week f"])
+
+
 def one_loudness_for_all(place):
     """With --loudness each entry of a list has that loudness, a WAV file too; what a single plays stays as it is."""
     if not shutil.which("ffmpeg"):
@@ -409,4 +428,4 @@ def refused_behind_the_replacing(place):
 
 RUNS = (lists_that_share, a_length_that_is_told_too_long, the_same_night_once_more, a_day_of_another_script,
         what_cannot_be_read, a_single_that_is_gone, a_script_that_is_refused, what_was_next_is_gone, places_that_are_none, a_cache_of_zeros, a_name_with_a_tab, an_entry_that_goes,
-        what_is_damaged_is_told, a_night_asks_for_heads, one_loudness_for_all, a_report, behind_a_crossfade, two_nights_over_one_cache, parts_are_joined_where_they_lie, refused_behind_the_replacing)
+        what_is_damaged_is_told, a_night_asks_for_heads, a_night_asks_once, one_loudness_for_all, a_report, behind_a_crossfade, two_nights_over_one_cache, parts_are_joined_where_they_lie, refused_behind_the_replacing)

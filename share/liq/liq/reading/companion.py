@@ -7,6 +7,7 @@ import signal
 import stat
 import subprocess
 import tempfile
+import threading
 from typing import IO, Any, Callable, Iterator, Optional, TypeVar, Union
 
 from liq.failed import Failed
@@ -32,15 +33,41 @@ class NoPlan(NoAnswer):
     """The script has no plan, so nothing is told of it. `liq check` says why."""
 
 
+class Answers:
+    """What a companion printed of texts, as far as it is remembered: the last that were asked for. Threads may share it."""
+
+    def __init__(self) -> None:
+        self.lock = threading.Lock()
+        self.kept: "collections.OrderedDict[tuple[str, bytes], bytes]" = collections.OrderedDict()
+
+    def find(self, verb: str, text: bytes) -> Optional[bytes]:
+        """What the verb printed of a text, if it is remembered."""
+        with self.lock:
+            if (verb, text) in self.kept:
+                self.kept.move_to_end((verb, text))
+            return self.kept.get((verb, text))
+
+    def keep(self, verb: str, text: bytes, printed: bytes) -> None:
+        """Remembers what the verb printed of a text, if both are short."""
+        if len(text) + len(printed) <= MOST_KEPT:
+            with self.lock:
+                self.kept[verb, text] = printed
+                if len(self.kept) > KEPT:
+                    self.kept.popitem(last=False)
+
+
+ANSWERS: "dict[str, Answers]" = {}      # those of the companion at each path
+
+
 class Companion:
     """The companion program at a path, and for how many seconds a call of it may run. Where none are given, a call may take as
-    long as it makes progress. It remembers what it answered of the text of a script alone. What it says of files is asked anew
-    each time."""
+    long as it makes progress. What it answered of the text of a script alone is remembered, for all calls of this process. What
+    it says of files is asked anew each time."""
 
     def __init__(self, path: str, seconds: Optional[float] = None):
         self.path, self.seconds = path, seconds
         self.limit: "dict[Optional[int], Union[Facts, Refused]]" = {}
-        self.kept: "collections.OrderedDict[tuple[str, bytes], bytes]" = collections.OrderedDict()
+        self.answers = ANSWERS.setdefault(path, Answers())
 
     def files(self, file: str, folder: Optional[str] = None) -> Union[Facts, Refused]:
         """What a script sets and plays, and what becomes of each file that it names. Names count from `folder`, or
@@ -99,14 +126,12 @@ class Companion:
     def remembered(self, verb: str, file: str, given: Optional[bytes] = None) -> bytes:
         """What the companion prints of a file, or of a text that is given. It is asked once for each text."""
         text = text_of(file) if given is None else given
-        if text is not None and (verb, text) in self.kept:
-            self.kept.move_to_end((verb, text))
-            return self.kept[verb, text]
+        known = None if text is None else self.answers.find(verb, text)
+        if known is not None:
+            return known
         printed = self.call(verb, file, given or b"")
-        if text is not None and len(text) + len(printed) <= MOST_KEPT and text in (given, text_of(file)):
-            self.kept[verb, text] = printed
-            if len(self.kept) > KEPT:
-                self.kept.popitem(last=False)
+        if text is not None and text in (given, text_of(file)):
+            self.answers.keep(verb, text, printed)
         return printed
 
     def call(self, verb: str, file: str, given: bytes = b"", folder: Optional[str] = None,
