@@ -129,6 +129,7 @@ pub record Passed (file : List ℕ) (scripts scripts_new : ShelfTold) (input : O
   pub unwritten : status ≡ 4 → ShownUntil Output file scripts scripts_new input out out_new
   pub refused : status ≡ 5 → (out_new ≡ out) ⊎ ShownUntil Memory file scripts scripts_new input out out_new
 
+-- what a verb leaves, by the status: `where` passes the input on, and a question is answered about the script
 abbrev pub Answers : Verb → (file : List ℕ) → (input : Option (List ℕ)) → (old new : Outside) → (status : ℕ) → Type 0
 Answers Where file input old new status =
     Passed file old.scripts new.scripts input old.out new.out status × (new.shelf ≡ old.shelf)

@@ -141,14 +141,14 @@ pub record NodeGivesOn (history : History) (many filled i : ℕ) (node : Node) (
   pub lanes : (k : ℕ) → k < i → gives (next_of history) k ≡ true → HasMadeLane history many k sides
   pub supplied : gives (next_of history) i ≡ true → passes state ≡ true → IsSupplied history many filled i held sides
 
--- and behind it
+-- node i after its run over such a stretch: what its state stands for, and if it gives, its samples
 pub record NodeHasGone (history : History) (many filled i : ℕ) (node : Node) (old : NodeState) (sides : Sides Lanes)
     (state : NodeState) : Type 0 where
   pub stands : StandsOn history (suc many) (filled_on ((gives (next_of history) i && passes old)
       || reads (work_at history.setting i node)) many filled) i node state
   pub lane_is : gives (next_of history) i ≡ true → HasMadeLane history many i sides
 
--- the same of a node that gave, whose samples are these
+-- node i, which gives, after it made these samples of such a stretch: what its state stands for
 pub record NodeHasMade (history : History) (many filled i : ℕ) (node : Node) (old : NodeState)
     (samples : Sides (List ℤ)) (state : NodeState) : Type 0 where
   pub gave : gives (next_of history) i ≡ true

@@ -63,7 +63,8 @@ pub fn run_nodes(
     forget(scene, nodes, clock, &mut stretch_room.parts);
 }
 
-// The same, over the parts of no node, which become those of the clock's nodes.
+// Makes so many instants of the clock's nodes, node by node: their states go on, and each that gives leaves its
+// samples. `parts` is silent before; afterwards it has the held parts of these nodes.
 fn run_each(
     scene: &Scene<'_>,
     nodes: &ClockNodes,

@@ -73,7 +73,8 @@ pub fn give_all<T: Taps>(alloc: Global, feeds: &[FeedPort], taps: &mut T) -> Res
     give_each(alloc, feeds, &mut made, taps)
 }
 
-// The same, with a list for the chunks that are made.
+// Gives the chunk of each feed that has cells to its buffer, in their order. `made` has the chunks of the feeds before;
+// a later feed of the same node gives such a chunk again.
 fn give_each<'a, T: Taps>(
     alloc: Global,
     feeds: &'a [FeedPort],

@@ -78,6 +78,7 @@ pub record Halted {S T : Type 0} (told : S → SinkTold) (stands : T → List Ca
   pub taps : (calls : List Call) → stands old.taps calls
       → stands new.taps (calls ++ (joined_from after.calls t made ++ part.made))
 
+-- a task was run for `count` ticks more: it made them all, or it stopped in one of them
 pub record RanTask {S T : Type 0} (told : S → SinkTold) (stands : T → List Call
     → Type 0) (count : ℕ) (old new : Task S T) : Type 0 where
   pub on : (t : ℕ) (tick_calls : TickCalls) (first : ℕ → Option (List ℕ))

@@ -19,7 +19,7 @@ joined_from calls from count = joined_upto (λ j. calls (from + j)) count
 abbrev pub answers_by : TickCalls → ℕ → ℕ → List Answer
 answers_by tick_calls t buffer = answers_in buffer (joined_upto tick_calls.calls t)
 
--- the same in the first so many ticks
+-- in the first t ticks the calls did not change, nor what the buffers accepted
 pub record Agree (t : ℕ) (old new : TickCalls) : Type 0 where
   pub calls : (i : ℕ) → i < t → new.calls i ≡ old.calls i
   pub accepted : (i : ℕ) → i < t → new.accepted i ≡ old.accepted i

@@ -27,7 +27,7 @@ pub(crate) fn end_of(clock: u32, fault: TickFault) -> End
     }
 }
 
-// How the run ends, where a clock stopped: the lowest tells.
+// How the run ends, if a clock stopped: at the fault of the lowest clock that did.
 fn stopped_in<O, R>(tasks: &[Task<'_, O, ThreadTaps<'_, R>>]) -> Option<End>
     ensures none { IfNone result ((k : ℕ) (d : _) → k < length tasks.now
         → (slice_index_or tasks.now k d).engine.parts.stopped ≡ None) }

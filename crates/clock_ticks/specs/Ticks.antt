@@ -64,8 +64,8 @@ pub record HasMade {S T : Type 0} (told : S → SinkTold) (taps_stand : T → Li
       (held_in told (outputs_of (setting_of new) new.clock) outs_new)
   pub taps : (calls : List Call) → taps_stand taps_old calls → taps_stand taps_new (calls ++ more)
 
--- the same of a tick that answers a fault: the calls that were made are the first ones of the tick's, each output has
--- grown by a part of its bytes, and the engine stopped in this tick
+-- a tick that answers a fault has made the first ones of its calls; whatever engine and taps stood for, each output has
+-- grown by a part of its bytes, the engine stopped in this tick, and the taps stand for these calls too
 pub record HasFailed {S T : Type 0} (told : S → SinkTold) (taps_stand : T → List Call
     → Type 0) (old new : EngineParts) (outs_old outs_new : List S)
     (taps_old taps_new : T) : Type 0 where

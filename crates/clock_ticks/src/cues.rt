@@ -103,7 +103,8 @@ pub fn mark_all(
     mark_lists(&mut cues.lists, ports, at, clocks)
 }
 
-// The same, where marks are kept.
+// Each output gets the mark of its node at the latest instant, which is `at`, if a track begins there. Where memory is
+// refused some got theirs.
 fn mark_lists(
     lists: &mut Vec<CueList>,
     ports: &[Port],

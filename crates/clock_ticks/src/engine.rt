@@ -172,7 +172,7 @@ fn run_parts<T: Taps>(parts: &mut EngineParts<'_>, taps: &mut T) -> Result<(), M
     )
 }
 
-// The same, and a fault stops the engine.
+// Makes the instants of a tick. Where memory is refused, the engine has stopped.
 fn run_or_stop<T: Taps>(parts: &mut EngineParts<'_>, taps: &mut T) -> Result<(), TickFault>
     requires parts { AreParts parts.old }
     requires few { parts.old.ticks < 1000000000 }

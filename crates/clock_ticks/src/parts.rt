@@ -195,7 +195,7 @@ fn node_of(sink: &SinkPlan) -> u32
     }
 }
 
-// The same, where no node is demanded before.
+// Sets for each node, none of which is set before, whether its own clock demands it of itself.
 fn demand_roots(scene: &Scene<'_>, own: &mut [bool])
     requires in_clocks { length scene.now.clocks.now ≡ length own.old }
     requires sinks { All (λ sink. sink_node sink < length own.old) scene.now.plan.now.sinks }

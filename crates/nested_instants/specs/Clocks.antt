@@ -311,6 +311,8 @@ pub record Opened (setting : Setting) (sub : ℕ → ℕ → List Slot) (rank : 
   pub stand : Stand setting sub rank (rank clock) (begun_progress setting clock progress more) all
   pub calls : more ≡ takes_at setting clock (first_instants setting sub clock (progress.ran clock))
 
+-- the readers of a clock have begun, if its instant begins a tick, by these calls: whatever instants the states stood
+-- for, and whatever answers come behind those of the calls
 pub record ClockOpened {T : Type 0} (stands : T → List Call → Type 0) (scene : Scene) (clock : NodeClock)
     (time : WeekTime) (old new : ClockStates) (taps_old taps_new : T) : Type 0 where
   pub more : List Call
@@ -322,6 +324,7 @@ pub record ClockOpened {T : Type 0} (stands : T → List Call → Type 0) (scene
       → TimeStands setting.start (progress.ran clock) time
       → Opened setting sub rank clock progress more new
 
+-- memory was refused: these are the first takes with which the readers of a clock begin its instant
 pub record OpeningStopped {T : Type 0} (stands : T → List Call → Type 0) (scene : Scene) (clock : NodeClock)
     (time : WeekTime) (old : ClockStates) (taps_old taps_new : T) : Type 0 where
   pub made : List Call
@@ -333,7 +336,8 @@ pub record OpeningStopped {T : Type 0} (stands : T → List Call → Type 0) (sc
       → TimeStands setting.start (progress.ran clock) time
       → IsBegin made (takes_at setting clock (first_instants setting sub clock (progress.ran clock)))
 
--- node k has its item, by these calls
+-- node k, if it is a crossfade, has its item, for which its sub-clock made these calls: whatever instants the states
+-- stood for, and whatever answers come behind those of the calls
 pub record NodeSettled {T : Type 0} (stands : T → List Call → Type 0) (scene : Scene) (own : List Bool) (k : ℕ)
     (old new : ClockStates) (taps_old taps_new : T) : Type 0 where
   pub more : List Call
@@ -356,6 +360,7 @@ pub record IsFillingStopped (setting : Setting) (sub : ℕ → ℕ → List Slot
       (joined_between (calls_below setting sub k) (progress.filled k)
       (run_of overlap (sub k) (position (past_of setting sub progress.ran k) k)))
 
+-- memory was refused: these are the first calls for the item of node k, whatever instants the states stood for
 pub record NodeStopped {T : Type 0} (stands : T → List Call → Type 0) (scene : Scene) (own : List Bool) (k : ℕ)
     (old : ClockStates) (taps_old taps_new : T) : Type 0 where
   pub made : List Call
@@ -385,6 +390,8 @@ pub record AreReady (setting : Setting) (sub : ℕ → ℕ → List Slot) (clock
   pub begun : (i : ℕ) → reads_at setting i ≡ true → clock_of setting i ≡ clock
       → progress.filled i ≡ suc (progress.ran clock)
 
+-- the crossfades of a clock below a node have their items, by these calls: whatever instants the states stood for, and
+-- whatever answers come behind those of the calls
 pub record AllSettled {T : Type 0} (stands : T → List Call → Type 0) (scene : Scene) (own : List Bool)
     (clock : NodeClock) (below : ℕ) (old new : ClockStates) (taps_old taps_new : T) : Type 0 where
   pub more : List Call
@@ -395,6 +402,8 @@ pub record AllSettled {T : Type 0} (stands : T → List Call → Type 0) (scene 
       → Stand setting sub rank (rank clock) progress old → AreReady setting sub clock progress
       → AreFilled setting sub rank clock below progress more new
 
+-- memory was refused: these are the first calls for the items of a clock's crossfades, whatever instants the states
+-- stood for
 pub record SettlingStopped {T : Type 0} (stands : T → List Call → Type 0) (scene : Scene) (own : List Bool)
     (clock : NodeClock) (old : ClockStates) (taps_old taps_new : T) : Type 0 where
   pub made : List Call

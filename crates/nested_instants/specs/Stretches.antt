@@ -137,7 +137,8 @@ pub record SubsMade (setting : Setting) (sub : ℕ → ℕ → List Slot) (rank 
   pub inside : (k : ℕ) → k < length setting.plan.nodes → clock_of setting k ≡ clock → k < below → through k ≡ true
       → clock_of setting (crossfaded setting.plan.nodes k) ≡ Sub k
 
--- the same for the sub-clocks below a node, whatever instants the states stood for
+-- of a clock's crossfades below a node, the sub-clocks of those through which cells pass at its latest instant have
+-- made so many instants more: whatever instants the states stood for
 pub record SubClocksMade (scene : Scene) (clock : NodeClock) (many below : ℕ) (old new : ClockStates) : Type 0 where
   pub run : (other : Setting) (sub : ℕ → ℕ → List Slot) (rank : NodeClock → ℕ) (progress : Progress)
       (own : List Bool) (n : ℕ) →
@@ -147,7 +148,8 @@ pub record SubClocksMade (scene : Scene) (clock : NodeClock) (many below : ℕ) 
       (goes_through (moment_after setting sub clock (first_instants setting sub clock n)) old.states.items) below
       progress new
 
--- the same for the sub-clock of node i, if it is a crossfade through which cells pass, behind those below it
+-- if node i is a crossfade through which cells pass, its sub-clock has made so many instants more too, after those of
+-- the crossfades of its clock below it
 pub record SubClockMade (scene : Scene) (i many : ℕ) (old new : ClockStates) : Type 0 where
   pub step : (other : Setting) (sub : ℕ → ℕ → List Slot) (rank : NodeClock → ℕ) (progress : Progress)
       (own : List Bool) (through : ℕ → Bool) →

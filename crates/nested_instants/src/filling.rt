@@ -71,10 +71,10 @@ pub fn fill_child(scene: &Scene<'_>, clocks: &mut ClockStates, k: u32)
     clocks.times[at] = clocks.times[at].next();
 }
 
-/// Feeds crossfade k the slots that its child has at the instants of its sub-clock which go on as the latest one did,
-/// where it wants them: so many are made, and no more. Where it wants none, it is kept how many go on. `time` is that
-/// of the latest instant, whose slot it was filled, and `levels` bounds how deep sub-clocks nest below the crossfade's
-/// clock.
+/// Feeds crossfade k further slots of its child, behind the latest instant of its sub-clock, which was at `time` and
+/// whose slot it has. If instants follow that go on as that one did, and the crossfade has room, so many are made at
+/// once. Otherwise none is made, and it is kept how many go on. `levels` bounds how deep sub-clocks nest below the
+/// crossfade's clock.
 pub fn fill_on(scene: &Scene<'_>, clocks: &mut ClockStates, k: u32, time: WeekTime, levels: usize)
     requires ready { AreStatesAt scene.now time clocks.old }
     requires within { k < length scene.now.plan.now.nodes }

@@ -74,7 +74,7 @@ impl Desk {
     }
 }
 
-// The same over room for slots and marks.
+// What a node offers and uses. `slots` and `marks` have room for its children; what stands there does not matter.
 fn offer_over(
     state: &NodeState,
     node: &Node,

@@ -167,6 +167,7 @@ fn push_sheet_style(into: &mut Vec<u8>, infallible: bool) -> Result<(), Memory>
     }
 }
 
+// Appends the label of an output's sheet, to the end of the line; `red` says that the output is refused (E25).
 fn push_output_label(
     into: &mut Vec<u8>,
     name: &Text,

@@ -58,7 +58,7 @@ pub fn push_decimal(into: &mut Vec<u8>, value: Decimal) -> Result<(), Memory>
     push_pointed(into, size / MILLION, size % MILLION)
 }
 
-// Appends a number of whole units and millionths.
+// Appends a decimal without its sign, as `2.0` or `1.25`: its whole units and its millionths.
 fn push_pointed(into: &mut Vec<u8>, whole: u64, millionths: u64) -> Result<(), Memory>
     requires { millionths < 1000000 }
     ensures { OnOk result (into.new.items ≡ into.old.items ++ pointed whole millionths) }

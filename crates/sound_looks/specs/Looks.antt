@@ -86,7 +86,8 @@ list_look_of (Ok bytes) = Ok (names_listed bytes, skipped_in bytes)
 abbrev pub ListLooks : (name : List ℕ) → ShelfTold → Result (List (List ℕ) × ℕ) Unusable → Type 0
 ListLooks name told found = ForSome told.files (λ files. list_look_of (bytes_in (2 ^ 20) (file_at files name)) ≡ found)
 
--- the same of a list
+-- what a look at the list of this name found: that it was not read, why it is of no use, or its names and how many
+-- lines are skipped
 abbrev pub IsListLook : (name : List ℕ) → (old new : ShelfTold) → ListLook → Type 0
 IsListLook name old new list_look.Unread = Rose old.reads new.reads
 IsListLook name old new (list_look.Bad fault) = ListLooks name old (Err fault)

@@ -30,7 +30,7 @@ cue_files_with library (Output name node fallible wide ∷ sinks) (cues ∷ mark
     ∷ cue_files_with library sinks marks
 cue_files_with library (Feed buffer node ∷ sinks) marks = cue_files_with library sinks marks
 
--- the same for a job, where they are wanted
+-- the cue files of the outputs among these sinks if they are wanted, and otherwise none
 abbrev pub cue_files_if : (wanted : Bool) → Sounds → List SinkPlan → List (List Cue) → List OutputFile
 cue_files_if false library sinks marks = []
 cue_files_if true library sinks marks = cue_files_with library sinks marks

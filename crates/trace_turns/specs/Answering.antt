@@ -138,7 +138,7 @@ pub record CanComeBy (states : List BufferState) (front : List Call) (call : Cal
       → Suits (slice_index_or states (buffer_of call) d).capacity (somes (puts_to (buffer_of call) front))
       (got_in (buffer_of call) front) call
 
--- the calls up to one that got no right answer, since it waits or since there is none
+-- the calls up to a take that gets a chunk by the trace, which is not there yet
 pub record HasWaited (states : List BufferState) (calls : List Call) : Type 0 where
   pub front : List Call
   pub behind : List Call
@@ -152,6 +152,7 @@ pub record HasWaited (states : List BufferState) (calls : List Call) : Type 0 wh
       ≤ (slice_index_or states buffer d).got
   pub joins : (d : BufferState) → is_list (slice_index_or states buffer d) ≡ false
 
+-- the calls up to one that no answer makes right
 pub record HasFailed (states : List BufferState) (calls : List Call) : Type 0 where
   pub front : List Call
   pub behind : List Call

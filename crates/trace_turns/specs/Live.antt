@@ -33,7 +33,8 @@ pub record MayGoOn (score : Score) (W N m n : ℕ) (parts : EngineParts) (states
   pub move : MayMove score W N states ends
   pub run : RunsAt score.base score.text W N m n score.chunks parts states
 
--- the same over buffers that let go of chunks: over the buffers with all their chunks it may
+-- a clock that has made n ticks may make more over buffers that let go of chunks: it may over the same buffers with all
+-- their chunks, and none is missing that it is to get
 pub record MayFlow (score : Score) (W N m n : ℕ) (parts : EngineParts) (states : List BufferState)
     (ends : List Ends) : Type 0 where
   pub full : List BufferState
@@ -78,7 +79,8 @@ pub record HasGone (base : Setting) (told : TimedText) (ends : Mains) (m n : ℕ
   pub come : HasCome base told.window told.ticks told.text m n (chunks_of opening) (chunks_of states)
   pub paused : IsPaused base told ends m n parts marks states
 
--- the same of buffers that let go of chunks; what other clocks are to get is not let go
+-- in a turn over buffers that let go of chunks clock m came to n ticks, and waits at these marks; nothing was let go
+-- that it is to get
 pub record HasFlownOn (base : Setting) (told : TimedText) (ends : Mains) (m n : ℕ) (parts : EngineParts)
     (marks : List Mark) (opening states : List BufferState) : Type 0 where
   pub full : List BufferState

@@ -39,7 +39,7 @@ abbrev pub NoneLost : List BufferState → Type 0
 NoneLost states = (b : ℕ) (d : BufferState) → b < length states → (slice_index_or states b d).read ≡ true
     → (slice_index_or states b d).gone ≤ (slice_index_or states b d).got
 
--- the same of clock m, whose run goes on at these marks
+-- nothing was let go that clock m is to get, whose run goes on at these marks
 abbrev pub AreUnlost : (readers : List ℕ) → (m : ℕ) → List Mark → List BufferState → Type 0
 AreUnlost readers m marks states = (b : ℕ) (d : BufferState) (e : Mark) → b < length states
     → slice_index_or readers b 0 ≡ m → (slice_index_or states b d).gone ≤ (slice_index_or marks b e).got

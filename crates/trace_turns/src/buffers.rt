@@ -132,7 +132,8 @@ fn reach_of(plan: &Plan, clocks: &ClockMap, node: u32) -> u64 {
         .saturating_add(frame.saturating_mul(3))
 }
 
-// The same of the reader of each buffer, with what it wants before it begins to play.
+// By a buffer's number: how many cells its reader takes in a tick at most, and its prefill, in all. `nodes` has the
+// readers.
 fn reaches_of(
     alloc: Global,
     plan: &Plan,

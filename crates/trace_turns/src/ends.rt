@@ -23,7 +23,8 @@ fn is_at(ends: &[usize], window: u64, at: usize) -> bool
     ends[window as usize] == at
 }
 
-// The same of the ends of a buffer that the clock has.
+// Whether the clock is at the end of a window on a buffer: with its puts if it feeds it, and with its takes if it reads
+// it.
 fn at_end(buffer: &ToldBuffer, ends: &Ends, window: u64) -> bool
     ensures right { result ≡ true → IsAtEnd buffer.now ends.now window }
     ensures wrong { result ≡ false → IsAtEnd buffer.now ends.now window → ⊥ }

@@ -60,7 +60,8 @@ pub fn begin_run(buffers: &mut Vec<ToldBuffer>, feeders: &[u32], readers: &[u32]
     }
 }
 
-/// Goes on with the run of a clock, whose calls came so far on each buffer.
+/// Goes on with the run of main clock `clock`. By a buffer's number, `marks` says how far its calls came before, and
+/// `feeders` and `readers` are the main clocks of its ends.
 pub fn resume_run(
     buffers: &mut Vec<ToldBuffer>,
     feeders: &[u32],

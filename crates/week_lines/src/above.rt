@@ -51,7 +51,7 @@ fn taken(sink: &SinkPlan) -> u32
     }
 }
 
-// The same where no sink takes it.
+// What plays in the place of a source that no sink takes: known only if one node alone plays it.
 fn instead_among(nodes: &[Node], number: usize) -> Instead
     ensures { result ≡ instead_among nodes.now number (players_of nodes.now number) }
 {

@@ -53,7 +53,8 @@ pub fn push_switches(
     Ok(())
 }
 
-// The same; what was told of the switch before is kept, since the next one may have the same cases.
+// Appends what is told of each source, and adds the seconds at which one is silent. What was told of a switch is kept
+// in `looked`, since the next one may have the same cases.
 fn push_each<'a>(
     alloc: Global,
     into: &mut Vec<u8>,

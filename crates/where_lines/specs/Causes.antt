@@ -28,7 +28,7 @@ pub record IsCauseOf (text : List ℕ) (plan : Plan) (output at : ℕ) : Type 0 
   pub cause : IsCause plan.nodes output source
   pub place : IsSourceAt text source at
 
--- the same of the source of an output
+-- the place of the source that is to be mended so that the output of this name never falls silent
 pub record IsCauseAt (text name : List ℕ) (at : ℕ) : Type 0 where
   pub plan : Plan
   pub is_plan : IsPlan text plan

@@ -21,7 +21,7 @@ HasNoTokens text = (tokens : List Token) → AreTokens text tokens → ⊥
 abbrev pub HasNoStatement : List ℕ → (number : ℕ) → Type 0
 HasNoStatement text number = (script : Script) → Spells text script → first_token script number ≡ None
 
--- the same of these tokens
+-- these tokens spell no script that has a statement of this number
 abbrev pub HasNoStatementAmong : List Token → (number : ℕ) → Type 0
 HasNoStatementAmong tokens number = (script : Script) → spelling script ≡ kinds tokens → IsPlaced 0 script
     → IsShallow (kinds tokens) → first_token script number ≡ None

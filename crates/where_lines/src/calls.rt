@@ -86,7 +86,7 @@ fn confirmed(
     clash_with_call(alloc, text, done, found)
 }
 
-// The same, where they do not clash with those before it.
+// Where a call begins, if types clash with it; with the calls before it they do not clash.
 fn clash_with_call(
     alloc: Global,
     text: &[u8],

@@ -32,7 +32,8 @@ pub fn clash_place(alloc: Global, text: &[u8], statement: u64) -> Result<Option<
     }
 }
 
-// The same, where these are the tokens.
+// By the tokens of a script: the byte at which the call begins with which the types of a statement clash; where no one
+// call of it is found, the statement. Nothing where they spell no such statement.
 fn place_among(
     alloc: Global,
     text: &[u8],

@@ -145,7 +145,7 @@ fn behind_of(
     }
 }
 
-// The same where the script could be read.
+// What comes behind a line, by the script's text: the place that the line names, or nothing if it names none.
 fn behind_in(
     alloc: Global,
     line: &[u8],

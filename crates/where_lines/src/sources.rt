@@ -67,7 +67,7 @@ fn read_source(
     }
 }
 
-// The same, where this is the call.
+// The byte at which the call begins whose token is `call`, the one that makes the source; nothing without a call.
 fn call_place(
     alloc: Global,
     text: &[u8],
