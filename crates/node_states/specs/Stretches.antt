@@ -18,8 +18,8 @@ use Rattle.node_states.specs.Passing.{ChildFills, given_part, passes}
 use Rattle.node_states.specs.Histories.{History, IsLaneOf, StandsOn, next_of}
 use Rattle.node_states.specs.States.{AreLong, reads}
 
--- so many of its next cells or items are there, and none of them begins a track: what a run asks of a node that gives;
--- a crossfade through which cells pass is given them
+-- the next `count` cells or items of a node that gives are there, and none of them begins a track; a crossfade through
+-- which cells pass gets them from its child
 abbrev pub LiesAhead : Sounds → NodeState → (count : ℕ) → Type 0
 LiesAhead library (Leaf state) count = 0 < count → LeafLiesAhead library state count
 LiesAhead library (Select state) count = ⊤
@@ -37,12 +37,13 @@ pub record GoesOn (history : History) (many i : ℕ) (node : Node) : Type 0 wher
   pub is : IsNode history.setting history.clock i node
   pub gave : gives (next_of history) i ≡ true
 
--- what a node has begun or was filled, where a reader has begun so many instants more
+-- `filled` after `many` instants more: for a reader, and for a crossfade through which cells pass, as many more; for
+-- any other node as before
 abbrev pub filled_on : Bool → (many filled : ℕ) → ℕ
 filled_on reading many filled = if reading then filled + many else filled
 
--- node i has this state, gives at the next instant, and so many go on as that one: what the state stands for, and how
--- far a reader has begun; where cells pass through it come those of its child, of the title `below`
+-- node i gives at the next instant, for which its state stands too, and `many` instants go on as that one. A reader has
+-- begun that instant; a crossfade through which cells pass gets those of its child, with the title `below`
 pub record GivesOn (history : History) (many filled i : ℕ) (node : Node) (sounds : Sounds) (below : ℕ) (before : Before)
     (state : NodeState) : Type 0 where
   pub library : history.setting.library ≡ sounds
@@ -52,8 +53,8 @@ pub record GivesOn (history : History) (many filled i : ℕ) (node : Node) (soun
       → ChildFills (history.sub i) filled many below node.children before.left.now before.right.now
   pub stands : StandsOn history 1 filled i node state
 
--- what the children of node i gave at the next instant, which of them it used there, and the samples of those that
--- gave, over so many instants that go on as that one
+-- `before` has what the children of node i gave at the next instant, and the samples of those that gave over the `many`
+-- instants that go on as that one; `pick` is the place of the child that node i used there
 pub record ChildrenGive (history : History) (many i : ℕ) (node : Node) (pick : Option ℕ)
     (before : Before) : Type 0 where
   pub given : (c : ℕ) → list_any (nat_eq c) node.children ≡ true

@@ -54,7 +54,7 @@ pub enum NodeState {
     /// The reader of a buffer.
     Read(ReaderState),
 
-    /// A node of which no instant is made where the state stands: it keeps nothing.
+    /// A node of a clock that the engine does not drive: nothing is kept.
     Idle,
 }
 
@@ -93,7 +93,7 @@ impl NodeState {
         }
     }
 
-    /// Whether it is a crossfade whose item is not settled: it wants the next slot of its child.
+    /// Whether it is a crossfade that needs the next slot of its child, since its item is not settled yet.
     pub fn wants(&self) -> bool
         ensures wants { result ≡ wants self.now }
         ensures ends { result ≡ true → 0 < left self.now }
@@ -115,7 +115,7 @@ impl NodeState {
         }
     }
 
-    /// Takes the next slot of a crossfade's child.
+    /// Gives a crossfade the next slot of its child.
     pub fn feed(&mut self, slot: Option<Cell>)
         requires { wants self.old ≡ true }
         ensures fits { (library : Sounds) (children : ℕ) → Fits library children self.old
@@ -133,8 +133,8 @@ impl NodeState {
         }
     }
 
-    /// What the node offers over the slots of its children, at an instant whose second is this, and which child it
-    /// uses, where it chooses. `marks` is room for a mark a child; what stands there does not matter.
+    /// What the node offers at an instant in second `at` of the week, by the slots of its children; and if it chooses,
+    /// which child it uses. `marks` is room for one mark per child; its content does not matter.
     pub fn offer(
         &self,
         node: &Node,
@@ -168,7 +168,8 @@ impl NodeState {
         }
     }
 
-    /// The child that a selection used when it last gave.
+    /// The child that a selection used when it last gave, as its place among the children; `None` if it never gave, and
+    /// for every other node.
     pub fn last(&self) -> Option<u32>
         ensures { (setting : Setting) (sub : ℕ → ℕ
             → List TheSlot) (past : List Moment) (filled i : ℕ) (rule : TheRule) (eligible : Eligible)
@@ -181,10 +182,11 @@ impl NodeState {
         }
     }
 
-    /// How many instants, at most so many, go on behind one at which the node had this part and gave, or did not, as
-    /// far as it goes; a reader within its tick. `begins` tells whether the child that a selection used last begins a
-    /// track there, and `below` how many instants of a crossfade's sub-clock go on with a track, under the title
-    /// `below_title`. Where cells pass, each of its items asks for one of these, and else for none.
+    /// How many instants, at most `most`, go on as the latest one did, as far as this node alone decides; a reader goes
+    /// on within its tick. At the latest instant it had this part, and gave if `gave` is set. `begins` says whether the
+    /// child that a selection used last begins a track there. `below` is how many instants of a crossfade's sub-clock
+    /// go on with a track, under the title `below_title`: where cells pass, each item asks for one of these, and
+    /// otherwise for none.
     pub fn rest(
         &self,
         part: Part,
@@ -259,7 +261,8 @@ impl NodeState {
         }
     }
 
-    /// Goes on by an instant at which the node had this part and was demanded, or not.
+    /// Goes on by one instant, at which the node had this part; `is_demanded` says whether it was demanded there, and
+    /// `children` how many children it has.
     pub fn next(&mut self, part: Part, is_demanded: bool, library: &Library, children: usize)
         requires fits { Fits library.now children self.old }
         ensures fits { Fits library.now children self.new }
