@@ -10,7 +10,8 @@ use clock_infer::NodeClock;
 use clock_nodes::Scene;
 use fixed_text::WeekSecond;
 
-/// Makes the parts of an instant of a clock whose crossfades are settled, and takes the states of its nodes on.
+/// Makes an instant of a clock whose crossfades are settled, in second `at` of the week: its parts, and the next states
+/// of its nodes. `own` says of each node whether its own clock demands it of itself.
 pub fn finish(
     scene: &Scene<'_>,
     own: &[bool],
