@@ -18,7 +18,7 @@ use Rattle.trace_turns.specs.Thin.{AreFull, AreUnlost, NoneLost}
 use Rattle.trace_turns.specs.Turns.{AreEnds, RunsAt, Score, chunks_of}
 use Rattle.trace_turns.specs.Timed.{TimedText}
 
--- a run of a clock may move over buffers that are as many as these
+-- a clock may run over these buffers: one for each of the plan, and `ends` says where the text's windows end
 pub record MayMove (score : Score) (W N : ℕ) (states : List BufferState) (ends : List Ends) : Type 0 where
   pub is : IsSetting score.base score.clocks
   pub formed : IsFormed (length score.base.plan.buffers) W N score.text
@@ -27,7 +27,7 @@ pub record MayMove (score : Score) (W N : ℕ) (states : List BufferState) (ends
   pub ends_are : (b : ℕ) (e : Ends) → b < length score.base.plan.buffers
       → AreEnds (score.text b) (slice_index_or ends b e)
 
--- a clock that has made n ticks may make more
+-- clock m, which has made n ticks, may make more over these buffers
 pub record MayGoOn (score : Score) (W N m n : ℕ) (parts : EngineParts) (states : List BufferState)
     (ends : List Ends) : Type 0 where
   pub move : MayMove score W N states ends
@@ -42,7 +42,7 @@ pub record MayFlow (score : Score) (W N m n : ℕ) (parts : EngineParts) (states
   pub unlost : NoneLost states
   pub may : MayGoOn score W N m n parts full ends
 
--- clock m has made its first n ticks over such buffers
+-- clock m has made its first n ticks over buffers that let go of chunks; nothing was let go that it is to get
 pub record HasFlown (base : Setting) (told : TimedText) (m n : ℕ) (chunks : ℕ → List (List Cell)) (parts : EngineParts)
     (states : List BufferState) : Type 0 where
   pub full : List BufferState
@@ -58,8 +58,8 @@ pub record Mains : Type 0 where
 abbrev pub mains : (feeders readers : List ℕ) → Mains
 mains feeders readers = record { feeders = feeders; readers = readers }
 
--- Clock m has made its first n ticks, and its engine stands for their calls. So will the buffers, where its run goes on
--- at these marks.
+-- Clock m has made its first n ticks, and its engine stands for their calls. So do the buffers, if its run goes on at
+-- these marks.
 pub record IsPaused (base : Setting) (told : TimedText) (ends : Mains) (m n : ℕ) (parts : EngineParts)
     (marks : List Mark) (states : List BufferState) : Type 0 where
   pub calls : List Call
@@ -73,14 +73,15 @@ pub record IsPaused (base : Setting) (told : TimedText) (ends : Mains) (m n : �
       → StandsFor (resumed (slice_index_or states b d) (nat_eq (slice_index_or ends.feeders b 0) m)
       (nat_eq (slice_index_or ends.readers b 0) m) (slice_index_or marks b e)) b calls
 
--- in a turn over these buffers clock m came to n ticks, and waits at these marks of others
+-- in a turn, by which the buffers came from `opening` to `states`, clock m came to n ticks, and its calls came to these
+-- marks
 pub record HasGone (base : Setting) (told : TimedText) (ends : Mains) (m n : ℕ) (parts : EngineParts)
     (marks : List Mark) (opening states : List BufferState) : Type 0 where
   pub come : HasCome base told.window told.ticks told.text m n (chunks_of opening) (chunks_of states)
   pub paused : IsPaused base told ends m n parts marks states
 
--- in a turn over buffers that let go of chunks clock m came to n ticks, and waits at these marks; nothing was let go
--- that it is to get
+-- in a turn over buffers that let go of chunks clock m came to n ticks, and its calls came to these marks; nothing was
+-- let go that clock m is still to get
 pub record HasFlownOn (base : Setting) (told : TimedText) (ends : Mains) (m n : ℕ) (parts : EngineParts)
     (marks : List Mark) (opening states : List BufferState) : Type 0 where
   pub full : List BufferState
@@ -96,7 +97,7 @@ pub record IsNewClock (base : Setting) (m : ℕ) (live : LiveClock) : Type 0 whe
   pub many : length live.marks.items ≡ length base.plan.buffers
   pub none : (b : ℕ) (e : Mark) → b < length base.plan.buffers → slice_index_or live.marks.items b e ≡ no_mark
 
--- the first so many clocks, by their numbers
+-- the first `count` clocks of a station, in their order, each before its first tick
 pub record AreNewClocks (base : Setting) (count : ℕ) (lives : List LiveClock) : Type 0 where
   pub size : length lives ≡ count
   pub each : (k : ℕ) (live : LiveClock) → slice_get lives k ≡ Some live → IsNewClock base k live

@@ -24,13 +24,13 @@ pub record MaySearch (station : Station) (of : Sides) (ends : List Ends) (window
   pub empty : (b : ℕ) → chunks_of states b ≡ []
   pub text : (text : ℕ → Log) × AreFit (base_at station) window ticks text states ends
 
--- these are all turns, for each text that the buffers tell
+-- in these turns all ticks are made, for each text that the buffers tell
 abbrev pub AreFound : Station → List Ends → (window ticks : ℕ) → List BufferState → List TurnMade → Type 0
 AreFound station ends window ticks states turns = (text : ℕ → Log)
     → AreFit (base_at station) window ticks text states ends
     → AreTurns (base_at station) station.clocks.now.running window ticks text turns no_ticks no_chunks
 
--- what the buffers told they tell still
+-- each text that the buffers told before, they tell after
 abbrev pub TellOn : Station → List Ends → (window ticks : ℕ) → (before after : List BufferState) → Type 0
 TellOn station ends window ticks before after = (text : ℕ → Log)
     → AreFit (base_at station) window ticks text before ends → AreFit (base_at station) window ticks text after ends

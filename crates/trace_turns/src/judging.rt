@@ -20,7 +20,7 @@ use liq_base::Memory;
 use std::alloc::Global;
 
 /// Whether the text of a trace with as many buffers as the plan is that of a lawful record whose ticks can be ordered.
-/// Where it is, these are the turns in which the clocks make it, and the buffers are empty then.
+/// If it is, `turns` has the turns in which the clocks make it, and the buffers are empty then.
 pub fn judge(
     alloc: Global,
     station: &Station<'_>,

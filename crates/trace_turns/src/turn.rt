@@ -34,16 +34,16 @@ impl Sink for NoSink {
     }
 }
 
-/// How far a clock came.
+/// How far a clock came, from its first tick on.
 #[derive(Clone, Copy)]
 pub enum Turn {
-    /// So many ticks: all, or up to one that waits for chunks.
+    /// So many ticks in all: each of them, or up to one that waits for chunks.
     Made(u64),
     /// It makes no ticks as the text tells.
     Refused,
 }
 
-/// Makes the ticks of a clock from the first one on, as far as they can be made with the chunks that are there.
+/// Makes the `ticks` ticks of a clock from the first one on, as far as they can be made with the chunks that are there.
 pub fn run_clock(
     alloc: Global,
     engine: &mut ClockEngine<'_, NoSink>,
@@ -80,7 +80,7 @@ pub fn run_clock(
     Ok(Turn::Made(ticks))
 }
 
-/// Runs a clock from its first tick on, with the chunks that are there. Where the plan has no buffer no tick waits, and
+/// Runs a clock from its first tick on, with the chunks that are there. On a plan without buffers no tick waits, and
 /// none is made.
 pub fn run_turn(
     alloc: Global,
