@@ -49,7 +49,7 @@ pub record IsReplaying {S : Type 0} (told : S
   pub run : HasRunTurns told calls n first now
   pub rooms : (left : ℕ) → n + left ≡ N → HaveTicksRoom told now.parts now.outs left
 
--- An engine of clock m, which has made some of its N ticks, may go on up to n: the clock makes so many as the text
+-- An engine of clock m, which has made `made` of its N ticks, may go on up to n: the clock makes so many as the text
 -- tells, with the chunks that are there.
 pub record MayReplay {S : Type 0} (told : S
     → SinkTold) (score : Score) (N m made n : ℕ) (first now : ClockEngine S) (states : List BufferState) : Type 0 where
@@ -62,8 +62,9 @@ pub record MayReplay {S : Type 0} (told : S
   pub taken : ℕ → ℕ → Bool
   pub whole : HasReplayed score.base score.text window N m n score.chunks given taken
 
--- A fault ended it in a tick below n, after these calls of the ticks before and these ones of its own; they are the
--- first ones of all the calls by which the clock makes its first n ticks as the text tells.
+-- A fault ended the replay of clock m in a tick below n, after the calls `calls` of the ticks before and the calls
+-- `made` of its own; they are the first ones of all the calls by which the clock makes its first n ticks as the text
+-- tells.
 pub record IsBrokenOff {S : Type 0} (told : S
     → SinkTold) (score : Score) (N m n : ℕ) (first now : ClockEngine S) : Type 0 where
   pub tick : ℕ
@@ -75,7 +76,7 @@ pub record IsBrokenOff {S : Type 0} (told : S
       → IsFront (calls ++ made) (first_calls (answered score.base given) taken m n)
   pub part : HasRunPart told (world (setting_of first.parts) (calls ++ made)) tick (suc tick) first now
 
--- the count of faults rose of this output of an engine's clock
+-- the sink of this output of an engine's clock failed: its count of faults rose
 pub record HasSinkFailed {S : Type 0} (told : S → SinkTold) (sink : ℕ) (first now : ClockEngine S) : Type 0 where
   pub place : ℕ
   pub node : ℕ
@@ -101,11 +102,11 @@ tale_at station trace = record {
   ticks = trace.ticks;
 }
 
--- with the chunks that these buffers hold
+-- the score of a tale, with the chunks that these buffers hold
 abbrev pub score_over : Tale → (full : List BufferState) → Score
 score_over tale full = record { base = tale.base; clocks = tale.clocks; text = tale.text; chunks = chunks_of full }
 
--- an engine at first and as it is now, and the marks of the buffers at which it waits
+-- an engine at first and as it is now, and how far its calls came on each buffer
 pub record Progress (S : Type 0) : Type 0 where
   pub first : ClockEngine S
   pub now : ClockEngine S
@@ -130,8 +131,8 @@ pub record IsResting {S : Type 0} (told : S
   pub unlost : AreUnlost sides.readers.items m gone.marks states
   pub many : length gone.marks ≡ length states
 
--- An engine of clock m, which rests after some of its ticks, may come to n in a turn, by which these chunks are there;
--- the ticks of all clocks and the chunks so far are those of the tale.
+-- An engine of clock m, which rests after `made` of its ticks, may come to n ticks in a turn, after which the chunks
+-- `next` are there; the ticks of all clocks and the chunks before it are those of the tale.
 pub record MayPlay {S : Type 0} (told : S
     → SinkTold) (tale : Tale) (sides : Sides) (m made n : ℕ) (gone : Progress S) (states : List BufferState)
     : Type 0 where
@@ -148,7 +149,7 @@ pub record MayPlay {S : Type 0} (told : S
   pub next : ℕ → List (List Cell)
   pub come : HasCome tale.base tale.window tale.ticks tale.text m n (chunks_of full) next
 
--- In its turn it came to n ticks, by which these chunks are there: from buffers that with all their chunks are
+-- In its turn clock m came to n ticks, after which these chunks are there: from buffers that with all their chunks are
 -- `opening` to those that are `full`. No chunk was let go that another clock is to get.
 pub record HasPlayed {S : Type 0} (told : S
     → SinkTold) (tale : Tale) (sides : Sides) (m n : ℕ) (gone : Progress S) (opening before states : List BufferState)
@@ -162,7 +163,7 @@ pub record HasPlayed {S : Type 0} (told : S
   pub unlost : (k : ℕ) (other : List Mark) → (k ≡ m → ⊥) → AreUnlost sides.readers.items k other before
       → AreUnlost sides.readers.items k other states
 
--- Between two turns of all clocks: each engine has made its ticks so far and rests, and these turns are left.
+-- Between two turns of all clocks: each engine has made some of its ticks and rests, and these turns are left.
 pub record ArePlaying {S : Type 0} (told : S
     → SinkTold) (tale : Tale) (sides : Sides) (turns : List TurnMade) (first now : List (ClockEngine S))
     (rests : List Rest) (states : List BufferState) : Type 0 where
@@ -186,6 +187,7 @@ pub record IsNewRest (buffers : ℕ) (rest : Rest) : Type 0 where
   pub many : length rest.marks.items ≡ buffers
   pub none : (b : ℕ) (e : Mark) → b < buffers → slice_index_or rest.marks.items b e ≡ no_mark
 
+-- where `count` engines rest before their first tick, over so many buffers
 pub record AreNewRests (count buffers : ℕ) (rests : List Rest) : Type 0 where
   pub size : length rests ≡ count
   pub each : (k : ℕ) (rest : Rest) → slice_get rests k ≡ Some rest → IsNewRest buffers rest

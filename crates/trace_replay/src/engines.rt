@@ -36,7 +36,8 @@ pub struct Rest {
     pub marks: Vec<Mark>,
 }
 
-/// Makes further ticks of a clock that has made some, over buffers that hold the chunks that it gets.
+/// Makes further ticks of a clock, from the `made` ones on up to `ticks` in all, over buffers that hold the chunks that
+/// it gets.
 pub fn replay_clock<O: Sink>(
     alloc: Global,
     engine: &mut ClockEngine<'_, O>,
@@ -65,7 +66,7 @@ pub fn replay_clock<O: Sink>(
     Ok(())
 }
 
-// A turn of a clock: its engine goes on where it rests, up to so many ticks.
+// A turn of a clock: its engine goes on where it rests, up to `ticks` ticks in all.
 fn replay_turn<O: Sink>(
     alloc: Global,
     engine: &mut ClockEngine<'_, O>,
@@ -116,7 +117,7 @@ fn new_rest(alloc: Global, buffers: usize) -> Result<Rest, Memory>
     Ok(Rest { made: 0, marks })
 }
 
-// The same of so many engines.
+// Where `count` engines rest before their first tick, over so many buffers.
 fn new_rests(alloc: Global, count: usize, buffers: usize) -> Result<Vec<Rest>, Memory>
     ensures { IfOk result (λ rests. AreNewRests count buffers rests.items) }
 {
@@ -141,7 +142,7 @@ fn end_of(clock: u32, fault: TickFault) -> End
     }
 }
 
-// A turn of a list.
+// Turn number i of a list.
 fn turn_at(turns: &[TurnMade], i: usize) -> TurnMade
     requires { i < length turns.now }
     ensures { result ≡ get_or turns.now i result }
