@@ -82,7 +82,7 @@ pub record BrokeOff (station : Station) (device : Bool) (files : Files) (old new
       × (HasNoJoin (bare station) station.clocks.running → RendersAsOneThread station stopped.run))
   pub front : (run : Run) → CreatedFront (names_of station run) old new
 
--- that of a verdict did
+-- the verdict is a station, and its rendering broke off
 abbrev pub IsBroken : Verdict → (device : Bool) → Files → (old new : ShelfTold) → Type 0
 IsBroken verdict device files old new = (station : Station) × (verdict ≡ Accepted station)
     × BrokeOff station device files old new

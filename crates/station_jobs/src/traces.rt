@@ -19,7 +19,7 @@ use std::alloc::Global;
 use trace_log::{Trace, TraceFault, read};
 use trace_replay::{RecordTurns, find_record};
 
-/// Bytes of a trace, at most.
+/// How many bytes a trace has at most.
 const MAX_TRACE_BYTES: u64 = 268_435_456;
 
 /// A trace by which a script is rendered again, and all the turns of its record.
