@@ -8,7 +8,8 @@ ghost use Rattle.plan_blames.specs.Needs.{HasOther, IsAlone, IsOnly, is_last, ne
 use plan_core::Op;
 use time_pred::SharedPred;
 
-/// Whether a source of this operator over these children, where it may offer nothing, does so for this one.
+/// Whether a source of this operator over these children, if it may offer nothing, needs this one: it would always
+/// offer something if this one did.
 pub fn needs(op: &Op, children: &[u32], child: u64) -> bool
     ensures { result ≡ needs op.now children.now child }
 {
@@ -88,7 +89,7 @@ fn first_sure(preds: &[SharedPred], children: &[u32]) -> Option<u32>
     None
 }
 
-// This one, where no predicate of another child is always true by its form.
+// This child, if no predicate of another one is always true by its form, and otherwise nothing.
 fn lone_sure(preds: &[SharedPred], children: &[u32], first: u32) -> Option<u32>
     requires { some_case (map view_shared preds.now) children.now first ≡ true }
     ensures { IsOnly (some_case (map view_shared preds.now) children.now) result }
@@ -121,7 +122,7 @@ fn is_other_case(pred: &SharedPred, child: u32, first: u32) -> bool
     if pred.always() { child != first } else { false }
 }
 
-// The last child.
+// The last child, which alone is needed; nothing where there is none.
 fn only_last(children: &[u32]) -> Option<u32>
     ensures { IsOnly (is_last children.now) result }
 {
@@ -134,7 +135,7 @@ fn last_of(children: &[u32]) -> Option<u32>
     children.last().copied()
 }
 
-// The child that all children are.
+// The one child that all children are; nothing where there is none, or another.
 fn only_child(children: &[u32]) -> Option<u32>
     ensures { IsOnly (some_child children.now) result }
 {
@@ -150,7 +151,7 @@ fn first_of(children: &[u32]) -> Option<u32>
     children.first().copied()
 }
 
-// This one, where there is no other.
+// This child, if there is no other, and otherwise nothing.
 fn lone_child(children: &[u32], first: u32) -> Option<u32>
     requires { some_child children.now first ≡ true }
     ensures { IsOnly (some_child children.now) result }
@@ -161,7 +162,7 @@ fn lone_child(children: &[u32], first: u32) -> Option<u32>
     Some(first)
 }
 
-// Whether there is another child.
+// Whether there is another child than this one.
 fn other_child(children: &[u32], first: u32) -> bool
     ensures yes { result ≡ true → HasOther (some_child children.now) first }
     ensures no { result ≡ false → IsAlone (some_child children.now) first }
