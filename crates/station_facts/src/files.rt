@@ -62,7 +62,7 @@ pub fn tell_files<S: Shelf>(
     Ok(out.into_inner())
 }
 
-// Writes the whole object.
+// Writes the whole object of a plan and its files.
 fn push_all(
     alloc: Global,
     out: &mut Out,
@@ -90,6 +90,7 @@ fn push_all(
     Ok(())
 }
 
+// Writes how many bytes all sounds that are used, one sound, a list and a script have at most.
 fn push_limits(out: &mut Out, rules: Rules) -> Result<(), Memory>
     ensures { OnOk result (Adds out.old out.new (limit_members rules)) }
 {
