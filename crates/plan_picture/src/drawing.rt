@@ -57,6 +57,7 @@ fn all_reds(
     }
 }
 
+// Appends the whole text. `groups` has the group of each source, and `red` whether it is to blame for a silence.
 fn push_picture(
     alloc: Global,
     into: &mut Vec<u8>,
@@ -88,6 +89,7 @@ fn push_picture(
     push_rest(into, plan, marks, refused, silent, clocks, groups)
 }
 
+// Appends what comes after the edges between sources: the outputs, the edges through buffers, and the regions.
 fn push_rest(
     into: &mut Vec<u8>,
     plan: &Plan,
@@ -107,6 +109,7 @@ fn push_rest(
     push_plain(into, b"}\n")
 }
 
+// Appends the beginning of each picture: how all of it is drawn.
 fn push_beginning(into: &mut Vec<u8>) -> Result<(), Memory>
     ensures { OnOk result (into.new.items ≡ into.old.items ++ beginning) }
 {
