@@ -50,7 +50,8 @@ fn place_among(
     }
 }
 
-// The same in a script.
+// In a script: the byte at which the call begins with which the types of a statement clash; where no one call of it is
+// found, the statement. Nothing if there is no such statement.
 fn place_within(
     alloc: Global,
     text: &[u8],
