@@ -5,6 +5,7 @@ use Rattle.liq_base.specs.declared.shelf.ShelfFault.TheVariants.{Failed as devic
 use Rattle.station_render.specs.declared.fault.RenderFault.{RenderFault}
 use Rattle.station_render.specs.declared.fault.RenderFault.TheVariants.{Write as write_fault, Memory as memory_fault}
 
+-- the fault of a rendering that broke off for this fault of its shelf
 abbrev pub render_fault_of : ShelfFault → RenderFault
 render_fault_of device_failed = write_fault
 render_fault_of no_memory = memory_fault

@@ -19,7 +19,7 @@ cue_of mark = record { at = mark.at; title = mark.title }
 abbrev pub cues_of : List (Vec CueMark Global) → List (List Cue)
 cues_of marks = map (map cue_of) (lists_of marks)
 
--- the cue file of an output that has these marks
+-- the cue file of the output of this name, which has these cues
 abbrev pub cue_file : Sounds → (name : List ℕ) → List Cue → OutputFile
 cue_file library name cues = record { name = cue_name name; bytes = cue_text library cues }
 

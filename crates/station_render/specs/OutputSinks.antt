@@ -15,7 +15,7 @@ abbrev pub but_one_if : (odd : Bool) → Option ℕ → Option ℕ
 but_one_if false room = room
 but_one_if true room = but_one room
 
--- whether there is room for a byte, as far as it is told
+-- whether a sink has room for one byte more; true where the room is not told
 abbrev pub has_one : Option ℕ → Bool
 has_one None = true
 has_one (Some zero) = false
@@ -66,7 +66,7 @@ told_by odd sink = record {
 abbrev pub output_told : {O : Type 0} → (told : O → SinkTold) → OutputSink O → SinkTold
 output_told told output = told_by output.odd (told output.sink)
 
--- the zero byte that an output owes
+-- the zero byte that ends an output, if the bytes of its samples are odd
 abbrev pub last_byte : (odd : Bool) → List ℕ
 last_byte false = []
 last_byte true = 0 ∷ []
@@ -88,11 +88,11 @@ pub record HoldsBody {O : Type 0} (told : O → SinkTold) (part : OutputPart) (o
   pub holds : (told output.sink).held ≡ Some part.least
   pub whole : part.most ≡ part.least ++ last_byte output.odd
 
--- what the sink within tells
+-- what the sink within the sink of an output tells
 abbrev pub inner : {O : Type 0} → (told : O → SinkTold) → OutputSink O → SinkTold
 inner told output = told output.sink
 
--- a sink is as it was, or took these bytes in one piece
+-- a sink is as it was, or took some bytes in one piece
 abbrev pub MayHaveTaken : (old new : SinkTold) → Type 0
 MayHaveTaken old new = (new ≡ old) ⊎ ((taken : List ℕ) × TookPiece taken old new)
 

@@ -80,7 +80,7 @@ HasRecord setting clocks ticks InRounds = ⊤
 HasRecord setting clocks ticks (InWindows window) = ⊤
 HasRecord setting clocks ticks (Again trace) = IsAccepted setting clocks ticks trace
 
--- this is told of a run: the gaps of each output, in sink order; of each buffer its counts and which answers each
+-- what is told of a run: the gaps of each output, in sink order; of each buffer its counts and which answers each
 -- window had; and the marks of each output, where cue files are wanted
 pub record IsTold (station : Station) (run : Run) (rendered : Rendered) : Type 0 where
   pub gaps_are : rendered.gaps.items ≡ gaps_in_order station run

@@ -20,7 +20,7 @@ count_of m (c ∷ cs) = if nat_eq c m then suc (count_of m cs) else count_of m c
 abbrev pub lists_of : {S : Type 0} → List (Vec S Global) → List (List S)
 lists_of groups = map (λ group. group.items) groups
 
--- each clock of a list is one of so many
+-- each number of a clock in the list is less than `clocks`
 abbrev pub AreBelow : (clocks : ℕ) → List ℕ → Type 0
 AreBelow clocks order = (k clock : ℕ) → slice_get order k ≡ Some clock → clock < clocks
 
@@ -50,13 +50,13 @@ pub record AreEmpty {S : Type 0} (clocks : ℕ) (groups : List (List S)) : Type 
 pub record HasPlace {S : Type 0} (clock : ℕ) (groups : List (Vec S Global)) : Type 0 where
   pub room : (group : Vec S Global) → slice_get groups clock ≡ Some group → vec_len group + 1 ≤ vec_capacity group
 
--- this clock has a sink more, its last
+-- a clock got one sink more, as its last
 pub record WasAdded {S : Type 0} (clock : ℕ) (sink : S) (old new : List (List S)) : Type 0 where
   pub before : List S
   pub was : slice_get old clock ≡ Some before
   pub is : new ≡ slice_set old clock (before ++ sink ∷ [])
 
--- this clock has a sink less, its first
+-- the first sink of a clock was taken from it
 pub record WasTaken {S : Type 0} (clock : ℕ) (old : List (List S)) (sink : S) (new : List (List S)) : Type 0 where
   pub rest : List S
   pub was : slice_get old clock ≡ Some (sink ∷ rest)
@@ -74,7 +74,8 @@ pub record HoldsPart (output : OutputFile) (sink : SinkTold) : Type 0 where
   pub holds : sink.held ≡ Some part
   pub front : IsPrefix part output.bytes
 
--- the sink has the name of the output, and holds a front of its most bytes: all its least ones too, unless it failed
+-- the sink has the name of the output, and holds a front of its bytes `most`, with all its bytes `least` in front
+-- unless the sink failed
 pub record HoldsFront (output : OutputPart) (sink : SinkTold) : Type 0 where
   pub named : sink.name ≡ Some output.name
   pub part : List ℕ
