@@ -55,7 +55,7 @@ abbrev pub IsRuling : Asked → Files → Ruling → Type 0
 IsRuling asked files (Granted plan library clocks way) = IsGranted asked (files_for asked files) plan library clocks way
 IsRuling asked files (Denied fault) = IsRefusal asked files fault
 
--- this is the ruling, and there is no other
+-- the ruling on what is asked for is this one, and there is no other
 pub record IsOneRuling (asked : Asked) (files : Files) (ruling : Ruling) : Type 0 where
   pub holds : IsRuling asked files ruling
   pub only : (other : Ruling) → IsRuling asked files other → other ≡ ruling
@@ -114,23 +114,23 @@ pub record ClashEnds {T : Type 0} (clash : Option (List ℕ)) (result : Result T
   pub no_read : IsErrOf result Read → ⊥
   pub no_write : IsErrOf result Write → ⊥
 
--- what is asked for has one verdict and no other, and this holds of it
+-- what is asked for has one verdict and no other, and P holds of it
 pub record ForOne (asked : Asked) (files : Files) (P : Verdict → Type 0) : Type 0 where
   pub verdict : Verdict
   pub is_verdict : IsVerdictOn asked files verdict
   pub only : (other : Verdict) → IsVerdictOn asked files other → other ≡ verdict
   pub holds : P verdict
 
--- this holds of each verdict on what is asked for
+-- P holds of each verdict on what is asked for
 abbrev pub ForEach : Asked → Files → (Verdict → Type 0) → Type 0
 ForEach asked files P = (verdict : Verdict) → IsVerdictOn asked files verdict → P verdict
 
--- where the shelf tells its files, this is said of the one verdict on what is asked for
+-- where the shelf tells its files, P holds of them and of the one verdict on what is asked for
 abbrev pub ForOneOf : Asked → ShelfTold → (Files → Verdict → Type 0) → Type 0
 ForOneOf asked shelf P = ForSome shelf.files (λ files. ForOne asked files (P files))
 
--- A job ended so, over what is told of the shelf before and after it: with the report of what was done; for the fault
--- that is the verdict, or since a read failed, where the shelf was only read; since a write failed; or since memory was
+-- How a job may end, by what the shelf tells before and after it: with the report of what was done; with the fault that
+-- is the verdict, or since a read failed, where the shelf was only read; since a write failed; or since memory was
 -- refused.
 abbrev pub Ended : (asked : Asked) (old new : ShelfTold) → Result (String Global) CallEnd → Type 0
 Ended asked old new (Ok report) = ForOneOf asked old
@@ -166,7 +166,7 @@ halt_of_script (script_fault.Type fault) = refused_for (Script (script_fault.Typ
 halt_of_script (script_fault.Eval fault) = refused_for (Script (script_fault.Eval fault))
 halt_of_script script_fault.Memory = Memory
 
--- the end of a call whose check ended so
+-- the end of a call, by the end of its check
 abbrev pub halt_of_check : CheckEnd → CallEnd
 halt_of_check (check_refused fault) = refused_for (Fault.Station fault)
 halt_of_check check_read = Read

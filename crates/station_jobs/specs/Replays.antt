@@ -10,7 +10,7 @@ use Rattle.stations.specs.Stations.{Way, Again}
 use Rattle.refusal_lines.specs.declared.replay_lines.ReplayFault.{ReplayFault}
 use Rattle.refusal_lines.specs.declared.replay_lines.ReplayFault.TheVariants.{NoTrace, TraceTooLarge, NotATrace, DoesNotFit}
 
--- the bytes of a trace, at most
+-- how many bytes a trace has at most
 abbrev pub most_bytes : ℕ
 most_bytes = 2 ^ 28
 

@@ -40,7 +40,7 @@ abbrev pub summary_of : Files → Station → Run → List ℕ
 summary_of files station run = summed_lines station run (with_outputs files (output_files station run))
     station.plan.sinks
 
--- the summary is that of rounds on one thread, which have one record
+-- rounds on one thread have one record, and this summary
 pub record SumsAsOneThread (files : Files) (station : Station) (summary : List ℕ) : Type 0 where
   pub alone : Run
   pub rounds : IsRounds (bare station) station.clocks.running station.ticks alone

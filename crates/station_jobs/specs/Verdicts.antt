@@ -132,7 +132,7 @@ IsTraceFault (Make seed size) files fault = ⊥
 IsTraceFault (Replay file start ticks trace) files fault = HasUntold files
     (rendering_by file start ticks None false) trace fault
 
--- by threads in windows of so many ticks, or in rounds on one thread if no window is given
+-- the way of a rendering: by threads in windows of so many ticks, or in rounds on one thread if no window is given
 abbrev pub way_in : (window : Option ℕ) → Way
 way_in None = InRounds
 way_in (Some window) = InWindows window
@@ -166,7 +166,7 @@ pub record IsStation (asked : Asked) (files : Files) (station : Station) : Type 
   pub is_way : IsWayFor asked files station.plan station.library station.clocks station.way
   pub rest_is : station ≡ station_for (rendering_of asked) station.plan station.library station.clocks station.way
 
--- the files of a workload
+-- the files of the workload of this seed, with so many audio files
 unfoldable pub files_made : (seed size : ℕ) → Files
 files_made seed size = from_entries (workload seed (size - 1))
 
@@ -190,7 +190,7 @@ abbrev pub IsRefusal : Asked → Files → Fault → Type 0
 IsRefusal asked files fault =
     IsScriptFault (files_for asked files) (rendering_of asked) fault ⊎ IsTraceFault asked files fault
 
--- this is the verdict on what is asked for: its first fault, or its station
+-- the verdict on what is asked for: its first fault, or its station
 abbrev pub IsVerdictOn : Asked → Files → Verdict → Type 0
 IsVerdictOn asked files verdict =
     ((fault : Fault) × (verdict ≡ Refused fault) × IsRefusal asked files fault)
@@ -202,17 +202,17 @@ pub record IsFormed (words : List (List ℕ)) (files : Files) (verdict : Verdict
   pub is_asked : IsAsked words asked
   pub is_verdict : IsVerdictOn asked files verdict
 
--- this is the verdict on these words over these files: words of no form have the usage line
+-- the verdict on these words over these files: words of no form have the usage line
 abbrev pub IsVerdict : List (List ℕ) → Files → Verdict → Type 0
 IsVerdict words files verdict = ((verdict ≡ Usage) × HasNoForm words) ⊎ IsFormed words files verdict
 
--- words and files have one verdict and no other, and this holds of it
+-- words and files have one verdict and no other, and P holds of it
 pub record ForVerdict (words : List (List ℕ)) (files : Files) (P : Verdict → Type 0) : Type 0 where
   pub verdict : Verdict
   pub is_verdict : IsVerdict words files verdict
   pub only : (other : Verdict) → IsVerdict words files other → other ≡ verdict
   pub holds : P verdict
 
--- this holds of each verdict on these words over these files
+-- P holds of each verdict on these words over these files
 abbrev pub ForEachVerdict : List (List ℕ) → Files → (Verdict → Type 0) → Type 0
 ForEachVerdict words files P = (verdict : Verdict) → IsVerdict words files verdict → P verdict

@@ -27,7 +27,7 @@ pub enum Form<'a> {
 
     /// `make SEED SIZE`
     Make {
-        /// From what the workload is made.
+        /// The number from which the workload is made.
         seed: u64,
         size: Size,
     },

@@ -60,7 +60,7 @@ pub fn threads_job<S: Shelf, G: Gate + Sync, R: Threads + Wait + Sync>(
     conclude(alloc, &job, ended)
 }
 
-/// The end of a job whose rendering ended so: its report, or why there is none.
+/// The end of a job, by the end of its rendering: its report, or why there is none.
 pub(crate) fn conclude(
     alloc: Global,
     job: &Job<'_>,
