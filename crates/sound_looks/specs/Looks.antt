@@ -80,7 +80,7 @@ skipped_among (line ∷ lines) = if is_skipped (without_cr line) then 1 + skippe
 abbrev pub skipped_in : List ℕ → ℕ
 skipped_in bytes = skipped_among (lines (without_mark bytes))
 
--- the names of a list and how many lines were skipped, as it was read
+-- the names of a list and how many lines are skipped, by its bytes, or why it has none of use
 abbrev pub list_look_of : Result (List ℕ) Unusable → Result (List (List ℕ) × ℕ) Unusable
 list_look_of (Err fault) = Err fault
 list_look_of (Ok bytes) = Ok (names_listed bytes, skipped_in bytes)
