@@ -7,8 +7,8 @@ use Rattle.week_plan.specs.Spans.{some_case_holds}
 use Rattle.week_plan.specs.declared.span.Span.{Span}
 use Rattle.week_windows.specs.declared.windows.Windows.{Windows}
 
--- these spans with a second before all of them: the first span begins with it if that is the next second, and otherwise
--- it is a span of its own
+-- spans with one second more, which is before all of them: the first span begins with it if it was to begin a second
+-- later, and otherwise it is a span of its own
 abbrev pub with_second : (at : ℕ) → List Span → List Span
 with_second at [] = record { from = at; to = at + 1 } ∷ []
 with_second at (span ∷ spans) =

@@ -62,7 +62,8 @@ fn measured(spans: &[Span], more: u32) -> Windows
     }
 }
 
-// How many windows these spans are, of which there is a first, and how long.
+// How many windows these spans are, of which there is a first, and how long; the one that ends with the week goes on
+// for `more` seconds.
 fn measured_from(first: Span, rest: &[Span], more: u32) -> Windows
     ensures { result ≡ in_all (seconds_of more first ∷ map (seconds_of more) rest.now) }
 {
