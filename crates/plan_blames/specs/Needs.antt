@@ -27,7 +27,7 @@ is_last children child = option_map_or (is_child child) (last_of children) false
 abbrev pub some_case : List Predicate → (children : List ℕ) → (child : ℕ) → Bool
 some_case preds children child = list_any (is_case child) (zip preds children)
 
--- whether a source that may offer nothing needs this child, so that it would always offer something if this child did.
+-- Whether a source that may offer nothing needs this child, so that it would always offer something if this child did.
 -- A source that rests on its last child needs that one; one that rests on its cases, each whose predicate is always
 -- true; and another, each of its children.
 abbrev pub needs_on : Rests → (children : List ℕ) → (child : ℕ) → Bool

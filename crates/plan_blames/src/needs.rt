@@ -33,6 +33,7 @@ fn is_sure(preds: &[SharedPred], children: &[u32], child: u64) -> bool
     false
 }
 
+// Whether a child is the last one.
 fn is_last(children: &[u32], child: u64) -> bool
     ensures { result ≡ is_last children.now child }
 {
@@ -42,6 +43,7 @@ fn is_last(children: &[u32], child: u64) -> bool
     }
 }
 
+// Whether a child is one of these.
 fn contains(children: &[u32], child: u64) -> bool
     ensures { result ≡ some_child children.now child }
 {
@@ -89,7 +91,7 @@ fn first_sure(preds: &[SharedPred], children: &[u32]) -> Option<u32>
     None
 }
 
-// This child, if no predicate of another one is always true by its form, and otherwise nothing.
+// `first`, if no predicate of another child is always true by its form, and otherwise nothing.
 fn lone_sure(preds: &[SharedPred], children: &[u32], first: u32) -> Option<u32>
     requires { some_case (map view_shared preds.now) children.now first ≡ true }
     ensures { IsOnly (some_case (map view_shared preds.now) children.now) result }
@@ -100,7 +102,7 @@ fn lone_sure(preds: &[SharedPred], children: &[u32], first: u32) -> Option<u32>
     Some(first)
 }
 
-// Whether a predicate of another child is always true by its form.
+// Whether a predicate of another child than `first` is always true by its form.
 fn other_sure(preds: &[SharedPred], children: &[u32], first: u32) -> bool
     ensures yes { result ≡ true → HasOther (some_case (map view_shared preds.now) children.now) first }
     ensures no { result ≡ false → IsAlone (some_case (map view_shared preds.now) children.now) first }
@@ -114,7 +116,7 @@ fn other_sure(preds: &[SharedPred], children: &[u32], first: u32) -> bool
     false
 }
 
-// Whether a predicate is always true by its form, of another child than this one.
+// Whether a predicate is always true by its form, and its child is another one than `first`.
 fn is_other_case(pred: &SharedPred, child: u32, first: u32) -> bool
     ensures yes { result ≡ true → (is_always (view_shared pred.now) ≡ true) × (child ≢ first) }
     ensures no { result ≡ false → is_always (view_shared pred.now) ≡ true → child ≡ first }
@@ -129,6 +131,7 @@ fn only_last(children: &[u32]) -> Option<u32>
     last_of(children)
 }
 
+// The last child; nothing where there is none.
 fn last_of(children: &[u32]) -> Option<u32>
     ensures { result ≡ last_of children.now }
 {
@@ -145,13 +148,14 @@ fn only_child(children: &[u32]) -> Option<u32>
     }
 }
 
+// The first child; nothing where there is none.
 fn first_of(children: &[u32]) -> Option<u32>
     ensures { result ≡ slice_get children.now 0 }
 {
     children.first().copied()
 }
 
-// This child, if there is no other, and otherwise nothing.
+// `first`, if there is no other child, and otherwise nothing.
 fn lone_child(children: &[u32], first: u32) -> Option<u32>
     requires { some_child children.now first ≡ true }
     ensures { IsOnly (some_child children.now) result }
@@ -162,7 +166,7 @@ fn lone_child(children: &[u32], first: u32) -> Option<u32>
     Some(first)
 }
 
-// Whether there is another child than this one.
+// Whether there is another child than `first`.
 fn other_child(children: &[u32], first: u32) -> bool
     ensures yes { result ≡ true → HasOther (some_child children.now) first }
     ensures no { result ≡ false → IsAlone (some_child children.now) first }
