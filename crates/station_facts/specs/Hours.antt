@@ -55,7 +55,8 @@ abbrev pub source_hours : (most place : ℕ) → Op → (at : ℕ) → List Toke
 source_hours most place (Switch sensitive preds) at = switch_object most place preds at
 source_hours most place _ at = []
 
--- the objects of the switches among these sources; the first source has number `place`
+-- the objects of the switches among these sources; the first source has number `place`, and `ats` has the byte of the
+-- script at which the call of each begins
 abbrev pub switches_from : (most place : ℕ) → List Node → (ats : List ℕ) → List Token
 switches_from most place [] ats = []
 switches_from most place (node ∷ nodes) [] = []
@@ -71,6 +72,6 @@ switches_object most nodes ats = object (number_member (codes "most") most
 abbrev pub week_object : Plan → (ats : List ℕ) → List Token
 week_object plan ats = switches_object (most_spans plan.nodes) plan.nodes ats
 
--- what is told of the hours of a plan, whose sources are made at these bytes
+-- what is told of the hours of a plan; `ats` has the byte of the script at which the call of each source begins
 abbrev pub AreHours : Plan → (ats : List ℕ) → (told : List ℕ) → Type 0
 AreHours plan ats told = told ≡ print (week_object plan ats)

@@ -10,13 +10,15 @@ pub record Adds (old new : Written) (more : List Token) : Type 0 where
   pub tokens : new.tokens ≡ old.tokens ++ more
   pub before : new.before ≡ old.before
 
--- members of an object, by their name: a text, a number, and what is true or false
+-- a member of this name that is a text
 abbrev pub text_member : (name text : List ℕ) → List Token
 text_member name text = key name ∷ string text ∷ []
 
+-- a member of this name that is a number
 abbrev pub number_member : (name : List ℕ) → ℕ → List Token
 number_member name n = key name ∷ number (decimal n) ∷ []
 
+-- a member of this name that is true or false
 abbrev pub flag_member : (name : List ℕ) → Bool → List Token
 flag_member name b = key name ∷ boolean b ∷ []
 

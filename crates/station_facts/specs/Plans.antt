@@ -101,7 +101,7 @@ source_object node always at = object (op_members node.op ++ (kind_member node.k
     ++ (list_member (codes "children") (λ child. number (decimal child) ∷ []) node.children
     ++ (flag_member (codes "always") always ++ number_member (codes "at") at))))
 
--- the members of a plan, whose sources are made at these bytes
+-- the members of a plan; `ats` has the byte of the script at which the call of each source begins
 abbrev pub plan_members : Plan → (ats : List ℕ) → Inferred → List Token
 plan_members plan ats inferred = number_member (codes "rate") plan.rate ++ (number_member (codes "tick") plan.frame
     ++ (list_member (codes "outputs") (output_object plan inferred) plan.sinks

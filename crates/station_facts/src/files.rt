@@ -20,8 +20,9 @@ use sound_looks::{ListLook, Look};
 use std::alloc::Global;
 use track_library::{Rules, Sizes};
 
-/// What a plan is, whose sources are made at these bytes, and what becomes of each file that it plays, as one object of
-/// JSON. Each list and each audio file is read once, and of the audio files one is held at a time.
+/// What a plan is, and what becomes of each file that it plays, as one object of JSON. `ats` has the byte of the script
+/// at which the call of each source begins. Each list and each audio file is read once, and of the audio files one is
+/// held at a time.
 pub fn tell_files<S: Shelf>(
     alloc: Global,
     plan: &Plan,

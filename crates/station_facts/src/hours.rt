@@ -66,7 +66,8 @@ fn push_switches<'a>(
     Ok(())
 }
 
-// How many spans are told of a case, at most.
+// How many spans are told of a case at most: 2000, or, if there are many cases, so few that all of them have no more
+// than 100,000.
 fn most_spans(nodes: &[Node]) -> u64
     ensures { result ≡ most_spans nodes.now }
 {
@@ -85,7 +86,7 @@ fn all_cases(nodes: &[Node]) -> u64
     all
 }
 
-// The cases so far and those of one source more; where they are more than 100,000, 100,001.
+// The cases of a source and `all` others; where they are more than 100,000, 100,001.
 fn more_cases(all: u64, op: &Op) -> u64
     requires { all ≤ 100001 }
     ensures is { result ≡ min (all + cases_in op.now) 100001 }
@@ -199,6 +200,7 @@ fn push_cases(out: &mut Out, cases: &[Vec<Span>], most: u64) -> Result<(), Memor
     end_list(out)
 }
 
+// Writes the object of each case.
 fn push_each_case(out: &mut Out, cases: &[Vec<Span>], most: u64) -> Result<(), Memory>
     ensures { OnOk result (Adds out.old out.new (each (hours_object most) (map spans_in cases.now))) }
 {
@@ -247,6 +249,7 @@ fn push_told(out: &mut Out, spans: &[Span], most: u64) -> Result<(), Memory>
     end_list(out)
 }
 
+// Writes each span.
 fn push_each_span(out: &mut Out, spans: &[Span]) -> Result<(), Memory>
     ensures { OnOk result (Adds out.old out.new (each span_list spans.now)) }
 {

@@ -13,7 +13,7 @@ use std::alloc::Global;
 /// Names, each once, in the order in which they were met.
 pub type Names = IndexSet<Text>;
 
-/// The lists of a plan.
+/// The lists of a plan, each once.
 pub fn lists_of(alloc: Global, plan: &Plan) -> Result<Names, Memory>
     ensures { IfOk result (λ names. names.keys ≡ lists_of plan.now) }
 {
@@ -34,7 +34,7 @@ fn add_list(alloc: Global, names: &mut Names, node: &Node) -> Result<(), Memory>
     }
 }
 
-/// The audio files of a plan: those of `single`, and those in the lists as they were found.
+/// The audio files of a plan, each once: those of `single`, and those in the lists as they were found.
 pub fn sounds_of(alloc: Global, plan: &Plan, looks: &[ListLook]) -> Result<Names, Memory>
     ensures { IfOk result (λ names. names.keys ≡ sounds_of plan.now looks.now) }
 {
@@ -79,6 +79,7 @@ fn add_entries(alloc: Global, names: &mut Names, look: &ListLook) -> Result<(), 
     }
 }
 
+// Adds these names, each if it is not there.
 fn add_all(alloc: Global, names: &mut Names, more: &[Text]) -> Result<(), Memory>
     ensures { OnOk result (names.new.keys ≡ insert_all bytes_eq names.old.keys more.now) }
 {

@@ -22,7 +22,7 @@ use std::alloc::Global;
 use time_pred::SharedPred;
 use week_windows::{Known, Windows, unknown, windows_again};
 
-/// Writes the members of a plan, whose sources are made at these bytes.
+/// Writes the members of a plan. `ats` has the byte of the script at which the call of each source begins.
 pub fn push_plan(
     alloc: Global,
     out: &mut Out,
@@ -48,6 +48,7 @@ fn push_outputs(out: &mut Out, plan: &Plan, inferred: &Inferred) -> Result<(), M
     end_list(out)
 }
 
+// Writes the object of each output.
 fn push_each_output(out: &mut Out, plan: &Plan, inferred: &Inferred) -> Result<(), Memory>
     ensures { OnOk result
         (Adds out.old out.new (each (output_object plan.now inferred.now) plan.now.sinks)) }
@@ -203,6 +204,7 @@ fn push_source<'a>(
     Ok(())
 }
 
+// Writes the numbers of a source's children, as a member.
 fn push_children(out: &mut Out, children: &[u32]) -> Result<(), Memory>
     ensures { OnOk result (Adds out.old out.new
         (list_member (codes "children") (λ child. number (decimal child) ∷ []) children.now)) }
@@ -212,6 +214,7 @@ fn push_children(out: &mut Out, children: &[u32]) -> Result<(), Memory>
     end_list(out)
 }
 
+// Writes the number of each child.
 fn push_each_child(out: &mut Out, children: &[u32]) -> Result<(), Memory>
     ensures { OnOk result (Adds out.old out.new (each (λ child. number (decimal child) ∷ []) children.now)) }
 {
@@ -324,6 +327,7 @@ fn push_windows(out: &mut Out, windows: &[Windows]) -> Result<(), Memory>
     end_list(out)
 }
 
+// Writes the windows of each case.
 fn push_each_window(out: &mut Out, windows: &[Windows]) -> Result<(), Memory>
     ensures { OnOk result (Adds out.old out.new (each windows_object windows.now)) }
 {

@@ -63,6 +63,7 @@ pub fn push_lists(out: &mut Out, names: &[Text], looks: &[ListLook]) -> Result<(
     end_list(out)
 }
 
+// Writes the object of each list.
 fn push_each_list(out: &mut Out, names: &[Text], looks: &[ListLook]) -> Result<(), Memory>
     ensures { OnOk result (Adds out.old out.new (paired list_object names.now looks.now)) }
 {
@@ -110,6 +111,7 @@ fn push_entries(out: &mut Out, names: &[Text]) -> Result<(), Memory>
     end_list(out)
 }
 
+// Writes each name.
 fn push_each_entry(out: &mut Out, names: &[Text]) -> Result<(), Memory>
     ensures { OnOk result (Adds out.old out.new (each (λ name. string name ∷ []) names.now)) }
 {
@@ -134,6 +136,7 @@ pub fn push_sounds(
     end_list(out)
 }
 
+// Writes the object of each audio file.
 fn push_each_sound(
     out: &mut Out,
     names: &[Text],

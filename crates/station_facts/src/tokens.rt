@@ -44,6 +44,7 @@ fn push_front(out: &mut Out, tokens: &[Token], stop: Option<LexFault>) -> Result
     end(out)
 }
 
+// Writes each token.
 fn push_each_token(out: &mut Out, tokens: &[Token]) -> Result<(), Memory>
     ensures { OnOk result (Adds out.old out.new (each token_array tokens.now)) }
 {
