@@ -27,17 +27,18 @@ box_end infallible red = codes "\"" ++ (border infallible ++ (red_style red ++ c
 abbrev pub box_front : (k : ℕ) → List ℕ
 box_front k = (codes "n" ++ decimal k) ++ (codes " [label=\"" ++ decimal k ++ codes "  ")
 
--- the label of source k: what it does, and why it is red
+-- the label of source k: what it does, and why it is red; `silent` says that the plan is refused for a silence
 abbrev pub box_label : Plan → (silent : Bool) → Result ClockMap ClockFault → (k : ℕ) → Node → (red : Bool) → List ℕ
 box_label plan silent clocks k node red = words plan k node.op ++ red_words silent red clocks k node
 
--- the box of source k
+-- the box of source k; `silent` says that the plan is refused for a silence
 abbrev pub node_box : Plan → (silent : Bool) → Result ClockMap ClockFault → (k : ℕ) → Node → (infallible red : Bool)
     → List ℕ
 node_box plan silent clocks k node infallible red = box_front k
     ++ (box_label plan silent clocks k node red ++ box_end infallible red)
 
--- the boxes of the sources, each once
+-- the boxes of the sources, each once; `mark` says which always offer something, and `reds` which are red for a
+-- silence, if the plan is refused for one (`silent`)
 abbrev pub node_boxes : Plan → List Node → (mark : ℕ → Bool) → (silent : Bool) → (reds : List Bool)
     → Result ClockMap ClockFault → List ℕ
 node_boxes plan nodes mark silent reds clocks = numbered
@@ -48,6 +49,7 @@ abbrev pub sheet : (infallible : Bool) → List ℕ
 sheet true = codes " [shape=note, margin=\"0.16,0.08\", style=\"filled\""
 sheet false = codes " [shape=note, margin=\"0.16,0.08\", style=\"filled,dashed\""
 
+-- the words for an output that the script lets be fallible
 abbrev pub fallible_words : (fallible : Bool) → List ℕ
 fallible_words true = codes "\\nfallible"
 fallible_words false = []

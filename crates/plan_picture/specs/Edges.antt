@@ -48,13 +48,15 @@ abbrev pub child_edge : Op → (count k child place : ℕ) → (red : Bool) → 
 child_edge op count k child place red = edge_ends child k
     ++ (codes " [" ++ (edge_label op count place ++ (edge_style red ++ codes "];\n")))
 
--- the edges from the children of source k
+-- the edges from the children of source k; `reds` says which sources are red for a silence, if the plan is refused for
+-- one (`silent`)
 abbrev pub child_edges : (silent : Bool) → (reds : List Bool) → Result ClockMap ClockFault → (k : ℕ) → Op
     → (children : List ℕ) → List ℕ
 child_edges silent reds clocks k op children = numbered
     (λ place child. child_edge op (length children) k child place (edge_red silent reds clocks k child)) 0 children
 
--- the edges between sources, each once
+-- the edges between sources, each once; `reds` says which are red for a silence, if the plan is refused for one
+-- (`silent`)
 abbrev pub node_edges : List Node → (silent : Bool) → (reds : List Bool) → Result ClockMap ClockFault → List ℕ
 node_edges nodes silent reds clocks = numbered (λ k node. child_edges silent reds clocks k node.op node.children) 0
     nodes
@@ -88,7 +90,8 @@ through false plan buffer node k = []
 abbrev pub feed_edges : Plan → List Node → (buffer node : ℕ) → List ℕ
 feed_edges plan nodes buffer node = numbered (λ k reader. through (reads reader.op buffer) plan buffer node k) 0 nodes
 
--- an output with the edge to it; of a feed the edge through its buffer
+-- sink k: an output with the edge to it, or the edge of a feed through its buffer; `mark` says which sources always
+-- offer something, and `refused` is the number of the sink that was refused
 abbrev pub sink_text : Plan → (mark : ℕ → Bool) → (refused : Option ℕ) → (k : ℕ) → SinkPlan → List ℕ
 sink_text plan mark refused k (Output name node fallible wide) = output_box k name fallible (mark node)
     (is_refused refused k) ++ output_edge k node (is_refused refused k)

@@ -33,7 +33,7 @@ abbrev pub picture : Plan → (mark : ℕ → Bool) → Option ℕ → Result Cl
 picture plan mark refused clocks group = picture_with plan mark refused clocks group (is_some refused)
     (reds plan mark refused)
 
--- a text is that of a plan with its groups, of which there is one grouping alone
+-- a text is the picture of a plan, by the groups of its sources that share a clock; there is one such grouping alone
 pub record IsPicture (plan : Plan) (mark : ℕ
     → Bool) (refused : Option ℕ) (clocks : Result ClockMap ClockFault) (text : List ℕ) : Type 0 where
   pub group : ℕ → ℕ

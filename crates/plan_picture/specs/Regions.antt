@@ -16,7 +16,7 @@ use Rattle.plan_blames.specs.Faults.{fault_text}
 abbrev pub clock_of : List NodeClock → (node : ℕ) → NodeClock
 clock_of of node = slice_index_or of node (Main 0)
 
--- the beginning of a statement in the region of a clock: it opens the regions of the clocks above it first, at most
+-- The beginning of a statement in the region of a clock: it opens the regions of the clocks above it first, at most
 -- `levels` of them, and then that of the clock. A region that is opened again is the same one.
 abbrev pub opening : List NodeClock → (levels : ℕ) → NodeClock → List ℕ
 opening of levels (Main m) = codes "subgraph cluster_main" ++ decimal m ++ codes " { "
@@ -102,7 +102,7 @@ abbrev pub regions_by : Plan → ClockMap → List ℕ
 regions_by plan clocks = named_regions clocks.running clocks.names
     ++ (sub_regions clocks.of plan.nodes ++ (members clocks.of ++ output_members clocks.of plan.sinks))
 
--- the regions of a plan; where there are none, why
+-- the regions of a plan; where it has no clocks, why, unless it is refused for a silence (`silent`)
 abbrev pub regions_of : Plan → (silent : Bool) → Result ClockMap ClockFault → (group : ℕ → ℕ) → List ℕ
 regions_of plan silent (Ok clocks) group = regions_by plan clocks
 regions_of plan silent (Err fault) group = fault_text silent plan.nodes fault group

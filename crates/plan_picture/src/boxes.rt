@@ -48,7 +48,7 @@ pub fn push_nodes(
     Ok(())
 }
 
-// Appends the box of source k.
+// Appends the box of source k; `silent` says that the plan is refused for a silence.
 fn push_node(
     alloc: Global,
     into: &mut Vec<u8>,
@@ -77,7 +77,7 @@ fn push_front(into: &mut Vec<u8>, k: u64) -> Result<(), Memory>
     push_between(into, b" [label=\"", k, b"  ")
 }
 
-// Appends the label of source k: what it does, and why it is red.
+// Appends the label of source k: what it does, and why it is red; `silent` says that the plan is refused for a silence.
 fn push_label(
     alloc: Global,
     into: &mut Vec<u8>,
@@ -208,6 +208,7 @@ fn push_output_words(
     push_silence(into, red)
 }
 
+// Appends that the script lets an output be fallible, if it does.
 fn push_fallible(into: &mut Vec<u8>, fallible: bool) -> Result<(), Memory>
     ensures { OnOk result (into.new.items ≡ into.old.items ++ fallible_words fallible) }
 {
