@@ -20,7 +20,7 @@ use Rattle.where_lines.specs.Statements.{IsInStatement}
 use Rattle.where_lines.specs.Texts.{IsTextAt}
 use Rattle.where_lines.specs.Tokens.{IsTokenAt}
 
--- the text has these tokens, which spell this script, and the first token of its statement begins at this byte
+-- byte `at` is where statement `number` begins of the script that a text spells
 pub record IsStatementAt (text : List ℕ) (number at : ℕ) : Type 0 where
   pub tokens : List Token
   pub are_tokens : AreTokens text tokens

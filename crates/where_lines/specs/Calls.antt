@@ -25,6 +25,7 @@ symbol_role CloseSquare = Closes
 symbol_role CloseCurly = Closes
 symbol_role s = Neither
 
+-- whether a token opens a call, opens or closes another bracket, or does neither
 abbrev pub role_of : TokenKind → Role
 role_of (kind.NameOpen name) = OpensCall
 role_of (kind.Symbol s) = symbol_role s

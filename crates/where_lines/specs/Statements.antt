@@ -66,7 +66,7 @@ abbrev pub IsShown : List ℕ → List Token → Script → ℕ → ℕ → Type
 IsShown text tokens script number at = (at ≡ beginning text tokens script number)
     ⊎ IsCaller text (before text tokens script number) (calling (tokens_of tokens script number)) at
 
--- a statement of the script that the text's tokens spell, and a byte of it
+-- byte `at` is shown of statement `number` of the script that a text spells
 pub record IsInStatement (text : List ℕ) (number at : ℕ) : Type 0 where
   pub tokens : List Token
   pub are_tokens : AreTokens text tokens

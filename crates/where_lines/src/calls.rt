@@ -128,7 +128,8 @@ fn candidate(
     found_at(alloc, text, tokens, low)
 }
 
-// The number of the last token with which types do not clash yet, by the calls that are closed before it.
+// The number of the token that closes the call with which types begin to clash: the last one before which no such call
+// is closed.
 fn last_token(alloc: Global, text: &[u8], done: &[u8], tokens: &[Token]) -> Result<usize, Memory> {
     let mut low: usize = 0;
     let mut high = tokens.len();
@@ -188,6 +189,7 @@ fn newest(brackets: &[Bracket]) -> Option<Bracket>
     brackets.last().copied()
 }
 
+// The first tokens, so many at most.
 fn first_tokens(tokens: &[Token], count: usize) -> &[Token]
     ensures { result.now ≡ take count tokens.now }
 {
@@ -278,6 +280,7 @@ fn role_of(kind: &TokenKind) -> Role
     }
 }
 
+// Whether a symbol opens or closes a bracket.
 fn symbol_role(symbol: Symbol) -> Role
     ensures { result ≡ symbol_role symbol }
 {

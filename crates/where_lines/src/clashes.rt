@@ -73,7 +73,8 @@ fn place_within(
     Ok(Some(at))
 }
 
-// The byte that is shown of a statement that is there.
+// The byte that is shown of a statement: where the call begins with which its types clash, or where the statement
+// begins.
 fn shown_in(
     alloc: Global,
     text: &[u8],

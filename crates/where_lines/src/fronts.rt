@@ -95,6 +95,7 @@ pub fn calling(tokens: &[Token]) -> &[Token]
     }
 }
 
+// Whether the tokens of a statement begin a def.
 fn begins_def(tokens: &[Token]) -> bool
     ensures { result ≡ begins_def tokens.now }
 {
@@ -104,6 +105,7 @@ fn begins_def(tokens: &[Token]) -> bool
     }
 }
 
+// Whether a token is the word `def`.
 fn is_def(kind: &TokenKind) -> bool
     ensures { result ≡ is_def kind.now }
 {

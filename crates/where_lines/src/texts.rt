@@ -31,6 +31,7 @@ fn text_among(name: &[u8], tokens: &[Token]) -> Option<usize>
     None
 }
 
+// Whether a token is this string.
 fn is_text(name: &[u8], kind: &TokenKind) -> bool
     ensures { result ≡ is_text name.now kind.now }
 {
