@@ -46,11 +46,12 @@ switch_of most place cases none at = object (number_member (codes "source") plac
     ++ (list_member (codes "cases") (hours_object most) cases
     ++ (key (codes "none") ∷ hours_object most none))))
 
--- the object of a switch, by the predicates of its cases
+-- the object of switch `place`, by the predicates of its cases; its call begins at byte `at` of the script, and no more
+-- than `most` spans are told of a case
 abbrev pub switch_object : (most place : ℕ) → List Predicate → (at : ℕ) → List Token
 switch_object most place preds at = switch_of most place (case_spans [] preds) (hole_spans preds) at
 
--- the object of a source that is a switch; of another source nothing is told
+-- the object of source `place`, if it is a switch; of another source nothing is told
 abbrev pub source_hours : (most place : ℕ) → Op → (at : ℕ) → List Token
 source_hours most place (Switch sensitive preds) at = switch_object most place preds at
 source_hours most place _ at = []
@@ -63,7 +64,7 @@ switches_from most place (node ∷ nodes) [] = []
 switches_from most place (node ∷ nodes) (at ∷ ats) =
     source_hours most place node.op at ++ switches_from most (place + 1) nodes ats
 
--- the object of the switches among these sources
+-- the object of the switches among these sources; no more than `most` spans are told of a case
 abbrev pub switches_object : (most : ℕ) → List Node → (ats : List ℕ) → List Token
 switches_object most nodes ats = object (number_member (codes "most") most
     ++ (key (codes "switches") ∷ begin_array ∷ (switches_from most 0 nodes ats ++ end_array ∷ [])))

@@ -170,7 +170,8 @@ fn push_switch<'a>(
     Ok(())
 }
 
-// Writes switch `number`, by the spans of its cases and those at which none holds.
+// Writes switch `number`, by the spans of its cases and those at which none holds; no more than `most` spans are told
+// of a case.
 fn push_hours(
     out: &mut Out,
     cases: &[Vec<Span>],
