@@ -25,7 +25,7 @@ abbrev pub is_to_blame : (mark : ℕ → Bool) → (refused n : ℕ) → (behind
 is_to_blame mark refused n behind reds = nat_eq n refused
     || (not (mark n) && list_any (λ pair. pair.1 && needs (pair.0).op (pair.0).children n) (zip behind reds))
 
--- of each of these sources whether it is red for a silence; the first one has number n
+-- of each of these sources whether it is red for the silence of source `refused`; the first one has number n
 abbrev pub reds_from : (mark : ℕ → Bool) → (refused n : ℕ) → List Node → List Bool
 reds_from mark refused n [] = []
 reds_from mark refused n (node ∷ nodes) = is_to_blame mark refused n nodes (reds_from mark refused (suc n) nodes)
