@@ -1,7 +1,7 @@
 -- Numbers with a point, and lengths in seconds.
 use Rattle.std.specs.Prelude.{ℕ, zero, suc, ◌*◌, ◌/◌, ◌%◌, ◌&&◌, ℤ, pos, negsuc, List, [], ◌++◌, codes, decimal, nat_eq, if◌then◌else◌}
 
--- at most so many further digits of a part of one in millionths, without zeros at the end
+-- the digits of a part of one, given in millionths: at most `places` of them, without zeros at the end
 abbrev pub further : (places millionths : ℕ) → List ℕ
 further places zero = []
 further zero (suc rest) = []

@@ -30,7 +30,8 @@ closing of levels (Main m) = codes " }"
 closing of zero (Sub k) = []
 closing of (suc levels) (Sub k) = closing of levels (clock_of of k) ++ codes " }"
 
--- a statement in the region of a clock, within at most as many regions as there are sources
+-- a statement in the region of a clock, within at most as many regions as there are sources; `of` has the clock of each
+-- source
 abbrev pub within : List NodeClock → NodeClock → (statement : List ℕ) → List ℕ
 within of clock statement = opening of (length of) clock ++ (statement ++ (closing of (length of) clock ++ codes "\n"))
 
@@ -75,7 +76,7 @@ unfoldable pub sub_label : (k : ℕ) → List ℕ
 sub_label k = codes "label=\"own clock of crossfade " ++ decimal k
     ++ codes "\"; style=\"filled,rounded\"; color=\"#8a949e\"; fontsize=11; fillcolor=\"#ffffff80\";"
 
--- the region of a crossfade's own clock
+-- the region of the own clock of source k, if it is a crossfade; `of` has the clock of each source
 abbrev pub sub_region : List NodeClock → (is_crossfade : Bool) → (k : ℕ) → List ℕ
 sub_region of true k = within of (Sub k) (sub_label k)
 sub_region of false k = []
@@ -84,7 +85,7 @@ sub_region of false k = []
 abbrev pub sub_regions : List NodeClock → List Node → List ℕ
 sub_regions of nodes = numbered (λ k node. sub_region of (fades node.op) k) 0 nodes
 
--- each source in the region of its clock
+-- each source in the region of its clock; `of` has the clock of each source
 abbrev pub members : List NodeClock → List ℕ
 members of = numbered (λ k clock. within of clock (codes "n" ++ decimal k ++ codes ";")) 0 of
 
