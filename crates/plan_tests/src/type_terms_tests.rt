@@ -185,7 +185,7 @@ fn storey(
     Ok(top)
 }
 
-// A variable over `height` others, each bound to the list of the one below, or to the pair of it and itself.
+// A variable over `height` others, each bound to the list of the one below, or to the pair of it and itself (`double`).
 fn tower(
     rt: &impl Abort,
     alloc: Global,
