@@ -15,7 +15,7 @@ pub fn id_of(alloc: Global, k: u64, written: &Text) -> Result<String, Memory>
     Ok(String::from_str(alloc, written.as_str())?)
 }
 
-// The id of a clock node without one.
+// The id of clock node k, for which the script wrote none: `clock.k`.
 fn numbered(alloc: Global, k: u64) -> Result<String, Memory>
     ensures { IfOk result (λ id. string_bytes id ≡ id_or k []) }
 {

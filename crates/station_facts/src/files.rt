@@ -20,8 +20,9 @@ use sound_looks::{ListLook, Look};
 use std::alloc::Global;
 use track_library::{Rules, Sizes};
 
-/// What a plan is, whose sources are made at these bytes, and what becomes of each file that it plays, as one object of
-/// JSON. Each list and each audio file is read once, and of the audio files one is held at a time.
+/// What a plan is, and what becomes of each file that it plays, as one object of JSON. `ats` has the byte of the script
+/// at which the call of each source begins. Each list and each audio file is read once, and of the audio files one is
+/// held at a time.
 pub fn tell_files<S: Shelf>(
     alloc: Global,
     plan: &Plan,
@@ -62,7 +63,7 @@ pub fn tell_files<S: Shelf>(
     Ok(out.into_inner())
 }
 
-// Writes the whole object.
+// Writes the whole object of a plan and its files.
 fn push_all(
     alloc: Global,
     out: &mut Out,
@@ -90,6 +91,7 @@ fn push_all(
     Ok(())
 }
 
+// Writes how many bytes all sounds that are used, one sound, a list and a script have at most.
 fn push_limits(out: &mut Out, rules: Rules) -> Result<(), Memory>
     ensures { OnOk result (Adds out.old out.new (limit_members rules)) }
 {

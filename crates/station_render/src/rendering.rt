@@ -94,8 +94,8 @@ pub fn render_again<S: Shelf>(
     finish(alloc, job, None, shelf, places, engines, run)
 }
 
-// What is left of a rendering once the ticks are made, in windows of so many or in none: closes the outputs, and leaves
-// the cue files and the trace, where these are wanted.
+// What is left of a rendering once the ticks are made: closes the outputs, and leaves the cue files and the trace,
+// where these are wanted. `window` is how many ticks a window had; `None` on one thread.
 fn finish<S: Shelf>(
     alloc: Global,
     job: &Job<'_>,
@@ -120,8 +120,8 @@ fn finish<S: Shelf>(
     leave_trace(alloc, job, window, shelf, rendered)
 }
 
-// The last part of a rendering's outputs: takes the sinks of the engines back into their places, closes all in sink
-// order, whatever the run came to, and answers what is told of it.
+// Ends the outputs of a rendering: takes the sinks of the engines back into their places, closes all in sink order,
+// whatever the run came to, and returns what is told of it.
 fn close_outputs<S: Shelf>(
     alloc: Global,
     job: &Job<'_>,

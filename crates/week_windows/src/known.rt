@@ -18,7 +18,7 @@ pub struct Known<'a> {
     pub hours: Hours,
 }
 
-/// The hours of no case.
+/// The hours that are kept before a switch was looked at: those of no case.
 pub fn unknown<'a>(alloc: Global) -> Result<Known<'a>, Memory>
     ensures { IfOk result IsKnown }
 {
@@ -26,7 +26,8 @@ pub fn unknown<'a>(alloc: Global) -> Result<Known<'a>, Memory>
     Ok(Known { preds: &[], hours })
 }
 
-/// As `hours_of`, whose answer is kept: nothing is done where the cases are those that were looked at last.
+/// Keeps the hours of the cases with these predicates, in order. Nothing is done if the cases are those that were
+/// looked at last.
 pub fn hours_again<'a>(
     alloc: Global,
     known: &mut Known<'a>,
@@ -44,7 +45,7 @@ pub fn hours_again<'a>(
     Ok(())
 }
 
-/// The windows of each case of a switch, by the predicates of the cases, in order, and by hours that are kept.
+/// The windows of each case of a switch, by the predicates of the cases, in order; their hours are kept.
 pub fn windows_again<'a>(
     alloc: Global,
     known: &mut Known<'a>,
