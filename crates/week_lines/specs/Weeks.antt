@@ -24,7 +24,7 @@ holes_text number [] daily instead sensitive below = []
 holes_text number (span ∷ spans) daily instead sensitive below =
     hole_line number (span ∷ spans) daily instead sensitive below
 
--- cases are counted from 1
+-- the front of the line of a case, which is counted from 1 there
 abbrev pub case_text : (number case : ℕ) → List ℕ
 case_text number case = switch_text number ++ (codes "case " ++ decimal (case + 1))
 

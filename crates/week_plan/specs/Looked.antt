@@ -6,7 +6,7 @@ use Rattle.week_plan.specs.Spans.{some_case_holds}
 use Rattle.week_plan.specs.Tables.{IsTableOf}
 use Rattle.week_plan.specs.declared.looked.Looked.{Looked}
 
--- what is told is that of these cases
+-- what is kept of a look is what a look at its own cases tells
 pub record IsLooked (looked : Looked) : Type 0 where
   pub holes : IsTableOf (λ at. not (some_case_holds (map view_shared looked.preds.now) at)) looked.seen.holes.items
   pub fates : AreFates (map view_shared looked.preds.now) looked.sure.items looked.seen.fates.items

@@ -54,6 +54,7 @@ pub fn look_again<'a>(
     Ok(())
 }
 
+// Whether two lists have the same marks.
 fn same_flags(flags: &[bool], others: &[bool]) -> bool
     ensures { result ≡ true → flags.now ≡ others.now }
 {
