@@ -253,7 +253,7 @@ impl Shelf for MemShelf {
     }
 }
 
-/// The listed appends of the sink of this number, each with what it takes.
+/// The listed appends of sink `sink`: for each the number of its call, and how many bytes it takes.
 fn listed_appends(
     alloc: Global,
     fails: &[FailingAppend],
@@ -270,7 +270,7 @@ fn listed_appends(
     Ok(own)
 }
 
-/// A count after a call that failed or did not.
+/// A count of faults after one more call, which failed or did not; at most `u64::MAX`.
 fn raise(count: u64, failed: bool) -> u64
     ensures { result ≡ raised count failed }
 {

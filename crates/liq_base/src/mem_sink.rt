@@ -91,7 +91,8 @@ impl MemSink {
     }
 }
 
-/// After how many bytes this call fails, where it is listed.
+/// After how many bytes call number `call` fails; `None` where it is not listed. `fails` has the number of each listed
+/// call with the bytes that it takes.
 fn find_stop(fails: &[(u64, u64)], call: u64) -> Option<u64>
     ensures { result ≡ listed fails.now call }
 {
@@ -103,7 +104,8 @@ fn find_stop(fails: &[(u64, u64)], call: u64) -> Option<u64>
     None
 }
 
-/// Where a piece of this size stops.
+/// After how many bytes a piece of `size` bytes stops, with room for `left` more; `None` where it is taken whole.
+/// `listed_stop` is where its call is listed to fail.
 fn stop_at(listed_stop: Option<u64>, left: u64, size: u64) -> Option<u64>
     ensures { result ≡ stop listed_stop left size }
 {

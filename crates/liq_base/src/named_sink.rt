@@ -50,7 +50,7 @@ impl NamedSink {
         self.sink.faults()
     }
 
-    /// The entry of the shelf, with nothing behind it.
+    /// The entry that the sink becomes when its shelf closes it; no other entry is behind it.
     pub(crate) fn into_entry(self) -> Box<Entry>
         ensures name { string_bytes result.value.name ≡ self.name }
         ensures bytes { result.value.bytes.items ≡ self.sink.held }
