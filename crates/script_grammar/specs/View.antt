@@ -36,18 +36,17 @@ abbrev pub listed : {s : Sort} → List (Tree s) → Tree (Many s)
 listed [] = none
 listed (t ∷ ts) = more t (listed ts)
 
--- A predicate's parts. No part at all, which no tree of the grammar has, stands for what it means: `false` as a sum of
--- none, `true` as a product of none.
+-- Parts joined by `and`. No part at all, which no tree of the grammar has, stands for `true`, which it means.
 abbrev pub pand_of : Tree (Many APNot) → Tree APAnd
 pand_of none = PAnd (PNot false TrueAtom) none
 pand_of (more p rest) = PAnd p rest
 
+-- Parts joined by `or`. No part at all, which no tree of the grammar has, stands for `false`, which it means.
 abbrev pub por_of : Tree (Many APAnd) → Tree APOr
 por_of none = POr (PAnd (PNot false FalseAtom) none) none
 por_of (more p rest) = POr p rest
 
--- The parts in parentheses. A tuple of one part or none, which no tree of the grammar has, stands for what it looks
--- like.
+-- Values in parentheses. A tuple of one value or none, which no tree of the grammar has, stands for what it looks like.
 abbrev pub tuple_of : ℕ → Tree (Many AFull) → Tree AnOperand
 tuple_of at none = Nothing at
 tuple_of at (more f none) = Paren f
@@ -75,6 +74,7 @@ abbrev mutual
   view_patom (patom.Between a b) = IntervalAtom a b
   view_patom (patom.Paren' p inside) = Grouped (view_por inside)
 
+-- the tree that an atom stands for, perhaps behind `not`
 abbrev pub view_pnot : pnot.PNot → Tree APNot
 view_pnot n = PNot n.negated (view_patom n.atom)
 
@@ -149,6 +149,7 @@ abbrev mutual
   view_args call.end_of-Arg = none
   view_args (call.more_of-Arg at name f rest) = more (Arg at name (view_full f)) (view_args rest)
 
+-- the tree that a node of the program's tree stands for, as for each of the names below
 abbrev pub view_multiplied : multiplied.Multiplied → Tree AMultiplied
 view_multiplied m = Multiplied m.at m.divide (view_operand m.operand)
 
@@ -164,6 +165,7 @@ view_bind b = Bind b.at b.name (view_full b.value)
 abbrev pub view_inner : inner.Inner → Tree AnInner
 view_inner i = Inner (view_bind i.bind) i.semicolon
 
+-- a parameter of this form, with its place and its name
 abbrev pub param_of : ℕ → List ℕ → ParamForm → Tree AParam
 param_of at name form.Plain = Param at name
 param_of at name form.Labelled = Labelled at name
@@ -185,5 +187,6 @@ view_part (part.If i) = IfPart (view_if i)
 abbrev pub view_stmt : stmt.Stmt → Tree AStmt
 view_stmt s = Stmt (view_part s.part) s.semicolon
 
+-- the script that the program's tree stands for
 abbrev pub view_script : script.Script → Script
 view_script s = listed (map view_stmt s.statements.items)

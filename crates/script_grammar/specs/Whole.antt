@@ -32,11 +32,12 @@ use Rattle.script_grammar.specs.declared.predicate.PAnd as pand
 use Rattle.script_grammar.specs.declared.predicate.PNot as pnot
 use Rattle.script_grammar.specs.declared.predicate.PAtom as patom
 
--- at least one part, and at least two
+-- a list has at least one part
 abbrev pub HasPart : {s : Sort} → Tree (Many s) → Type 0
 HasPart none = ⊥
 HasPart (more x xs) = Unit {0}
 
+-- a list has at least two parts
 abbrev pub HasTwo : {s : Sort} → Tree (Many s) → Type 0
 HasTwo none = ⊥
 HasTwo (more x xs) = HasPart xs
@@ -60,6 +61,7 @@ abbrev mutual
   IsWholePAtom (patom.Paren' p inside) = IsWholePOr inside
   IsWholePAtom atom = Unit {0}
 
+-- each list of parts in a predicate's atom has at least one
 abbrev pub IsWholePNot : pnot.PNot → Type 0
 IsWholePNot n = IsWholePAtom n.atom
 
@@ -128,6 +130,7 @@ abbrev mutual
   AreWholeArgs call.end_of-Arg = Unit {0}
   AreWholeArgs (call.more_of-Arg at name f rest) = IsWholeFull f × AreWholeArgs rest
 
+-- each list in this node, and below it, is as long as the grammar wants, as for each of the names below
 abbrev pub IsWholeMultiplied : multiplied.Multiplied → Type 0
 IsWholeMultiplied m = IsWholeOperand m.operand
 

@@ -22,6 +22,7 @@ pub fn spell(alloc: Global, script: &Script) -> Result<Vec<TokenKind>, Memory>
     Ok(out)
 }
 
+// Each of these functions appends the tokens of the node that its name says, here a binding.
 fn put_bind(alloc: Global, out: &mut Vec<TokenKind>, bind: &Bind) -> Result<(), Memory>
     ensures { OnOk result (out.new.items ≡ out.old.items ++ spell (view_bind bind.now)) }
 {
@@ -64,7 +65,7 @@ fn put_param(alloc: Global, out: &mut Vec<TokenKind>, param: &Param) -> Result<(
     }
 }
 
-// Parameters with commas between.
+// Appends the tokens of parameters with commas between.
 fn put_params(alloc: Global, out: &mut Vec<TokenKind>, params: &[Param]) -> Result<(), Memory>
     ensures { OnOk result (out.new.items ≡ out.old.items ++ between_commas (map view_param params.now)) }
 {
@@ -81,7 +82,7 @@ fn put_params(alloc: Global, out: &mut Vec<TokenKind>, params: &[Param]) -> Resu
     }
 }
 
-// `def`, the name and the parameters in parentheses.
+// Appends `def`, the name and the parameters in parentheses.
 fn put_head(
     alloc: Global,
     out: &mut Vec<TokenKind>,
@@ -96,7 +97,7 @@ fn put_head(
     put(out, TokenKind::Symbol(Symbol::CloseRound))
 }
 
-// The bindings, the result and `end`.
+// Appends the bindings in a def, its result and `end`.
 fn put_body(
     alloc: Global,
     out: &mut Vec<TokenKind>,

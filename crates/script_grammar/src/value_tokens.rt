@@ -66,6 +66,7 @@ pub fn put_choice(alloc: Global, out: &mut Vec<TokenKind>, choice: &If) -> Resul
     put(out, TokenKind::Keyword(Keyword::End))
 }
 
+// The token of a number.
 fn literal_token(number: Literal) -> TokenKind
     ensures { result ≡ literal_token number }
 {
@@ -75,6 +76,7 @@ fn literal_token(number: Literal) -> TokenKind
     }
 }
 
+// The token of a truth value.
 fn truth_token(value: bool) -> TokenKind
     ensures { result ≡ truth_token value }
 {
@@ -85,6 +87,7 @@ fn truth_token(value: bool) -> TokenKind
     }
 }
 
+// The token of a comparing operator.
 fn op_token(op: CompareOp) -> TokenKind
     ensures { result ≡ op_token op }
 {
@@ -98,6 +101,7 @@ fn op_token(op: CompareOp) -> TokenKind
     }
 }
 
+// The token of an operator of a sum: `-` or `+`.
 fn added_token(minus: bool) -> TokenKind
     ensures { result ≡ added_token minus }
 {
@@ -108,6 +112,7 @@ fn added_token(minus: bool) -> TokenKind
     }
 }
 
+// The token of an operator of a product: `/` or `*`.
 fn multiplied_token(divide: bool) -> TokenKind
     ensures { result ≡ multiplied_token divide }
 {
@@ -118,6 +123,7 @@ fn multiplied_token(divide: bool) -> TokenKind
     }
 }
 
+// Each of these functions appends the tokens of the nodes that its name says, here of parts, each behind `or`.
 #[cycle(value)]
 fn put_ands(alloc: Global, out: &mut Vec<TokenKind>, ands: &[And]) -> Result<(), Memory>
     ensures { OnOk result (out.new.items ≡ out.old.items ++ each_behind (a_keyword word.Or) (map view_and ands.now)) }
@@ -137,6 +143,7 @@ fn put_and(alloc: Global, out: &mut Vec<TokenKind>, and: &And) -> Result<(), Mem
     put_nots(alloc, out, &and.rest)
 }
 
+// Appends the tokens of parts, each behind `and`.
 #[cycle(value)]
 fn put_nots(alloc: Global, out: &mut Vec<TokenKind>, nots: &[Not]) -> Result<(), Memory>
     ensures { OnOk result (out.new.items ≡ out.old.items ++ each_behind (a_keyword word.And) (map view_not nots.now)) }
@@ -265,6 +272,7 @@ fn put_operand(
     }
 }
 
+// Appends the tokens of `%wav`, with the option `samplesize` if it has one.
 fn put_wav(alloc: Global, out: &mut Vec<TokenKind>, size: Option<i64>) -> Result<(), Memory>
     ensures { OnOk result (out.new.items ≡ out.old.items ++ wav_tokens size) }
 {
@@ -283,6 +291,7 @@ fn put_wav(alloc: Global, out: &mut Vec<TokenKind>, size: Option<i64>) -> Result
     }
 }
 
+// Appends the tokens of values in parentheses.
 #[cycle(value)]
 fn put_tuple(alloc: Global, out: &mut Vec<TokenKind>, parts: &[Full]) -> Result<(), Memory>
     ensures { OnOk result (out.new.items ≡ out.old.items
@@ -293,6 +302,7 @@ fn put_tuple(alloc: Global, out: &mut Vec<TokenKind>, parts: &[Full]) -> Result<
     put(out, TokenKind::Symbol(Symbol::CloseRound))
 }
 
+// Appends the tokens of values in square brackets.
 #[cycle(value)]
 fn put_list(alloc: Global, out: &mut Vec<TokenKind>, parts: &[Full]) -> Result<(), Memory>
     ensures { OnOk result (out.new.items ≡ out.old.items
@@ -303,7 +313,7 @@ fn put_list(alloc: Global, out: &mut Vec<TokenKind>, parts: &[Full]) -> Result<(
     put(out, TokenKind::Symbol(Symbol::CloseSquare))
 }
 
-// Values with commas between.
+// Appends the tokens of values with commas between.
 #[cycle(value)]
 fn put_fulls(alloc: Global, out: &mut Vec<TokenKind>, parts: &[Full]) -> Result<(), Memory>
     ensures { OnOk result (out.new.items ≡ out.old.items ++ between_commas (map view_full parts.now)) }
@@ -321,7 +331,7 @@ fn put_fulls(alloc: Global, out: &mut Vec<TokenKind>, parts: &[Full]) -> Result<
     }
 }
 
-// Arguments with commas between.
+// Appends the tokens of arguments with commas between.
 #[cycle(value)]
 fn put_args(alloc: Global, out: &mut Vec<TokenKind>, args: &[Arg]) -> Result<(), Memory>
     ensures { OnOk result (out.new.items ≡ out.old.items ++ between_commas (map view_arg args.now)) }
@@ -347,6 +357,7 @@ fn put_arg(alloc: Global, out: &mut Vec<TokenKind>, arg: &Arg) -> Result<(), Mem
     put_full(alloc, out, &arg.value)
 }
 
+// Appends the tokens of an argument's label, if it has one.
 fn put_label(alloc: Global, out: &mut Vec<TokenKind>, name: &Option<Text>) -> Result<(), Memory>
     ensures { OnOk result (out.new.items ≡ out.old.items ++ label name.now) }
 {

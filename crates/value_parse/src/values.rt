@@ -119,8 +119,8 @@ fn plain<'a>(at: At<'a>) -> Result<(Full, &'a [Token]), Fault>
     )
 }
 
-// The same, once its first operand is read, which stands behind `not` or not. That is mostly all of the value, whose
-// tree is then made at once.
+// A value that is an expression, whose first operand was read at `inner`: at its first token, or behind the `not`
+// there. The operand is mostly all of the value, whose tree is then made at once.
 #[inline(never)]
 #[cycle(value)]
 fn plain_of<'a>(
@@ -175,7 +175,7 @@ pub fn lone(alloc: Global, negated: bool, operand: Operand) -> Full
     })
 }
 
-/// An expression that was read, as a value.
+/// The expression that was read, as a value.
 #[inline(never)]
 pub fn in_full<'a>(read: Result<(Expr, &'a [Token]), Fault>) -> Result<(Full, &'a [Token]), Fault>
     ensures shorter { (n : ℕ) → IfOk read.entry (λ x. length x.1.now < n) → IfOk result (λ x. length x.1.now < n) }
@@ -187,7 +187,7 @@ pub fn in_full<'a>(read: Result<(Expr, &'a [Token]), Fault>) -> Result<(Full, &'
     Ok((Full::Plain(expr), rest))
 }
 
-// The same, once the value is read.
+// The value that was read, in a box.
 #[inline(never)]
 fn boxed<'a>(
     alloc: Global,
