@@ -54,6 +54,7 @@ pub fn form_of(line: &[u8]) -> Form
     }
 }
 
+// Whether a line begins like one that names a byte, a token or a statement.
 fn begins_byte(line: &[u8]) -> bool
     ensures { result ≡ begins_byte line.now }
 {
@@ -78,6 +79,7 @@ fn begins_statement(line: &[u8]) -> bool
     begins(line, b"E13 statement ") || begins(line, b"E15 statement ")
 }
 
+// The form of a line that begins like none that names a byte, a token or a statement.
 fn source_form(line: &[u8]) -> Form
     ensures { result ≡ source_form line.now }
 {
@@ -92,6 +94,7 @@ fn source_form(line: &[u8]) -> Form
     }
 }
 
+// The form of a line that names a text of the script, or an output that may be silent, or nothing.
 fn text_form(line: &[u8]) -> Form
     ensures { result ≡ text_form line.now }
 {

@@ -68,7 +68,7 @@ fn bind(alloc: Global, total: usize, tokens: &[Token]) -> Result<(Bind, &[Token]
     bind_of(alloc, total, at, name, after)
 }
 
-// `=` value, behind the name.
+// `=` value, behind the name, whose index is `at`.
 fn bind_of<'a>(
     alloc: Global,
     total: usize,

@@ -85,7 +85,7 @@ pub fn occurs_in(
     search(&mut work, &mut seen, types, nested, x, ty)
 }
 
-/// Whether each variable of the type is one of these.
+/// Whether each type variable and each kind variable of the type is one of these.
 pub fn are_among(
     alloc: Global,
     types: &[TypeVariable],
@@ -99,7 +99,8 @@ pub fn are_among(
     all_among(&mut work, types, kinds, ty)
 }
 
-/// The search for the variable, with a stack and the variables that it went behind.
+/// Whether the variable `x` stands in the type, with a stack of what is still to be looked at, and the variables behind
+/// which it was looked.
 fn search<'a>(
     work: &mut Vec<&'a Ty>,
     seen: &mut IndexSet<u64>,
@@ -131,7 +132,7 @@ fn search<'a>(
     Err(Memory)
 }
 
-/// The walk through a type that looks at each of its variables, with a stack.
+/// Whether each variable of the type is one of these, with a stack of what is still to be looked at.
 fn all_among<'a>(
     work: &mut Vec<&'a Ty>,
     types: &[TypeVariable],
@@ -240,7 +241,7 @@ fn goes_on(seen: &mut IndexSet<u64>, nested: bool, ty: &Ty) -> Result<bool, Memo
     }
 }
 
-/// Whether the type's outermost node is no variable, or one of less than so many.
+/// Whether the type's outermost node is no variable, or one whose number is below that of these type or kind variables.
 fn is_among(ty: &Ty, types: usize, kinds: usize) -> bool
     ensures { IsTrue result ↔ IsAmong types kinds (term_of ty.now) }
 {
