@@ -94,7 +94,7 @@ fn push_parts<'a>(work: &mut Vec<&'a Ty>, parts: &'a [Ty]) -> Result<(), Memory>
     Ok(())
 }
 
-/// One step of the walk: a type that stood on top of the stack.
+/// One step of the walk: takes up a type that stood on top of the stack.
 fn visit<'a>(
     work: &mut Vec<&'a Ty>,
     subst: &'a Subst,
@@ -117,7 +117,7 @@ fn visit<'a>(
     }
 }
 
-/// Adds the variables of the types on the stack.
+/// Adds the variables that the types on the stack hold.
 pub fn walk<'a>(
     work: &mut Vec<&'a Ty>,
     subst: &'a Subst,

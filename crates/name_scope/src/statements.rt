@@ -32,7 +32,7 @@ pub fn note_def<'a>(
     note_def_in(alloc, outer, &mut inner, notes, def)
 }
 
-/// The same, where a scope without names takes those that the def binds.
+/// The names that a def's text uses, with a scope without names that takes those that the def binds.
 fn note_def_in<'a>(
     alloc: Global,
     outer: &Scope<'a>,

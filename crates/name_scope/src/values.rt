@@ -81,6 +81,7 @@ pub fn note_choice(
     Ok(())
 }
 
+// Each of these functions notes the names that the nodes in its name use, from left to right.
 #[cycle(value)]
 fn note_ands(
     alloc: Global,

@@ -18,12 +18,12 @@ use Rattle.typing_rules.specs.Scoping.{Name, Scope, names, with_statement, Meani
 use Rattle.typing_rules.specs.Typing.{DefHas}
 use Rattle.typing_rules.specs.Scripts.{Entry, function, Targets, Places, def_token, sight}
 
--- the kinds of a use, where the def around has these
+-- a kind of a use, where the def around it has these open kinds
 abbrev pub known_kind : List Kind → KindOf → Option Kind
 known_kind given (Fixed k) = Some k
 known_kind given (Given j) = slice_get given j
 
--- one more kind, where all are known
+-- a kind before others, where all are known
 abbrev pub put : Option Kind → Option (List Kind) → Option (List Kind)
 put None ks = None
 put (Some k) None = None
@@ -44,11 +44,11 @@ abbrev pub around : List Kind → List Use → List ℕ → Option (List Kind)
 around given uses [] = Some given
 around given uses (at ∷ chain) = option_and_then (kinds_in (use_at at uses)) (around given uses chain)
 
--- read along the calls
+-- the kinds of the use at a token behind a chain of calls, read from the uses along the calls
 abbrev pub read : List Kind → List Use → Places
 read given uses chain at = around given uses (at ∷ chain)
 
--- what each name means, by the uses
+-- a use's token, and what its name means
 abbrev pub said : Use → Meaning
 said u = (u.at, Some u.target)
 
@@ -92,7 +92,7 @@ IsPlace bs def [] n = IsUsedIn bs def n
 IsPlace bs def (at ∷ chain) n = (c : Name) × (t : ℕ) × IsPlace bs def chain c × (c.at ≡ at)
     × (target_of c.meant ≡ Some (target.Def t)) × IsUsedIn bs (Some t) n
 
--- where the first list is mono the second is
+-- the lists are of one length, and where the first is mono the second is
 abbrev pub MonoWhere : List Kind → List Kind → Type 0
 MonoWhere [] [] = Unit {0}
 MonoWhere [] (k ∷ ks) = ⊥
@@ -115,12 +115,12 @@ abbrev pub AreSame : List Block → ℕ → Places → Places → Type 0
 AreSame bs def first second = (chain : List ℕ) (n : Name) (b : Builtin) → IsPlace bs (Some def) chain n
     → target_of n.meant ≡ Some (target.Builtin b) → first chain n.at ≡ second chain n.at
 
--- numbers of open kinds in the order of tokens
+-- the number of an open kind, if the kind is open
 abbrev pub number_of : KindOf → List ℕ
 number_of (Fixed k) = []
 number_of (Given j) = j ∷ []
 
--- the kinds of a use that may not be there
+-- the kinds of a use, or none where it is not there
 abbrev pub kinds_listed : Option Use → List KindOf
 kinds_listed None = []
 kinds_listed (Some u) = u.kinds
@@ -134,7 +134,7 @@ abbrev pub numbered_on : ℕ → List ℕ → Option ℕ
 numbered_on n [] = Some n
 numbered_on n (j ∷ js) = cond (nat_lt j n) (numbered_on n js) (cond (nat_eq j n) (numbered_on (suc n) js) None)
 
--- the number of a def's open kinds
+-- the names of a block, or none where it is not there
 abbrev pub block_names : Option Block → List Name
 block_names None = []
 block_names (Some b) = b.1
@@ -164,7 +164,7 @@ abbrev pub IsInOrder : List Block → List Use → Block → Type 0
 IsInOrder bs uses (None, ns) = numbers_in uses ns ≡ []
 IsInOrder bs uses (Some t, ns) = (n : ℕ) × (open_kinds bs uses t ≡ Some n)
 
--- so it is in each block
+-- in each block the kinds are fixed outside of defs, and in a def the numbers of the open ones are in order
 abbrev pub AreInOrder : List Block → List Use → List Block → Type 0
 AreInOrder bs uses [] = Unit {0}
 AreInOrder bs uses (b ∷ rest) = IsInOrder bs uses b × AreInOrder bs uses rest
