@@ -161,7 +161,7 @@ fn say_parameters(
     Ok(())
 }
 
-/// What a variable of this number may stand for.
+/// What the type variable of this number may stand for.
 fn type_parameter_of(subst: &Subst, held: &Held, number: u64) -> TypeParameter
     ensures { result ≡ type_parameter subst.now held.now number }
 {

@@ -70,14 +70,14 @@ impl Held {
         }
     }
 
-    /// Whether it has this type variable.
+    /// Whether the type variable of this number is held.
     pub fn holds_type(&self, number: u64) -> bool
         ensures { result ≡ is_held self.now.types number }
     {
         self.reached.types.contains(&number)
     }
 
-    /// Whether it has this kind variable.
+    /// Whether the kind variable of this number is held.
     pub fn holds_kind(&self, number: u64) -> bool
         ensures { result ≡ is_held self.now.kinds number }
     {

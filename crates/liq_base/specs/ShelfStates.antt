@@ -20,8 +20,9 @@ is_listed calls call = list_any (λ listed. listed == call) calls
 abbrev pub raised : ℕ → Bool → ℕ
 raised count failed = if failed then one_more count else count
 
--- the files, the names of the sinks that were made, and what is told of those that were closed, in their order; the
--- reads, creations and closings so far; those that are listed to fail, and the appends; the two counts of faults
+-- the files, the names of the sinks that were made, and what is told of those that were closed, in their order; how
+-- many reads, creations and closings were called; which of these, and which appends, are listed to fail; the two counts
+-- of faults
 pub record ShelfState : Type 0 where
   pub files : Files
   pub created : List (List ℕ)

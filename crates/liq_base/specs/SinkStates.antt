@@ -11,7 +11,8 @@ abbrev pub listed : List (ℕ × ℕ) → ℕ → Option ℕ
 listed [] call = None
 listed (fail ∷ fails) call = if nat_eq fail.0 call then Some fail.1 else listed fails call
 
--- where a piece of this size stops, with so much room left: at the listed byte, at once for want of room, or nowhere
+-- after how many of its bytes a piece of this size stops, with so much room left: where it is listed, at 0 for want of
+-- room, or nowhere
 abbrev pub stop : Option ℕ → ℕ → ℕ → Option ℕ
 stop (Some at) left size = Some (min at (min size left))
 stop None left size = if nat_le size left then None else Some 0

@@ -15,6 +15,7 @@ use std::marker::Model;
 pub struct MemSink {
     bytes: Vec<u8>,
     room: u64,
+    // Of each listed call its number, from 0, and how many bytes it takes.
     fails: Vec<(u64, u64)>,
     calls: u64,
     faults: u64,

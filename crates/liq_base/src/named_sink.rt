@@ -28,7 +28,8 @@ impl Model for NamedSink {
 }
 
 impl NamedSink {
-    /// An empty sink with room reserved, and with its listed calls.
+    /// An empty sink of this name, with room for so many bytes reserved. `fails` has of each listed call its number,
+    /// from 0, and how many bytes it takes.
     pub(crate) fn new(
         alloc: Global,
         name: &str,

@@ -1,4 +1,4 @@
-// What is known of the names of a script so far.
+// What was found of the names of a script: what they stand for, and the fault that is told.
 ghost use Rattle.std.specs.Prelude.{◌≡◌, ◌++◌, ◌∷◌, [], None, OnOk, cond, map};
 ghost use Rattle.script_grammar.specs.View.{listed, view_arg, view_param};
 ghost use Rattle.typing_rules.specs.NameFaults.{is_among as is_one_of, is_before as is_told_before, missing_at};

@@ -239,7 +239,7 @@ fn note_def_part<'a>(
     Ok(())
 }
 
-/// The names that a call uses which is a statement.
+/// The names that a statement uses which is a call.
 fn note_call_part(
     alloc: Global,
     scope: &Scope<'_>,
@@ -262,7 +262,7 @@ fn note_call_part(
     Ok(())
 }
 
-/// The names that an `if` uses which is a statement.
+/// The names that a statement uses which is an `if`.
 fn note_if_part(
     alloc: Global,
     scope: &Scope<'_>,

@@ -7,11 +7,12 @@ use Rattle.parse_base.specs.declared.token.Class.{Class}
 use Rattle.parse_base.specs.declared.token.Class.TheVariants as class
 use Rattle.script_grammar.specs.Kinds.{is_added, is_and, is_any, is_assign, is_close_curly, is_close_round, is_close_square, is_comma, is_else, is_end, is_multiplied, is_not, is_open_round, is_or, is_semicolon, is_then}
 
--- whether a token is a name, as each definition says of the kind in its name
+-- whether a token is a name
 abbrev pub is_name : TokenKind → Bool
 is_name (Name n) = true
 is_name k = false
 
+-- whether a token is a name with "(" behind it
 abbrev pub is_open_name : TokenKind → Bool
 is_open_name (NameOpen n) = true
 is_open_name k = false

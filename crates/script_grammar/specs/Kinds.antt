@@ -7,7 +7,7 @@ use Rattle.script_lex.specs.declared.token.Symbol.TheVariants as sign
 use Rattle.script_grammar.specs.declared.tree.CompareOp.{CompareOp}
 use Rattle.script_grammar.specs.declared.tree.CompareOp.TheVariants as op
 
--- whether a token is this keyword or this symbol, as for each of the names below
+-- each of these tests says whether a token is the keyword or the symbol of its name
 abbrev pub is_end : TokenKind → Bool
 is_end (Keyword word.End) = true
 is_end k = false

@@ -13,6 +13,7 @@ abbrev pub Reader : Type 0 → Type 0
 Reader T = List TokenKind → Read T
 
 infixl 10 ◌>>=◌
+-- reading goes on with what was read, unless it stopped at a fault
 abbrev pub ◌>>=◌ : {A B : Type 0} → Result A ℕ → (A → Result B ℕ) → Result B ℕ
 (Ok x) >>= f = f x
 (Err e) >>= f = Err e

@@ -13,7 +13,8 @@ between inside [] = []
 between true (b ∷ bs) = if b == 10 then between false bs else between true bs
 between false (b ∷ bs) = if is_blank b then between false bs else (if b == 35 then between true bs else b ∷ bs)
 
--- From a place on, behind blanks and comments, these tokens stand one after another; then the rest is left.
+-- the bytes are these tokens one after another, behind blanks and comments, and then the rest; `total` counts the bytes
+-- of the whole text, in which the tokens have their places
 abbrev pub Leads : ℕ → List ℕ → List Token → List ℕ → Type 0
 Leads total bytes [] rest = bytes ≡ rest
 Leads total bytes (t ∷ ts) rest =

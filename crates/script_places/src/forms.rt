@@ -54,13 +54,14 @@ pub fn form_of(line: &[u8]) -> Form
     }
 }
 
-// Whether a line begins like one that names a byte, a token or a statement.
+// Whether a line begins like one that names a byte.
 fn begins_byte(line: &[u8]) -> bool
     ensures { result ≡ begins_byte line.now }
 {
     begins(line, b"E02 ") || begins(line, b"E03 ") || begins(line, b"E04 ")
 }
 
+// Whether a line begins like one that names a token.
 fn begins_token(line: &[u8]) -> bool
     ensures { result ≡ begins_token line.now }
 {
@@ -73,6 +74,7 @@ fn begins_token(line: &[u8]) -> bool
         || begins(line, b"E14 ")
 }
 
+// Whether a line begins like one that names a statement.
 fn begins_statement(line: &[u8]) -> bool
     ensures { result ≡ begins_statement line.now }
 {

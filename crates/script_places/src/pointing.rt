@@ -35,7 +35,8 @@ fn head(alloc: Global, file: &str, before: &[u8]) -> Result<String, Memory>
     Ok(format!(in alloc; "{file}:{line}:{column}: ")?)
 }
 
-// Adds the line of a place: `head`, what stands in it before the place, as it is shown already, and the rest of it.
+// Adds the first line of a place: `head`, then `front`, which stands before the place and is as it is shown, and the
+// rest.
 fn push_line(lines: &mut Vec<u8>, head: &[u8], front: &[u8], rest: &[u8]) -> Result<(), Memory>
     ensures { OnOk result (lines.new.items ≡ lines.old.items ++ head.now ++ front.now ++ shown rest.now ++ codes "\n") }
 {
@@ -46,7 +47,7 @@ fn push_line(lines: &mut Vec<u8>, head: &[u8], front: &[u8], rest: &[u8]) -> Res
     Ok(())
 }
 
-// Adds the line below that of a place: blanks for `head` and for what stands before the place, and the caret.
+// Adds the second line of a place: blanks for `head` and for `front`, which stands before the place, and the caret.
 fn push_caret(lines: &mut Vec<u8>, head: &[u8], front: &[u8], caret: &[u8]) -> Result<(), Memory>
     ensures { OnOk result (lines.new.items ≡ lines.old.items ++ blanks_for head.now ++ blanks_for front.now
         ++ caret.now) }

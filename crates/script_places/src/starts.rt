@@ -7,8 +7,8 @@ ghost use Rattle.script_places.specs.Starts.{start, first_token, first_at};
 use script_grammar::tree::{Script, StmtPart};
 use script_lex::Token;
 
-/// The place of the first byte of a token, which counts from 0; a token past the end is the end of the text, of so many
-/// bytes in all.
+/// The byte at which a token begins, from 0. Tokens count from 0; one past the end begins at the end of the text, which
+/// has `total` bytes.
 pub fn start(total: usize, tokens: &[Token], token: u64) -> usize
     ensures { result ≡ start total tokens.now token }
 {

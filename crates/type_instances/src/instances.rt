@@ -86,7 +86,7 @@ fn rename(
     Ok(call)
 }
 
-/// The number of a new type variable.
+/// The number of a new type variable, which is a number variable if `number` is true.
 pub fn fresh_number(subst: &mut Subst, number: bool) -> Result<u64, Memory>
     ensures free { IfOk result (λ n. HasNewType subst.old subst.new (IsTrue number) n) }
     ensures grows { Grows subst.old subst.new }

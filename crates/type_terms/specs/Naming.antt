@@ -24,7 +24,7 @@ variable_of_kind (Fixed k) = []
 variable_of_kind (Var n) = n ∷ []
 
 abbrev mutual
-  -- the same of its kind variables
+  -- the kind variables of a type, in the order in which they stand and as often
   pub kind_variables : Term → List ℕ
   kind_variables (base_term b) = []
   kind_variables (list_term t) = kind_variables t

@@ -71,7 +71,7 @@ pub fn push_copies(
     Ok(())
 }
 
-/// Puts the parts of two lists or two tuples on the stack; `false` where the two are not of one such shape.
+/// Puts the parts of two lists, or of two tuples of one length, on the stack; `false` where the two are neither.
 pub fn push_split<'a>(
     work: &mut Vec<(&'a Ty, &'a Ty)>,
     s: &'a Ty,

@@ -59,10 +59,8 @@ pub fn mark(nested: &mut [bool], ty: &Ty)
     }
 }
 
-/// Whether the variable stands in the type, directly or through what variables are bound to.
-///
-/// A variable that stands in no binding needs no walk through the bindings: `nested` is false. A type without parts
-/// takes no memory.
+/// Whether the variable `x` stands in the type, directly or through what variables are bound to. A variable that stands
+/// in no binding needs no walk through the bindings: `nested` is false. A type without parts takes no memory.
 pub fn occurs_in(
     alloc: Global,
     types: &[TypeVariable],
@@ -156,7 +154,7 @@ fn all_among<'a>(
     Err(Memory)
 }
 
-/// Whether the type is this variable.
+/// Whether the type is the variable `x`.
 fn is_variable(ty: &Ty, x: u64) -> bool
     ensures yes { OnTrue result (term_of ty.now ≡ variable x) }
     ensures no { OnFalse result (term_of ty.now ≢ variable x) }

@@ -72,7 +72,8 @@ pub fn unify_in(
     }
 }
 
-/// Makes two types the same where neither is to be taken apart: with one binding, or none.
+/// Makes two types the same where neither is to be taken apart: with one binding, or none. `free` counts the variables
+/// that are bound to nothing.
 fn unify_directly(
     alloc: Global,
     bindings: &mut Bindings,
@@ -109,7 +110,8 @@ fn unify_directly(
     }
 }
 
-/// Binds as `solve` does, and frees again what was bound where the types differ in shape or memory runs out.
+/// Binds as `solve` does, and frees again what was bound where the types differ in shape or memory runs out. `free`
+/// counts the variables that are bound to nothing.
 fn unify_deeply(
     alloc: Global,
     bindings: &mut Bindings,

@@ -34,7 +34,7 @@ abbrev pub kinds_of : List Kind → List KindOf → Option (List Kind)
 kinds_of given [] = Some []
 kinds_of given (w ∷ ws) = put (known_kind given w) (kinds_of given ws)
 
--- the kinds of a use that may not be there
+-- the kinds of a use within a call, where the use is there and all its kinds are known
 abbrev pub kinds_in : Option Use → List Kind → Option (List Kind)
 kinds_in None given = None
 kinds_in (Some u) given = kinds_of given u.kinds
@@ -60,7 +60,7 @@ target_said o = option_map (λ u. u.target) o
 abbrev pub target_at : List Use → Targets
 target_at uses = target_in (map said uses)
 
--- the names that each statement uses, and the def whose text it is
+-- the names that a statement uses, with the def that the statement is, if it is one
 abbrev pub Block : Type 0
 Block = Option ℕ × List Name
 
@@ -86,7 +86,7 @@ abbrev pub IsUsedIn : List Block → Option ℕ → Name → Type 0
 IsUsedIn [] def n = ⊥
 IsUsedIn (b ∷ bs) def n = ((b.0 ≡ def) × IsOneOf b.1 n) ⊎ IsUsedIn bs def n
 
--- a place of the expansion of a def's text, or of the script's
+-- a place of the expansion of a def's text, or of the script's: a chain of calls, and a name that is used behind it
 abbrev pub IsPlace : List Block → Option ℕ → List ℕ → Name → Type 0
 IsPlace bs def [] n = IsUsedIn bs def n
 IsPlace bs def (at ∷ chain) n = (c : Name) × (t : ℕ) × IsPlace bs def chain c × (c.at ≡ at)
@@ -129,7 +129,7 @@ kinds_listed (Some u) = u.kinds
 abbrev pub numbers_in : List Use → List Name → List ℕ
 numbers_in uses ns = flat_map number_of (flat_map (λ n. kinds_listed (use_at n.at uses)) ns)
 
--- How many numbers there are beside the first n, if each new one is the next.
+-- how many numbers there are, with n before these, if each new one is the next; else None
 abbrev pub numbered_on : ℕ → List ℕ → Option ℕ
 numbered_on n [] = Some n
 numbered_on n (j ∷ js) = cond (nat_lt j n) (numbered_on n js) (cond (nat_eq j n) (numbered_on (suc n) js) None)
@@ -148,7 +148,7 @@ is_of t (Some u) = nat_eq u t
 abbrev pub open_kinds : List Block → List Use → ℕ → Option ℕ
 open_kinds bs uses t = numbered_on 0 (numbers_in uses (block_names (find (λ b. is_of t b.0) bs)))
 
--- as many kinds as what is meant has open ones; none for a value
+-- a use has as many kinds as what it means has open ones; a value has none
 abbrev pub HasKinds : List Block → List Use → Target → List KindOf → Type 0
 HasKinds bs uses (target.Slot t) ks = ks ≡ []
 HasKinds bs uses (target.Def t) ks = open_kinds bs uses t ≡ Some (length ks)

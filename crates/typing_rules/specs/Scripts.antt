@@ -41,8 +41,8 @@ def_token (Def at name ps equals is e) = at
 abbrev pub params_of : Tree ADef → List Parameter
 params_of (Def at name ps equals is e) = parameters_of ps
 
--- Calls from the places behind a chain of calls. What a def's text sees is what stands before the def, and its calls
--- are one longer.
+-- A call at token `at` of the def with token t, behind a chain of calls, may with these arguments have the type g. What
+-- the def's text sees is what stands before the def, and its own calls are behind a chain longer by this one.
 abbrev pub calls_behind : Targets → Places → List Entry → List ℕ → ℕ → ℕ → List (GivenArgument Ground) → Ground → Type 0
 calls_behind target kinds [] chain at t gs g = ⊥
 calls_behind target kinds (value u h ∷ es) chain at t gs g = calls_behind target kinds es chain at t gs g

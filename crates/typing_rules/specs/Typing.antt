@@ -18,8 +18,8 @@ abbrev pub TypesByToken : Type 0
 TypesByToken = List (ℕ × Ground)
 
 -- What is known where an expression stands: what the name at a token means, the type of the binding at a token, the
--- kinds of the use at a token, and what a call may be: the token of the call, that of the def, the arguments' types and
--- the result's.
+-- kinds of the use at a token, and what a call may be, by its token, the token of the def, the types of the arguments
+-- and that of the result.
 pub record Sight : Type 1 where
   pub target : ℕ → Option Target
   pub types : TypesByToken

@@ -1,7 +1,7 @@
 // Values. Each function of the six files of this descent reads as the definition of its name does in `ReadValue` of
 // `script_grammar`, or in `specs/Operand.antt`; the production that it reads stands at its head, in the notation of
 // `docs/grammar.md`. A value counts down `levels`, so that it is the number of `full_by`; a caller gives as many as
-// there are tokens, which is always enough.
+// there are tokens, which is always enough. The tokens are the last of `total`, by which a field `at` is an index.
 //
 // So that a level takes little stack, a function hands what a nested call answered to a tail of its own: no frame then
 // keeps copies of a tree while others are read. A compiler may take a function that is called in one place into its
