@@ -66,7 +66,7 @@ fn number(fault: &NameFault) -> u32
     }
 }
 
-/// Whether the first is told before the second: by the token, then by the number.
+/// Whether the first fault is told before the second: by the token, then by the number.
 fn is_before(first: &NameFault, second: &NameFault) -> bool
     ensures same { result ≡ is_told_before first.now second.now }
 {

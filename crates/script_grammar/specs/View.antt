@@ -149,7 +149,7 @@ abbrev mutual
   view_args call.end_of-Arg = none
   view_args (call.more_of-Arg at name f rest) = more (Arg at name (view_full f)) (view_args rest)
 
--- the tree that `*` or `/` and its operand of the program stands for
+-- the tree that an operand behind `*` or `/` stands for
 abbrev pub view_multiplied : multiplied.Multiplied → Tree AMultiplied
 view_multiplied m = Multiplied m.at m.divide (view_operand m.operand)
 

@@ -130,7 +130,7 @@ abbrev mutual
   AreWholeArgs call.end_of-Arg = Unit {0}
   AreWholeArgs (call.more_of-Arg at name f rest) = IsWholeFull f × AreWholeArgs rest
 
--- each list in `*` or `/` and its operand is as long as the grammar wants
+-- each list in an operand behind `*` or `/` is as long as the grammar wants
 abbrev pub IsWholeMultiplied : multiplied.Multiplied → Type 0
 IsWholeMultiplied m = IsWholeOperand m.operand
 

@@ -22,7 +22,7 @@ pub fn spell(alloc: Global, script: &Script) -> Result<Vec<TokenKind>, Memory>
     Ok(out)
 }
 
-// Each of these functions appends the tokens of the node that its name says, here a binding.
+// Appends the tokens of a binding.
 fn put_bind(alloc: Global, out: &mut Vec<TokenKind>, bind: &Bind) -> Result<(), Memory>
     ensures { OnOk result (out.new.items ≡ out.old.items ++ spell (view_bind bind.now)) }
 {
@@ -31,6 +31,7 @@ fn put_bind(alloc: Global, out: &mut Vec<TokenKind>, bind: &Bind) -> Result<(), 
     put_full(alloc, out, &bind.value)
 }
 
+// Appends the tokens of a binding in the body of a def.
 fn put_inner(alloc: Global, out: &mut Vec<TokenKind>, inner: &Inner) -> Result<(), Memory>
     ensures { OnOk result (out.new.items ≡ out.old.items ++ spell (view_inner inner.now)) }
 {
@@ -38,6 +39,7 @@ fn put_inner(alloc: Global, out: &mut Vec<TokenKind>, inner: &Inner) -> Result<(
     put_if(out, TokenKind::Symbol(Symbol::Semicolon), inner.semicolon)
 }
 
+// Appends the tokens of the bindings in the body of a def.
 fn put_inners(alloc: Global, out: &mut Vec<TokenKind>, inners: &[Inner]) -> Result<(), Memory>
     ensures { OnOk result (out.new.items ≡ out.old.items ++ each (map view_inner inners.now)) }
 {
@@ -47,6 +49,7 @@ fn put_inners(alloc: Global, out: &mut Vec<TokenKind>, inners: &[Inner]) -> Resu
     Ok(())
 }
 
+// Appends the tokens of a parameter.
 fn put_param(alloc: Global, out: &mut Vec<TokenKind>, param: &Param) -> Result<(), Memory>
     ensures { OnOk result (out.new.items ≡ out.old.items ++ spell (view_param param.now)) }
 {
@@ -112,6 +115,7 @@ fn put_body(
     put(out, TokenKind::Keyword(Keyword::End))
 }
 
+// Appends the tokens of a def.
 fn put_def(alloc: Global, out: &mut Vec<TokenKind>, def: &Def) -> Result<(), Memory>
     ensures { OnOk result (out.new.items ≡ out.old.items ++ spell (view_def def.now)) }
 {
@@ -120,6 +124,7 @@ fn put_def(alloc: Global, out: &mut Vec<TokenKind>, def: &Def) -> Result<(), Mem
     put_body(alloc, out, &def.inner, &def.result)
 }
 
+// Appends the tokens of a part of a statement.
 fn put_part(alloc: Global, out: &mut Vec<TokenKind>, part: &StmtPart) -> Result<(), Memory>
     ensures { OnOk result (out.new.items ≡ out.old.items ++ spell (view_part part.now)) }
 {
@@ -131,6 +136,7 @@ fn put_part(alloc: Global, out: &mut Vec<TokenKind>, part: &StmtPart) -> Result<
     }
 }
 
+// Appends the tokens of a statement, with the `;` that may end it.
 fn put_stmt(alloc: Global, out: &mut Vec<TokenKind>, stmt: &Stmt) -> Result<(), Memory>
     ensures { OnOk result (out.new.items ≡ out.old.items ++ spell (view_stmt stmt.now)) }
 {
@@ -138,6 +144,7 @@ fn put_stmt(alloc: Global, out: &mut Vec<TokenKind>, stmt: &Stmt) -> Result<(), 
     put_if(out, TokenKind::Symbol(Symbol::Semicolon), stmt.semicolon)
 }
 
+// Appends the tokens of statements.
 fn put_stmts(alloc: Global, out: &mut Vec<TokenKind>, stmts: &[Stmt]) -> Result<(), Memory>
     ensures { OnOk result (out.new.items ≡ out.old.items ++ each (map view_stmt stmts.now)) }
 {

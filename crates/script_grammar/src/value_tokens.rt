@@ -123,7 +123,7 @@ fn multiplied_token(divide: bool) -> TokenKind
     }
 }
 
-// Each of these functions appends the tokens of the nodes that its name says, here of parts, each behind `or`.
+// Appends the tokens of parts, each behind `or`.
 #[cycle(value)]
 fn put_ands(alloc: Global, out: &mut Vec<TokenKind>, ands: &[And]) -> Result<(), Memory>
     ensures { OnOk result (out.new.items ≡ out.old.items ++ each_behind (a_keyword word.Or) (map view_and ands.now)) }
@@ -135,6 +135,7 @@ fn put_ands(alloc: Global, out: &mut Vec<TokenKind>, ands: &[And]) -> Result<(),
     Ok(())
 }
 
+// Appends the tokens of parts with `and` between.
 #[cycle(value)]
 fn put_and(alloc: Global, out: &mut Vec<TokenKind>, and: &And) -> Result<(), Memory>
     ensures { OnOk result (out.new.items ≡ out.old.items ++ spell (view_and and.now)) }
@@ -155,6 +156,7 @@ fn put_nots(alloc: Global, out: &mut Vec<TokenKind>, nots: &[Not]) -> Result<(),
     Ok(())
 }
 
+// Appends the tokens of a comparison, perhaps behind `not`.
 #[cycle(value)]
 fn put_not(alloc: Global, out: &mut Vec<TokenKind>, not: &Not) -> Result<(), Memory>
     ensures { OnOk result (out.new.items ≡ out.old.items ++ spell (view_not not.now)) }
@@ -163,6 +165,7 @@ fn put_not(alloc: Global, out: &mut Vec<TokenKind>, not: &Not) -> Result<(), Mem
     put_compare(alloc, out, &not.inner)
 }
 
+// Appends the tokens of a sum, perhaps compared with another.
 #[cycle(value)]
 fn put_compare(alloc: Global, out: &mut Vec<TokenKind>, compare: &Compare) -> Result<(), Memory>
     ensures { OnOk result (out.new.items ≡ out.old.items ++ spell (view_compare compare.now)) }
@@ -177,6 +180,7 @@ fn put_compare(alloc: Global, out: &mut Vec<TokenKind>, compare: &Compare) -> Re
     }
 }
 
+// Appends the tokens of products with `+` and `-` between.
 #[cycle(value)]
 fn put_sum(alloc: Global, out: &mut Vec<TokenKind>, sum: &Sum) -> Result<(), Memory>
     ensures { OnOk result (out.new.items ≡ out.old.items ++ spell (view_sum sum.now)) }
@@ -185,6 +189,7 @@ fn put_sum(alloc: Global, out: &mut Vec<TokenKind>, sum: &Sum) -> Result<(), Mem
     put_addends(alloc, out, &sum.rest)
 }
 
+// Appends the tokens of products, each behind its `+` or `-`.
 #[cycle(value)]
 fn put_addends(alloc: Global, out: &mut Vec<TokenKind>, addends: &[Added]) -> Result<(), Memory>
     ensures { OnOk result (out.new.items ≡ out.old.items ++ each (map view_added addends.now)) }
@@ -195,6 +200,7 @@ fn put_addends(alloc: Global, out: &mut Vec<TokenKind>, addends: &[Added]) -> Re
     Ok(())
 }
 
+// Appends the tokens of a product behind its `+` or `-`.
 #[cycle(value)]
 fn put_added(alloc: Global, out: &mut Vec<TokenKind>, added: &Added) -> Result<(), Memory>
     ensures { OnOk result (out.new.items ≡ out.old.items ++ spell (view_added added.now)) }
@@ -203,6 +209,7 @@ fn put_added(alloc: Global, out: &mut Vec<TokenKind>, added: &Added) -> Result<(
     put_product(alloc, out, &added.product)
 }
 
+// Appends the tokens of operands with `*` and `/` between.
 #[cycle(value)]
 fn put_product(alloc: Global, out: &mut Vec<TokenKind>, product: &Product) -> Result<(), Memory>
     ensures { OnOk result (out.new.items ≡ out.old.items ++ spell (view_product product.now)) }
@@ -211,6 +218,7 @@ fn put_product(alloc: Global, out: &mut Vec<TokenKind>, product: &Product) -> Re
     put_factors(alloc, out, &product.rest)
 }
 
+// Appends the tokens of operands, each behind its `*` or `/`.
 #[cycle(value)]
 fn put_factors(
     alloc: Global,
@@ -225,6 +233,7 @@ fn put_factors(
     Ok(())
 }
 
+// Appends the tokens of an operand behind its `*` or `/`.
 #[cycle(value)]
 fn put_multiplied(
     alloc: Global,
@@ -237,6 +246,7 @@ fn put_multiplied(
     put_operand(alloc, out, &multiplied.operand)
 }
 
+// Appends the tokens of an operand.
 #[cycle(value)]
 fn put_operand(
     alloc: Global,
@@ -349,6 +359,7 @@ fn put_args(alloc: Global, out: &mut Vec<TokenKind>, args: &[Arg]) -> Result<(),
     }
 }
 
+// Appends the tokens of an argument, with its label if it has one.
 #[cycle(value)]
 fn put_arg(alloc: Global, out: &mut Vec<TokenKind>, arg: &Arg) -> Result<(), Memory>
     ensures { OnOk result (out.new.items ≡ out.old.items ++ spell (view_arg arg.now)) }

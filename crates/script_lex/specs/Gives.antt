@@ -48,10 +48,10 @@ told_as total (refusals.BadByte n) = placed_fault total (Bad n)
 told_as total (refusals.UnclosedString n) = placed_fault total (OpenText n)
 told_as total (refusals.NumberTooLarge n) = placed_fault total (Large n)
 
--- the fault of a text, behind some tokens
+-- the fault stands in the text behind some tokens
 abbrev pub RunsInto : List ℕ → LexStop → Type 0
 RunsInto text fault = (ts : List Token) × Runs text ts (Some fault)
 
--- the fault of a text, behind these tokens
+-- the fault stands in the text behind these tokens
 abbrev pub RunsTo : List ℕ → List Token → LexStop → Type 0
 RunsTo text ts fault = Runs text ts (Some fault)

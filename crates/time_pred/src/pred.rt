@@ -177,7 +177,7 @@ fn is_never(pred: &Pred) -> bool
     }
 }
 
-// Whether all of these predicates, or some, are always true by their form, or never.
+// Whether all of these predicates are always true by their form.
 #[cycle(form)]
 fn all_always(parts: &[Pred]) -> bool
     ensures { result ≡ list_all (λ p. is_always (view_pred p)) parts.now }
@@ -190,6 +190,7 @@ fn all_always(parts: &[Pred]) -> bool
     true
 }
 
+// Whether one of these predicates is always true by its form.
 #[cycle(form)]
 fn some_always(parts: &[Pred]) -> bool
     ensures { result ≡ list_any (λ p. is_always (view_pred p)) parts.now }
@@ -202,6 +203,7 @@ fn some_always(parts: &[Pred]) -> bool
     false
 }
 
+// Whether all of these predicates are never true by their form.
 #[cycle(form)]
 fn all_never(parts: &[Pred]) -> bool
     ensures { result ≡ list_all (λ p. is_never (view_pred p)) parts.now }
@@ -214,6 +216,7 @@ fn all_never(parts: &[Pred]) -> bool
     true
 }
 
+// Whether one of these predicates is never true by its form.
 #[cycle(form)]
 fn some_never(parts: &[Pred]) -> bool
     ensures { result ≡ list_any (λ p. is_never (view_pred p)) parts.now }

@@ -110,8 +110,8 @@ fn unify_directly(
     }
 }
 
-/// Binds as `solve` does, and frees again what was bound where the types differ in shape or memory runs out. `free`
-/// counts the variables that are bound to nothing.
+/// Binds variables until the two types are the same; what was bound is freed again where they differ in shape or memory
+/// runs out. `free` counts the variables that are bound to nothing.
 fn unify_deeply(
     alloc: Global,
     bindings: &mut Bindings,
