@@ -14,7 +14,7 @@ use Rattle.general_types.specs.declared.generalising.TextKind.{TextKind}
 use Rattle.general_types.specs.declared.generalising.TextKind.TheVariants.{Open, Outer}
 use Rattle.general_types.specs.Holding.{SameTypes}
 
--- a kind of a text, where the variables outside of it are as in `a`
+-- a kind of a text as that of a use, where the variables outside of the text are as in `a`
 abbrev pub settled : Assignment → TextKind → KindOf
 settled a (Outer k) = Fixed (kind_meaning a k)
 settled a (Open j) = Given j

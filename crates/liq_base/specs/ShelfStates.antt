@@ -109,7 +109,7 @@ shelf_told shelf = record {
   writes = shelf.write_faults;
 }
 
--- what a shelf of these files tells of which no call fails
+-- what a shelf of which no call fails tells: these files, and that nothing failed
 abbrev pub sure_shelf_told : Files → ShelfTold
 sure_shelf_told files = record { files = Some files; created = None; closed = None; reads = 0; writes = 0 }
 

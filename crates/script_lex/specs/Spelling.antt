@@ -69,7 +69,7 @@ abbrev pub IsShortTime : (day hour minute second : Option (List ℕ)) → List �
 IsShortTime day (Some hour) (Some minute) None text = text ≡ part_text day 119 ++ (part_text (Some hour) 104 ++ minute)
 IsShortTime day hour minute second text = ⊥
 
--- the text is a time of these parts, some part is there, or it is a short form of one
+-- the text writes a time of these parts, at least one of them: each part with its unit, or in the short form
 pub record IsTimeText (day hour minute second : Option (List ℕ)) (text : List ℕ) : Type 0 where
   pub day_digits : IsDigits day
   pub hour_digits : IsDigits hour

@@ -53,7 +53,7 @@ fn keyword_of(word: &[u8]) -> Option<Keyword>
 }
 
 // The name `word`, with the `(` directly behind it if there is one, and the bytes behind. `left` counts the bytes from
-// the name's first on.
+// the name on.
 fn name_or_open<'a>(
     alloc: Global,
     word: &[u8],

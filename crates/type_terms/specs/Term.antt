@@ -29,7 +29,7 @@ abbrev pub terms_of : List Term → Terms
 terms_of [] = no_terms
 terms_of (t ∷ ts) = one_more t (terms_of ts)
 
--- the plain data of a `Ty`, whose parts are plain data already
+-- one node of a `Ty` as plain data; its parts are plain data already
 abbrev pub term_step : ty.Ty-F Term → Term
 term_step ty.Int = base_term base.Int
 term_step ty.Decimal = base_term base.Decimal

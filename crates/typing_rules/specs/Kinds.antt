@@ -196,7 +196,8 @@ IsLessKind (Fixed j) (Given n) = ⊥
 IsLessKind (Given m) (Fixed k) = ⊥
 IsLessKind (Given m) (Given n) = m ≡ n
 
--- no kind of the one row is greater than that of the other in its place
+-- each kind of the first row is the same open kind as the one in its place in the second row, or mono only where that
+-- is
 abbrev pub AreLessKinds : List KindOf → List KindOf → Type 0
 AreLessKinds [] [] = Unit {0}
 AreLessKinds [] (w ∷ ws) = ⊥
