@@ -61,7 +61,7 @@ abbrev mutual
   IsWholePAtom (patom.Paren' p inside) = IsWholePOr inside
   IsWholePAtom atom = Unit {0}
 
--- each list of parts in a predicate's atom has at least one
+-- each list of parts in a predicate's atom has at least one part
 abbrev pub IsWholePNot : pnot.PNot → Type 0
 IsWholePNot n = IsWholePAtom n.atom
 

@@ -37,7 +37,7 @@ pub fn is_between(from: TimeMark, to: TimeMark, at: WeekSecond) -> bool
     }
 }
 
-// For how many seconds from this one on, 1 to a week's, it stays whether a mark alone holds.
+// For how many seconds from this one on, at least 1 and at most a week, it stays whether a mark alone holds.
 pub fn steady_at(mark: TimeMark, at: WeekSecond) -> u32
     ensures stays { Stays (is_at mark) at.second result }
     ensures some { 0 < result }
@@ -54,7 +54,7 @@ pub fn steady_at(mark: TimeMark, at: WeekSecond) -> u32
     }
 }
 
-// How many seconds have gone by since a mark's value, around its period: below its period.
+// How many seconds have gone by since a mark's value, around its period; fewer than the period has.
 fn phase(mark: TimeMark, at: WeekSecond) -> u32
     ensures is { result ≡ unsigned_abs
         (int_rem_euclid (pos (at.second % period_of mark) -ℤ pos (value_of mark)) (pos (period_of mark))) }
@@ -65,7 +65,8 @@ fn phase(mark: TimeMark, at: WeekSecond) -> u32
     since.rem_euclid(i64::from(period)) as u32
 }
 
-// For how many seconds from this one on, 1 to a week's, it stays whether the interval from one mark to another holds.
+// For how many seconds from this one on, at least 1 and at most a week, it stays whether the interval from one mark to
+// another holds.
 pub fn steady_between(from: TimeMark, to: TimeMark, at: WeekSecond) -> u32
     ensures stays { Stays (is_between from to) at.second result }
     ensures some { 0 < result }

@@ -203,8 +203,8 @@ fn take_up(
     }
 }
 
-/// Takes up two types, apart with a stack of references: the pairs of parts that are not both lists or both tuples of
-/// one length are taken up; `false` where a pair differs in shape.
+/// Takes two types apart, with a stack of references, and takes up the pairs of parts that are not both lists or both
+/// tuples of one length; `false` where a pair differs in shape.
 fn take_apart(
     alloc: Global,
     bindings: &mut Bindings,
