@@ -16,18 +16,17 @@ abbrev pub HasSameText : Setting → Run → Run → Type 0
 HasSameText setting run other = (b : ℕ) → b < length setting.plan.buffers
     → map text_of_window (windows_of run b) ≡ map text_of_window (windows_of other b)
 
--- how many of these ticks are of clock m; a tick is a clock and a number
+-- how many of these ticks are of clock m; each is a clock and its tick's number
 abbrev pub made : (m : ℕ) → List (ℕ × ℕ) → ℕ
 made m [] = 0
 made m (tick ∷ ticks) = if nat_eq tick.0 m then suc (made m ticks) else made m ticks
 
--- how many chunks of a buffer the first n ticks of its reader's clock got, and how many those of its feeder's clock
--- gave and it accepted
+-- how many chunks of buffer b the first n ticks of its reader's clock got
 abbrev pub got_by : Setting → (clocks : ℕ) → (accepted : ℕ → ℕ → ℕ → Bool) → (b n : ℕ) → ℕ
 got_by setting clocks accepted b n = length
     (somes (takes_of b (joined_upto (calls_in setting clocks accepted (reader setting b)) n)))
 
--- how many chunks of a buffer its clock had put, accepted ones alone, before its tick n
+-- how many chunks of buffer b the first n ticks of its feeder's clock put and it accepted
 abbrev pub kept_by : Setting → (clocks : ℕ) → (accepted : ℕ → ℕ → ℕ → Bool) → (b n : ℕ) → ℕ
 kept_by setting clocks accepted b n = length
     (somes (puts_to b (joined_upto (calls_in setting clocks accepted (feeder setting b)) n)))

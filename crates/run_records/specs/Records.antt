@@ -24,19 +24,19 @@ pub record Run : Type 0 where
 abbrev pub windows_of : Run → (buffer : ℕ) → List Window
 windows_of run buffer = slice_index_or run.buffers buffer []
 
--- what a buffer answered to its puts, and to its takes
+-- what a buffer answered to its puts, window after window: the chunk, or nothing where it was full
 abbrev pub puts_of : Run → (buffer : ℕ) → List (Option (List Cell))
 puts_of run buffer = flat_map (λ (window : Window). window.0) (windows_of run buffer)
 
--- the answers that the takes of a buffer got, window after window
+-- what the takes of a buffer got, window after window
 abbrev pub answers_of : Run → (buffer : ℕ) → List Answer
 answers_of run buffer = flat_map (λ (window : Window). window.1) (windows_of run buffer)
 
--- a setting with what the takes of a run got
+-- a setting whose takes get what they got in a run
 abbrev pub setting_in : Setting → Run → Setting
 setting_in setting run = answered setting (answers_of run)
 
--- and with more answers behind them
+-- a setting whose takes get what they got in a run, and after that these answers
 abbrev pub setting_then : Setting → Run → (rest : ℕ → List Answer) → Setting
 setting_then setting run rest = answered setting (λ buffer. answers_of run buffer ++ rest buffer)
 
@@ -44,7 +44,7 @@ setting_then setting run rest = answered setting (λ buffer. answers_of run buff
 abbrev pub capacity_of : Setting → (buffer : ℕ) → ℕ
 capacity_of setting buffer = option_map_or (λ plan. plan.capacity) (slice_get setting.plan.buffers buffer) 0
 
--- the calls on one buffer
+-- those of these calls that are on one buffer
 abbrev pub on : (buffer : ℕ) → List Call → List Call
 on buffer [] = []
 on buffer (Took other answer ∷ calls) = if nat_eq buffer other then Took other answer ∷ on buffer calls
@@ -76,7 +76,7 @@ ticks_of setting accepted m t = calls_of_tick setting (accepted m t) m t
 abbrev pub calls_in : Setting → (clocks : ℕ) → (accepted : ℕ → ℕ → ℕ → Bool) → (m t : ℕ) → List Call
 calls_in setting clocks accepted m t = if nat_lt m clocks then ticks_of setting accepted m t else []
 
--- the first windows of a buffer: the puts of its feed's clock, and the takes of its reader's
+-- the first `count` windows of a buffer: in each the puts of its feeder's clock, and the takes of its reader's
 abbrev pub windows_in : Setting → (clocks : ℕ) → (accepted : ℕ → ℕ → ℕ → Bool) → (buffer W N count : ℕ) → List Window
 windows_in setting clocks accepted buffer W N zero = []
 windows_in setting clocks accepted buffer W N (suc j) =
@@ -124,7 +124,7 @@ pub record IsRounds (setting : Setting) (clocks N : ℕ) (run : Run) : Type 0 wh
       → (rest : List (List Cell))
       × Follows (capacity_of setting buffer) [] (on buffer (rounds_of (setting_in setting run) accepted clocks N)) rest
 
--- the calls of the rounds before this one, and in it those of the clocks below this one
+-- the calls of so many whole rounds, and of the ticks of the clocks below `clock` in the next one
 abbrev pub rounds_to : Setting → (accepted : ℕ → ℕ → ℕ → Bool) → (clocks round clock : ℕ) → List Call
 rounds_to setting accepted clocks round clock = rounds_of setting accepted clocks round
     ++ joined_upto (λ m. ticks_of setting accepted m round) clock

@@ -22,7 +22,7 @@ ghost use Rattle.stream_meaning.specs.Calls.{calls_of, calls_of_tick, fades_in, 
 ghost use Rattle.stream_meaning.specs.Settings.{IsSetting, HasNoBuffers};
 ghost use Rattle.stream_meaning.specs.Sinks.{gaps};
 
-/// The slots of the sub-clocks are there, however deep they nest.
+/// The sub-clocks of each setting have slots, however deep they nest: `sub_of` is what their instants make.
 pub fn sub_clocks_have_slots()
     ensures { (setting : Setting) (clocks : Map) → IsSetting setting clocks → IsMeaning setting (sub_of setting) }
 {}
