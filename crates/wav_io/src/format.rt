@@ -8,7 +8,7 @@ use crate::fields::block_len;
 use byteorder::{ByteOrder, LittleEndian};
 use liq_base::Kind;
 
-/// The size of a body of the extensible form.
+/// How many bytes a body of the extensible form has.
 const EXTENSIBLE_BYTES: usize = 40;
 
 /// The tag of samples that are whole numbers, and the tag of the extensible form.
@@ -83,7 +83,7 @@ fn has_guid(body: &[u8]) -> bool
     guid == PCM_GUID.as_slice()
 }
 
-/// The kind of so many channels, of which there are one or two.
+/// The kind of so many channels; nothing where they are neither one nor two.
 fn kind_from(channels: u16) -> Option<Kind>
     ensures { result ≡ kind_by_channels channels }
 {
@@ -94,7 +94,8 @@ fn kind_from(channels: u16) -> Option<Kind>
     }
 }
 
-/// A kind and a rate, beside the bytes of a block, which are those of a sample for each channel.
+/// The format of this kind and rate, if there is a kind, the rate is above 0, and a block of `block` bytes is one
+/// sample for each channel.
 fn checked(wide: bool, kind: Option<Kind>, rate: u32, block: u16) -> Result<Format, WavFault>
     ensures { result ≡ checked_format wide kind rate block }
 {
