@@ -52,8 +52,8 @@ impl<'a, R> ThreadTaps<'a, R> {
         }
     }
 
-    /// Adds the end of a buffer to which the clock gives, behind those of later buffers. Where memory is refused the
-    /// end is lost.
+    /// Adds the end of a buffer to which the clock gives, after those of buffers with larger numbers. Where memory is
+    /// refused the end is lost.
     pub fn add_put(&mut self, end: PutEnd<'a>) -> Result<(), Memory>
         requires { (k : ℕ) (d : _) → k < length self.old.puts.items
             → end.buffer < (slice_index_or self.old.puts.items k d).buffer }
@@ -64,8 +64,8 @@ impl<'a, R> ThreadTaps<'a, R> {
         Ok(())
     }
 
-    /// Adds the end of a buffer from which the clock takes, behind those of later buffers. Where memory is refused the
-    /// end is lost.
+    /// Adds the end of a buffer from which the clock takes, after those of buffers with larger numbers. Where memory is
+    /// refused the end is lost.
     pub fn add_take(&mut self, end: TakeEnd<'a>) -> Result<(), Memory>
         requires { (k : ℕ) (d : _) → k < length self.old.takes.items
             → end.buffer < (slice_index_or self.old.takes.items k d).buffer }
@@ -89,8 +89,8 @@ impl<'a, R> ThreadTaps<'a, R> {
         (local, puts, takes)
     }
 
-    /// Closes the window of a buffer to which these taps give, with the ends of the clock that takes from it, and opens
-    /// the next one. It answers the window's answers, and takes no memory.
+    /// Closes the window of a buffer to which these taps give, and opens the next one. `takes` are the ends of the
+    /// clock that takes from it. It answers the answers of the closed window, and takes no memory.
     pub fn close_with(
         &mut self,
         alloc: Global,
@@ -122,7 +122,7 @@ impl<'a, R> ThreadTaps<'a, R> {
         mem::replace(&mut self.takes, Vec::new(alloc))
     }
 
-    /// Puts them back.
+    /// Puts the ends back that were taken out to close their windows.
     pub fn put_back(&mut self, takes: Vec<TakeEnd<'a>>)
         requires { Falling takes.items }
         ensures back { self.new.takes ≡ takes.entry }

@@ -14,7 +14,7 @@ stretch [] = 0
 stretch (None ∷ slots) = 0
 stretch (Some cell ∷ slots) = suc (inner_count slots)
 
--- the same, of the items that have this title too
+-- how many items, from the first on, are cells of this title that begin no track
 abbrev pub titled_count : (title : ℕ) → List Slot → ℕ
 titled_count title [] = 0
 titled_count title (None ∷ slots) = 0

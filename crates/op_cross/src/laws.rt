@@ -6,7 +6,7 @@ ghost use Rattle.frame_core.specs.declared.cell.Cell.{Cell};
 ghost use Rattle.op_cross.specs.States.{AllInner, IsTrack};
 ghost use Rattle.op_cross.specs.Runs.{run_of, item_of};
 
-/// Item p is settled once so many slots are there.
+/// Item p is settled once 2p + 2 * overlap + 2 slots are there.
 pub fn settled_in_time()
     ensures many { (overlap : ℕ) (slots : List Slot) (p : ℕ) → 2 * p + 2 * overlap + 2 ≤ length slots
         → p < length (cross overlap slots) }

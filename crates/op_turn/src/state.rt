@@ -35,7 +35,7 @@ impl Model for TurnState {
 }
 
 impl TurnState {
-    /// A node over so many children that gave at no instant yet.
+    /// A rotate or a random over so many children, before the first instant at which it gave.
     pub fn new(turn: Turn, children: u32) -> TurnState
         ensures children { result.children ≡ children }
         ensures stands { StandsFor turn (past_of turn []) result }
@@ -86,7 +86,8 @@ impl TurnState {
         }
     }
 
-    // The child that is used.
+    // The child that is used, by what each child offers: the one used last while it plays its track, or else one by
+    // choice.
     fn used(&self, offers: &[Option<Cell>]) -> Option<u32>
         requires { length offers.now ≡ self.now.children }
         ensures { result ≡ used_by self.now.words self.now.last offers.now }

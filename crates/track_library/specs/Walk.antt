@@ -105,8 +105,8 @@ pub record Heard : Type 0 where
   pub titles : List (List ℕ)
   pub bytes : ℕ
 
--- what is met once a name was found that is new: its file is used, if what it counts for fits with the others into
--- `all` bytes; one that cannot be used is remembered
+-- what was met with one new name, and what this is: its file is used if what it counts for fits with the others into
+-- `all` bytes; a name that cannot be used is kept with its fault
 abbrev pub first_use : ℕ → Heard → List ℕ → Result ℕ Unusable → Result (Heard × Result ℕ Unusable) LoadFault
 first_use all heard name (Err fault) = Ok (
   record {
@@ -128,13 +128,13 @@ first_use all heard name (Ok count) =
     )
     else Err AllTooLarge
 
--- what is met once a name was found: one that was met before is what it was then
+-- what was met with this name, and what it is: a name that was met before is what it was then
 abbrev pub use_of : ℕ → Heard → List ℕ → Option (Result ℕ Unusable) → Result ℕ Unusable
     → Result (Heard × Result ℕ Unusable) LoadFault
 use_of all heard name (Some found) count = Ok (heard, found)
 use_of all heard name None count = first_use all heard name count
 
--- what is met once the audio file of this name was used, and its number or why it cannot be
+-- what was met with the audio file of this name, and what it is: the number of a file that is used, or why it cannot be
 abbrev pub use_audio : Rules → Files → Heard → List ℕ → Result (Heard × Result ℕ Unusable) LoadFault
 use_audio rules files heard name = use_of rules.all heard name (entry_of name heard.names)
     (count_of (audio_at rules files name))

@@ -154,7 +154,7 @@ fn push_some(files: &mut Vec<Undecoded>, file: Option<Undecoded>) -> Result<(), 
     Ok(())
 }
 
-/// The number of a file or a list which comes after `count` others; no memory where 2^32 - 1 is reached.
+/// The number of a file or a list which comes after `count` others. Memory is refused from 2^32 - 1 others on.
 pub fn new_number(count: usize) -> Result<u32, Memory>
     ensures number { IfOk result (λ number. number ≡ count) }
     ensures few { IfOk result (λ number. number + 1 < 2 ^ 32) }
