@@ -22,7 +22,7 @@ pub fn find_clocks(alloc: Global, plan: &Plan) -> Result<ClockMap, CheckEnd>
     }
 }
 
-// How a check ends at a fault of clocks.
+// How a check ends at this fault of clocks.
 fn halt_of(fault: ClockFault) -> CheckEnd
     ensures { result ≡ clock_halt fault }
 {

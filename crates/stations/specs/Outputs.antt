@@ -11,33 +11,34 @@ pub record OutputFile : Type 0 where
   pub name : List ℕ
   pub bytes : List ℕ
 
--- the files after these were written, in order
+-- the files of a shelf after these were written, in order
 abbrev pub with_outputs : Files → List OutputFile → Files
 with_outputs files [] = files
 with_outputs files (output ∷ outputs) = with_outputs (with_file files output.name output.bytes) outputs
 
--- a file of which a part was written: its name, and its first bytes, as many as it has at least and at most
+-- a file of which a part was written: its name, the bytes that it has at least, and those that it has at most
 pub record OutputPart : Type 0 where
   pub name : List ℕ
   pub least : List ℕ
   pub most : List ℕ
 
--- the name holds at least and at most these bytes; or, where its closing failed, a prefix of them or what it held;
--- nothing else changed
+-- the name holds at least and at most these bytes; or, where its closing failed, a prefix of them or what it held
+-- before; nothing else changed
 abbrev pub HoldsBetween : (failed : Type 0) → Files → OutputPart → Files → Type 0
 HoldsBetween failed files output after =
     ((part : List ℕ) × IsPrefix output.least part × IsPrefix part output.most
     × (after ≡ with_file files output.name part)) ⊎ (failed × HoldsPart files output.name output.most after)
 
--- So does each name in turn, while a count of failed writes rises from `count` to `last`: where one closing failed, it
--- rose.
+-- Each name in turn holds at least and at most its bytes, while the count of failed writes rises from `count` to
+-- `last`; where a closing failed, the count rose, and the name may hold a prefix or what it held before.
 abbrev pub HoldsParts : (count : ℕ) → Files → List OutputPart → Files → (last : ℕ) → Type 0
 HoldsParts count files [] after last = (after ≡ files) × (count ≤ last)
 HoldsParts count files (output ∷ outputs) after last =
     (midway : Files) × (next : ℕ) × (count ≤ next) × HoldsBetween (Rose count next) files output midway
     × HoldsParts next midway outputs after last
 
--- what a shelf tells of the sinks that it made, or of those that were closed, after these, one after another
+-- what a shelf tells of the sinks that it made, or of those that were closed, after these, one after another; None
+-- where it tells nothing
 abbrev pub after_making : {A : Type 0} → List A → Option (List A) → Option (List A)
 after_making more None = None
 after_making more (Some before) = Some (before ++ more)
@@ -76,11 +77,11 @@ pub record HoldsSome (idle : Type 0) (device : Bool) (files : Files) (outputs : 
   pub risen : device ≡ true → (others ≡ []) ⊎ Rose old.writes first ⊎ Rose first new.writes
   pub parts : HoldsParts first files created after new.writes
 
--- all bytes of an output that has its last ones, and what it holds without them
+-- the file of an output that has its last bytes
 abbrev pub whole_of : OutputPart → OutputFile
 whole_of output = record { name = output.name; bytes = output.most }
 
--- an output without its last zero byte
+-- a part of an output, without the last zero byte
 abbrev pub unended : OutputPart → OutputPart
 unended output = record { name = output.name; least = output.least; most = output.least }
 
@@ -99,8 +100,8 @@ pub record HoldsEnds (count : ℕ) (files : Files) (outputs : List OutputPart) (
   pub part : HoldsPart (with_outputs files (map whole_of whole)) broken.name broken.most midway
   pub behind : HoldsParts next midway (map unended others) after last
 
--- the name of the first of these files, if there is one, holds a prefix of its bytes, or what it held; nothing else
--- changed
+-- the name of the first of these files, if there is one, holds a prefix of its bytes, or what it held before; nothing
+-- else changed
 abbrev pub HoldsNext : Files → List OutputFile → Files → Type 0
 HoldsNext files [] after = after ≡ files
 HoldsNext files (output ∷ outputs) after = HoldsPart files output.name output.bytes after
