@@ -20,7 +20,8 @@ pub record Turned (sides after : List Side) (buffer : ℕ) (old new : Window) : 
   pub at : HasAt sides place (record { buffer = buffer; window = old })
   pub are : after ≡ slice_set sides place (record { buffer = buffer; window = new })
 
--- the ends of a buffer were closed together, and these are the answers of the window
+-- the window of a buffer was closed at both ends, at one among those that put and one among those that take, and these
+-- are its answers
 pub record WasClosed (buffer : ℕ) (puts puts_after takes takes_after : List Side) (log : Answers) : Type 0 where
   pub put : Window
   pub take : Window

@@ -21,7 +21,7 @@ pub record LocalBuffer : Type 0 where
   pub closed : List Answers
   pub current : Answers
 
--- no answer
+-- the answers of a window before any call
 abbrev pub no_answers : Answers
 no_answers = record { puts = []; takes = [] }
 
@@ -44,7 +44,7 @@ all_answers buffer = record {
   takes = flat_map takes_of_window buffer.closed ++ buffer.current.takes;
 }
 
--- what the rules of a bounded queue speak of: the chunks and all answers
+-- what the rules of a bounded queue speak of: how many chunks it may hold, those that it holds, and all answers
 pub record Held : Type 0 where
   pub capacity : ℕ
   pub chunks : List (List Cell)

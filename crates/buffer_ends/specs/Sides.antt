@@ -6,6 +6,7 @@ use Rattle.frame_core.specs.declared.cell.Cell.{Cell}
 use Rattle.frame_core.specs.declared.chunk.Gave.{Gave}
 use Rattle.buffer_queue.specs.Window.{Window, window_coded, Puts, Takes}
 
+-- a clock's end of a buffer that joins it to another clock: the buffer's number, and the window that is open
 pub record Side : Type 0 where
   pub buffer : ℕ
   pub window : Window

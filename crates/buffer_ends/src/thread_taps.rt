@@ -30,7 +30,8 @@ pub struct ThreadTaps<'a, R> {
 }
 
 impl<'a, R> ThreadTaps<'a, R> {
-    /// The ends of one clock: each list goes from the last buffer to the first, and has each at most once.
+    /// The taps of one clock. Each list of ends goes from the buffer with the largest number to the one with the
+    /// smallest, and has each at most once.
     pub fn new(
         rt: &'a R,
         local: LocalTaps,
@@ -76,7 +77,7 @@ impl<'a, R> ThreadTaps<'a, R> {
         Ok(())
     }
 
-    /// The lists and the ends, with the answers of the calls.
+    /// Hands out the lists and the ends, with the answers of the calls.
     pub fn into_parts(self) -> (LocalTaps, Vec<PutEnd<'a>>, Vec<TakeEnd<'a>>)
         ensures { (result.0 ≡ self.entry.local) × (result.1 ≡ self.entry.puts) × (result.2 ≡ self.entry.takes) }
     {
@@ -113,7 +114,7 @@ impl<'a, R> ThreadTaps<'a, R> {
         close_at(alloc, &mut self.puts, place, takes, at)
     }
 
-    /// Takes the ends out that take, so that their windows can be closed.
+    /// Takes out the ends that take, so that their windows can be closed.
     pub fn lend_takes(&mut self, alloc: Global) -> Vec<TakeEnd<'a>>
         ensures lent { result.items ≡ self.old.takes.items }
         ensures falling { Falling result.items }

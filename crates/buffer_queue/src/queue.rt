@@ -44,8 +44,8 @@ fn turn(queue: &Ruled, put: &mut Pass<Chunk, View>, take: &mut Pass<Chunk, View>
     *take = queue.another::<Next>(put);
 }
 
-/// A queue of at most so many chunks, which two threads share. Contracts see which queue it is, and that tells its
-/// capacity.
+/// A queue with room for a number of chunks, its capacity, which two threads share. Contracts see which queue it is,
+/// and that tells its capacity.
 #[derive(Drop)]
 pub struct BufferQueue {
     queue: Ruled,

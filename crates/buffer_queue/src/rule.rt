@@ -19,7 +19,8 @@ pub struct View {
     pub got: LinkedList<(Chunk, u64)>,
 }
 
-/// Some order of the accepted puts and of the chunks got leads from the opening contents to the contents.
+/// The rule of a queue: some order of the accepted puts and of the chunks got leads from the opening contents to the
+/// contents.
 pub struct OneOrder;
 
 impl Protocol<Chunk, View> for OneOrder {

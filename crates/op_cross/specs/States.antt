@@ -6,6 +6,7 @@ use Rattle.frame_core.specs.Slots.{Slot}
 use Rattle.sample_kernels.specs.Mixing.{mixed}
 use Rattle.op_cross.specs.Crossfade.{mixed_cells, cross}
 
+-- what a crossfade keeps from slot to slot
 pub record Crossing : Type 0 where
   -- the most cells that overlap
   pub overlap : ℕ
@@ -60,7 +61,7 @@ ready_cells state =
 abbrev pub gap_of : Bool → List Slot
 gap_of gap = if gap then None ∷ [] else []
 
--- the items that are ready
+-- the items that are ready: cells, and then maybe an empty one
 abbrev pub ready_items : Crossing → List Slot
 ready_items state = ready_cells state ++ gap_of state.gap
 
@@ -81,7 +82,7 @@ unsettled state more = map Some (held state) ++ (map Some (growing state) ++ mor
 abbrev pub wants : Crossing → Bool
 wants state = nat_eq state.ready 0 && not state.gap
 
--- how many cells of a track that goes on settle its item, where it is not settled
+-- how many cells of a track that goes on settle the state's item, where it is not settled
 abbrev pub track_room : Crossing → ℕ
 track_room state =
     if nat_lt 0 (length state.next) then length state.cells - length state.next

@@ -12,13 +12,13 @@ pub fn settled_in_time()
         → p < length (cross overlap slots) }
 {}
 
-/// A longer list keeps the settled items.
+/// More slots at the end of a list leave the items as they are that are settled.
 pub fn settled_items_stay()
     ensures begins { (overlap : ℕ) (slots more : List Slot)
         → take (length (cross overlap slots)) (cross overlap (slots ++ more)) ≡ cross overlap slots }
 {}
 
-/// A child that runs only until item p is settled has run the least number of slots.
+/// A child that runs only until item p is settled has run the least number of slots that settle it.
 pub fn least_run()
     ensures run { (overlap : ℕ) (slots : ℕ → List Slot) (p filled : ℕ) → ((m : ℕ) → length (slots m) ≡ m)
         → p < length (cross overlap (slots filled)) →

@@ -209,7 +209,7 @@ impl CrossState {
         self.cells.take_into(left, right);
     }
 
-    /// Its item: a cell, or nothing.
+    /// The item at which the state stands, which is settled: a cell, or nothing.
     pub fn offer(&self) -> Option<Cell>
         requires { wants self.now ≡ false }
         ensures item { (slots : List Slot) (p : ℕ) → StandsFor self.now slots p

@@ -1,7 +1,7 @@
 // What the nodes before a node gave.
 use stream_meaning::Part;
 
-/// What the nodes before a node gave in a stretch. Each slice goes by node.
+/// What the nodes before a node gave in a stretch, by a node's number.
 #[derive(Clone, Copy)]
 pub struct Before<'a> {
     /// What each node gave at the first instant, as which the others go on.

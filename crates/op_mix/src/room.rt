@@ -8,7 +8,7 @@ use std::alloc::Global;
 use std::marker::Model;
 use stream_meaning::Part;
 
-/// The most instants of a run.
+/// The most instants of a run at once.
 pub const MAX_STRETCH: u32 = 2048;
 
 /// Room for a sum at each instant of a run, and for how many samples it has. Contracts see for how many instants, which

@@ -74,7 +74,8 @@ abbrev pub picked_cell : Option ℕ → ℕ → Cell → Cell
 picked_cell last child cell =
     record { left = cell.left; right = cell.right; first = cell.first || not (is_last last child); title = cell.title }
 
--- what a selection offers with this child; nothing without a child
+-- what a selection offers with this child, where `last` is the one used last; nothing without a child, or where that
+-- offers nothing
 abbrev pub picked : List Slot → Option ℕ → Option ℕ → Option Picked
 picked slots last None = None
 picked slots last (Some child) = with_cell (slot_at slots child)

@@ -32,7 +32,7 @@ pub record Past : Type 0 where
   pub last : Option ℕ
   pub choices : ℕ
 
--- the child that a choice finds; a random takes one word for each choice at which it gave
+-- the child that a choice finds, by what the children offer; a random takes one word for each choice at which it gave
 abbrev pub chosen : Turn → Past → List Slot → Option ℕ
 chosen Rotate past slots = rotated slots past.last
 chosen (Random seed) past slots = random_pick slots (word seed past.choices)

@@ -59,7 +59,7 @@ impl TurnState {
         picked(offers, self.last, self.used(offers))
     }
 
-    /// Goes on by one instant at which the node gave, over what each child offered. Some child offered.
+    /// Goes on by one instant at which the node gave, where the children offered this. Some child offered.
     pub fn advance(&mut self, offers: &[Option<Cell>])
         requires offers { length offers.now ≡ self.old.children }
         requires some { list_any is_some offers.now ≡ true }

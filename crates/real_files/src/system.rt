@@ -42,7 +42,7 @@ pub(crate) struct FileId {
 }
 
 impl FileId {
-    /// The number of the file that was asked about.
+    /// The identity of the file that was asked about.
     pub fn of(found: &Metadata) -> FileId {
         FileId {
             device: found.dev(),
@@ -50,17 +50,17 @@ impl FileId {
         }
     }
 
-    /// The number of the file to which a path leads; nothing where none is there.
+    /// The identity of the file to which a path leads; nothing where none is there.
     pub fn at<R: Files<File = File>>(rt: &R, path: &str) -> Result<Option<FileId>, Unseen> {
         FileId::seen(fs::metadata(rt, path))
     }
 
-    /// The number of what a path names, be it a link itself; nothing where nothing is there.
+    /// The identity of what a path names, be it a link itself; nothing where nothing is there.
     pub fn named<R: Files<File = File>>(rt: &R, path: &str) -> Result<Option<FileId>, Unseen> {
         FileId::seen(fs::symlink_metadata(rt, path))
     }
 
-    // The number of the file that a look at a path found; nothing where none is there.
+    // The identity of the file that a look at a path found; nothing where none is there.
     fn seen(looked: io::Result<Metadata>) -> Result<Option<FileId>, Unseen> {
         match looked {
             Ok(found) => Ok(Some(FileId::of(&found))),

@@ -14,7 +14,7 @@ use script_plan::ScriptFault;
 use stations::StationFault;
 use std::alloc::Global;
 
-/// Why a script is refused. The line of each stands in `docs/faults.md`.
+/// Why a script is refused. `docs/faults.md` has the line of each.
 #[derive(Debug, Drop)]
 pub enum Fault {
     /// The file of the script is not there.

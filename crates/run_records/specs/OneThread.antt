@@ -22,7 +22,8 @@ held_by buffer calls = held_after [] (on buffer calls)
 abbrev pub has_place : Setting → List Call → (buffer : ℕ) → Bool
 has_place setting calls buffer = nat_lt (length (held_by buffer calls)) (capacity_of setting buffer)
 
--- what the takes of a buffer get by these calls and in one more tick: then what it holds
+-- what the takes of a buffer got by these calls, and then what those of one more tick get: each chunk that it holds,
+-- and after that nothing
 abbrev pub answers_after : List Call → (buffer : ℕ) → List Answer
 answers_after calls buffer = answers_in buffer calls ++ map Some (held_by buffer calls)
 

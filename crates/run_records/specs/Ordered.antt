@@ -11,7 +11,8 @@ use Rattle.run_records.specs.Records.{Window, Run, windows_of, calls_in}
 abbrev pub text_of_window : Window → List Bool × List Bool
 text_of_window window = (map is_some window.0, map is_some window.1)
 
--- two runs have the same text
+-- two runs have the same text: in each window of each buffer as many puts and takes, with the same answers but for what
+-- the chunks hold
 abbrev pub HasSameText : Setting → Run → Run → Type 0
 HasSameText setting run other = (b : ℕ) → b < length setting.plan.buffers
     → map text_of_window (windows_of run b) ≡ map text_of_window (windows_of other b)
@@ -31,8 +32,8 @@ abbrev pub kept_by : Setting → (clocks : ℕ) → (accepted : ℕ → ℕ → 
 kept_by setting clocks accepted b n = length
     (somes (puts_to b (joined_upto (calls_in setting clocks accepted (feeder setting b)) n)))
 
--- A list of all ticks that keeps each clock's order, and in which each chunk that a tick got was accepted in an earlier
--- one: a buffer's chunks are got in the order in which they were accepted.
+-- The ticks of a record can be ordered: a list of all of them keeps each clock's order, and each chunk that a tick got
+-- was accepted in an earlier one. A buffer's chunks are got in the order in which they were accepted.
 pub record IsOrdered (setting : Setting) (clocks : ℕ) (accepted : ℕ → ℕ → ℕ → Bool) (N : ℕ) : Type 0 where
   pub order : List (ℕ × ℕ)
   pub all : (m : ℕ) → m < clocks → made m order ≡ N

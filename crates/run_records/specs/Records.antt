@@ -52,8 +52,8 @@ on buffer (Took other answer ∷ calls) = if nat_eq buffer other then Took other
 on buffer (Given other chunk accepted ∷ calls) = if nat_eq buffer other
     then Given other chunk accepted ∷ on buffer calls else on buffer calls
 
--- These calls on a list of at most so many chunks, in this order, lead from `queue` to `rest`: a take gets the front,
--- and nothing only where there is none; a put goes to the back, and is refused only where the list is full.
+-- These calls on a list of at most `capacity` chunks, in this order, lead from `queue` to `rest`: a take gets the
+-- front, and nothing only where there is none; a put goes to the back, and is refused only where the list is full.
 abbrev pub Follows : (capacity : ℕ) → List (List Cell) → List Call → List (List Cell) → Type 0
 Follows capacity queue [] rest = queue ≡ rest
 Follows capacity queue (Took buffer None ∷ calls) rest = (queue ≡ []) × Follows capacity queue calls rest
@@ -110,7 +110,7 @@ pub record AreWindows (setting : Setting) (clocks W N : ℕ) (run : Run) : Type 
 abbrev pub rounds_of : Setting → (accepted : ℕ → ℕ → ℕ → Bool) → (clocks N : ℕ) → List Call
 rounds_of setting accepted clocks N = joined_upto (λ t. joined_upto (λ m. ticks_of setting accepted m t) clocks) N
 
--- the record of N rounds on one thread: one window a buffer, in the order of the rounds
+-- this is the record of N rounds on one thread: one window a buffer, in the order of the rounds
 pub record IsRounds (setting : Setting) (clocks N : ℕ) (run : Run) : Type 0 where
   pub buffers : length run.buffers ≡ length setting.plan.buffers
   pub accepted : (m t buffer : ℕ) → Bool
@@ -129,18 +129,18 @@ abbrev pub rounds_to : Setting → (accepted : ℕ → ℕ → ℕ → Bool) →
 rounds_to setting accepted clocks round clock = rounds_of setting accepted clocks round
     ++ joined_upto (λ m. ticks_of setting accepted m round) clock
 
--- how many ticks clock m has made, where so many rounds are whole, and in the next one the clocks below `clock` have
--- made theirs
+-- how many ticks clock m has made, where `rounds` rounds are whole, and in the next one the clocks below `clock` have
+-- made their tick
 abbrev pub made_by : (rounds clock m : ℕ) → ℕ
 made_by rounds clock m = if nat_lt m clock then suc rounds else rounds
 
--- how many ticks clock m has made, if no clock makes more than `total`
+-- how many ticks clock m has made after `round` whole rounds and the ticks of the clocks below `clock`, if no clock
+-- makes more than `total`
 abbrev pub ticks_by : (total round clock m : ℕ) → ℕ
 ticks_by total round clock m = min total (made_by round clock m)
 
--- the record of rounds that were broken off, maybe in the middle of a tick, in the turn of this clock in this round:
--- its calls begin those of N rounds, whatever answers follow; and they are those of the turns before, and a beginning
--- of those of this one
+-- the record of rounds that were broken off, maybe in the middle of a tick, in the turn of one clock: its calls begin
+-- those of N rounds, whatever answers follow; they are those of all turns before, and a beginning of those of that turn
 pub record AreRoundsBegun (setting : Setting) (clocks N : ℕ) (run : Run) : Type 0 where
   pub buffers : length run.buffers ≡ length setting.plan.buffers
   pub calls : List Call

@@ -31,7 +31,7 @@ pub record IsAsOnOneThread (setting : Setting) (run one_thread : Run) : Type 0 w
   pub same_gaps : (i t : ℕ) → gaps (setting_in setting run) i t ≡ gaps (setting_in setting one_thread) i t
   pub same_cues : (i t : ℕ) → cues (setting_in setting run) i t ≡ cues (setting_in setting one_thread) i t
 
--- A run that was broken off begins these rounds: with some answers behind those that it got, its takes get what theirs
+-- A run that was broken off begins these rounds: with some answers after those that it got, its takes get what theirs
 -- do. So what is said of it whatever answers follow is said of the rounds.
 pub record BeginsRounds (setting : Setting) (run rounds : Run) : Type 0 where
   pub rest : ℕ → List Answer

@@ -66,7 +66,7 @@ pub fn feeders_run()
         → feeder setting buffer < clocks.running }
 {}
 
-/// Rounds on one thread have one record.
+/// Rounds on one thread have one record at most.
 pub fn rounds_are_one()
     ensures { (setting : Setting) (clocks : Map) → IsSetting setting clocks → (running N : ℕ) (run other : Run)
         → IsRounds setting running N run → IsRounds setting running N other → run ≡ other }
@@ -111,7 +111,7 @@ pub fn text_is_whole()
 {}
 
 /// Where no buffer joins two clocks, a run by threads that was broken off begins what rounds on one thread do: with
-/// some answers behind its own, it has those of the rounds.
+/// some answers after its own, it has those of the rounds.
 pub fn broken_windows_begin_rounds()
     ensures { (setting : Setting) (clocks : Map) → IsSetting setting clocks → (W N : ℕ) (run rounds : Run)
         → HasNoJoin setting clocks.running
@@ -119,8 +119,8 @@ pub fn broken_windows_begin_rounds()
         → BeginsRounds setting run rounds }
 {}
 
-/// Rounds on one thread that were broken off begin the whole rounds, whatever buffers join: with some answers behind
-/// its own, such a run has those of the rounds.
+/// Rounds on one thread that were broken off begin the whole rounds, whatever buffers join: with some answers after its
+/// own, such a run has those of the rounds.
 pub fn broken_rounds_begin_rounds()
     ensures { (setting : Setting) (clocks : Map) → IsSetting setting clocks → (running N : ℕ) (run rounds : Run)
         → AreRoundsBegun setting running N run → IsRounds setting running N rounds → BeginsRounds setting run rounds }

@@ -15,7 +15,7 @@ use plan_core::{BufferPlan, Plan};
 use std::alloc::Global;
 use std::fmt::Write;
 
-/// Adds the lines of a plan's buffers, in order.
+/// Adds a line for each buffer of a plan, in order.
 pub fn push_buffers(
     alloc: Global,
     text: &mut String,

@@ -58,12 +58,10 @@ pub record AreClosed (least : ℕ) (names : List (List ℕ)) (before : List Clos
 abbrev pub HaveClosed : (least : ℕ) → List (List ℕ) → (before after : Option (List Closing)) → Type 0
 HaveClosed least names before after = ForSome before (λ closings. AreClosed least names closings after)
 
--- So it is for the first of the outputs, which were created, as the shelf tells of the sinks that it made; the
--- others were not. Files do not tell which were created. Each of them had got a piece when it was closed, its
--- header, also where the creation of the next one failed; or a front of its header, and its own sink had failed.
--- `first` is where the count stood when their closings began. Where a device failed and not all were created, the
--- count rose before that, as a creation failed, which then excuses no file; or it rose at a closing, as a header
--- broke off. Where not all were created, no tick was made, which is `idle`.
+-- The first of the outputs were created and hold their parts, or what a failed closing leaves; the others were not, and
+-- then no tick was made, which is `idle`. Each had got its header when it was closed, or a front of it, and its sink
+-- had failed. `first` is the count of failed writes when the closings began: where a device failed and not all were
+-- created, it rose before that, at a creation, which excuses no file; or it rose at a closing, as a header broke off.
 pub record HoldsSome (idle : Type 0) (device : Bool) (files : Files) (outputs : List OutputPart) (after : Files)
     (old new : ShelfTold) : Type 0 where
   pub created : List OutputPart
@@ -85,10 +83,10 @@ whole_of output = record { name = output.name; bytes = output.most }
 abbrev pub unended : OutputPart → OutputPart
 unended output = record { name = output.name; least = output.least; most = output.least }
 
--- Outputs that lack nothing but their last bytes were ended and closed, one after another, and a fault came, while a
+-- Outputs with all their bytes but the last were ended and closed, one after another, until a fault came, while the
 -- count of failed writes rose from `count` to `last`: those before the fault hold all their bytes; the one at which it
--- came holds a prefix of them, or what it held; those behind it hold theirs without the last ones, or, where the count
--- rose at their closing, a prefix of these or what they held.
+-- came holds a prefix of them, or what it held before; those after it lack their last bytes, or, where the count rose
+-- at their closing, hold a prefix or what they held before.
 pub record HoldsEnds (count : ℕ) (files : Files) (outputs : List OutputPart) (after : Files) (last : ℕ) : Type 0 where
   pub whole : List OutputPart
   pub broken : OutputPart
@@ -106,7 +104,7 @@ abbrev pub HoldsNext : Files → List OutputFile → Files → Type 0
 HoldsNext files [] after = after ≡ files
 HoldsNext files (output ∷ outputs) after = HoldsPart files output.name output.bytes after
 
--- the first of these files were written whole, one after another, and then maybe a part of the next one
+-- the first of these files were written whole, one after another, and then maybe a part of the next one; no other
 pub record HoldsUpto (files : Files) (outputs : List OutputFile) (after : Files) : Type 0 where
   pub whole : List OutputFile
   pub others : List OutputFile

@@ -25,9 +25,9 @@ pub record StoppedInTicks (station : Station) (device : Bool) (files : Files) (o
       → IsSomeAnd new.files (λ now. HoldsSome ((m : ℕ) → begun.made m ≡ 0) device files
       (parts_with station run begun rest) now old new)
 
--- A run made all its ticks, and what came behind them broke off: a last zero byte or a closing of the outputs; or, once
--- all outputs were written, a file among the cue files and the trace. All outputs had been created, and of the files
--- behind them maybe some.
+-- A run made all its ticks, and what comes after them broke off: a last zero byte or a closing of the outputs; or, once
+-- all outputs were written, a file among the cue files and the trace. All outputs had been created, and of the later
+-- files maybe some.
 pub record StoppedBehindTicks (station : Station) (files : Files) (old new : ShelfTold) : Type 0 where
   pub run : Run
   pub lawful : IsLawful station run
@@ -59,7 +59,7 @@ BeginsRoundsIn (InWindows window) setting run rounds = BeginsRounds setting run 
 BeginsRoundsIn (Again trace) setting run rounds = setting_in setting run ≡ setting_in setting rounds
 
 -- A run of the station that was broken off begins what one thread renders: rounds of the station have one record, and
--- with some answers behind its own it has those of that record.
+-- with some answers after its own the run has those of that record.
 pub record BeginsAsOneThread (station : Station) (run : Run) : Type 0 where
   pub alone : Run
   pub rounds : IsRounds (bare station) station.clocks.running station.ticks alone

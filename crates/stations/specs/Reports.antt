@@ -20,7 +20,7 @@ counted_part name samples gaps = codes "output " ++ name ++ codes " samples " ++
 abbrev pub rendered_line : (name : List ℕ) (samples gaps : ℕ) → List ℕ
 rendered_line name samples gaps = counted_part name samples gaps ++ codes "\n"
 
--- a line for each output of a rendering
+-- a line for each output among these sinks, as a run of the station rendered it
 abbrev pub rendered_lines : Station → Run → List SinkPlan → List ℕ
 rendered_lines station run [] = []
 rendered_lines station run (Output name node fallible wide ∷ sinks) =
@@ -41,7 +41,7 @@ answered_line run buffer = answers_line buffer
     (count_by is_some (puts_of run buffer)) (count_by is_none (puts_of run buffer))
     (count_by is_some (answers_of run buffer)) (count_by is_none (answers_of run buffer))
 
--- the lines of these buffers, of which the first has this number
+-- a line for each of these buffers after a rendering, of which the first has this number
 abbrev pub answered_lines : Run → (buffer : ℕ) → List BufferPlan → List ℕ
 answered_lines run buffer [] = []
 answered_lines run buffer (plan ∷ plans) = answered_line run buffer ++ answered_lines run (suc buffer) plans
@@ -50,7 +50,7 @@ answered_lines run buffer (plan ∷ plans) = answered_line run buffer ++ answere
 abbrev pub report_of : Station → Run → List ℕ
 report_of station run = rendered_lines station run station.plan.sinks ++ answered_lines run 0 station.plan.buffers
 
--- the name of a main clock; a sink's node lies in one
+-- the name of a main clock, by the names of all; a sub-clock has none
 abbrev pub main_name : List (List ℕ) → NodeClock → List ℕ
 main_name names (Main m) = slice_index_or names m []
 main_name names (Sub k) = []
@@ -69,7 +69,7 @@ checked_line clocks mark name node =
     codes "output " ++ name ++ codes " clock " ++ clock_name clocks node ++ codes " " ++ fallible_word (mark node)
     ++ codes "\n"
 
--- a line for each output of a check
+-- a line for each output among these sinks, as a check reports it
 abbrev pub checked_lines : ClockMap → (mark : ℕ → Bool) → List SinkPlan → List ℕ
 checked_lines clocks mark [] = []
 checked_lines clocks mark (Output name node fallible wide ∷ sinks) =

@@ -16,9 +16,9 @@ pub data Way : Type 0 where
   InWindows : (window : ℕ) → Way
   Again : (trace : TraceValue) → Way
 
--- a plan with its audio files and its clocks, the second of the week at which it begins, how many ticks are rendered,
--- and in which way; the name of the file that gets the trace, if one is wanted, which threads alone leave; and whether
--- cue files are wanted. A `check` is that of no tick from second 0 on, in rounds, without a trace
+-- What an accepted script renders: a plan with its audio files and its clocks, the second of the week at which it
+-- begins, how many ticks, and in which way; the name of the file for the trace, if one is wanted, which threads alone
+-- leave; and whether cue files are wanted. A `check` renders no tick, from second 0 on, in rounds, without a trace.
 pub record Station : Type 0 where
   pub plan : Plan
   pub library : Sounds
@@ -76,8 +76,8 @@ pub record AreWindowsAt (setting : Setting) (clocks ticks window : ℕ) (run : R
 abbrev pub IsOfOneTick : (made tried : ℕ → ℕ) → Type 0
 IsOfOneTick made tried = (m n : ℕ) → tried m ≡ suc (made m) → tried n ≡ suc (made n) → m ≡ n
 
--- the record of a run in which each clock made and tried so many ticks; that of a replay is whole, in whatever order
--- its clocks make theirs
+-- the record of a run in which clock m made `made m` ticks and tried `tried m`; that of a replay is whole, in whatever
+-- order its clocks make theirs
 abbrev pub CameTo : Setting → (clocks ticks : ℕ) → Way → Run → (made tried : ℕ → ℕ) → Type 0
 CameTo setting clocks ticks InRounds run made tried = AreRoundsAt setting clocks ticks run made tried
 CameTo setting clocks ticks (InWindows window) run made tried = AreWindowsAt setting clocks ticks window run made tried

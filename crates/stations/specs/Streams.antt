@@ -100,7 +100,7 @@ abbrev pub parts_with : (station : Station) (run : Run) → IsBegun station run 
 parts_with station run begun rest = parts_in (setting_with station run rest) station.ticks begun.made begun.tried
     station.plan.sinks
 
--- what the outputs of a run hold whose ticks are all made: at least their bytes before they are ended
+-- what the outputs of a run hold at least and at most once all its ticks are made
 abbrev pub ends_of : Station → Run → List OutputPart
 ends_of station run = ends_in (setting_of_run station run) station.ticks station.plan.sinks
 

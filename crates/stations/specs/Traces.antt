@@ -9,7 +9,7 @@ use Rattle.stations.specs.Outputs.{OutputFile}
 use Rattle.stations.specs.Stations.{Station, Way, InRounds, InWindows, Again}
 use Rattle.stations.specs.Streams.{output_files}
 
--- the file of a trace, where it has a name
+-- the file of a trace, alone in a list, where it has a name
 abbrev pub traced : (name : Option (List ℕ)) → TraceValue → List OutputFile
 traced None trace = []
 traced (Some name) trace = record { name = name; bytes = trace_text trace } ∷ []

@@ -45,7 +45,7 @@ pub struct StepGate<'a, R> {
 
     /// How many waits were in vain since waits were long.
     vain: AtomicU64,
-    /// For how many ticks of other clocks the last wait in vain was.
+    /// For how many ticks of other clocks a wait was in vain; of several the most.
     vain_ticks: AtomicU64,
 }
 

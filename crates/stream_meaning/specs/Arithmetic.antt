@@ -10,7 +10,7 @@ cells_of [] = []
 cells_of (None ∷ slots) = cells_of slots
 cells_of (Some cell ∷ slots) = cell ∷ cells_of slots
 
--- the sum of one sample of each cell
+-- the sum over these cells of one sample of each: `sample` says which
 abbrev pub total_by : (Cell → ℤ) → List Cell → ℤ
 total_by sample [] = pos 0
 total_by sample (cell ∷ cells) = sample cell +ℤ total_by sample cells

@@ -84,24 +84,25 @@ abbrev pub given : (buffer : ℕ) → List Cell → Bool → List Call
 given buffer [] accepted = []
 given buffer (cell ∷ cells) accepted = Given buffer (cell ∷ cells) accepted ∷ []
 
--- what a sink gives at the end of tick t of main clock m, where `accepted b` is the answer of buffer b
+-- the put that a sink makes at the end of tick t of main clock m, if it is a feed in this clock and has cells;
+-- `accepted b` is the answer of buffer b
 abbrev pub give_by : Setting → (accepted : ℕ → Bool) → (m t : ℕ) → SinkPlan → List Call
 give_by setting accepted m t (Output name node fallible wide) = []
 give_by setting accepted m t (Feed buffer node) =
     if lies_in setting (Main m) node then given buffer (feed_cells setting node t) (accepted buffer) else []
 
--- the calls by which main clock m feeds its buffers at the end of tick t
+-- the puts of main clock m at the end of tick t; `accepted b` is the answer of buffer b
 abbrev pub gives_of_tick : Setting → (accepted : ℕ → Bool) → (m t : ℕ) → List Call
 gives_of_tick setting accepted m t = flat_map (give_by setting accepted m t) setting.plan.sinks
 
--- the calls by which main clock m reads buffers during tick t
+-- the takes of main clock m during tick t, its sub-clocks' with them
 abbrev pub takes_of_tick : Setting → (m t : ℕ) → List Call
 takes_of_tick setting m t = joined_upto
     (λ j. calls_of setting (sub_of setting) (Main m)
     (first_instants setting (sub_of setting) (Main m) (t * setting.plan.frame + j)))
     setting.plan.frame
 
--- the calls of tick t of main clock m
+-- the calls of tick t of main clock m: its takes and then its puts, where `accepted b` is the answer of buffer b
 abbrev pub calls_of_tick : Setting → (accepted : ℕ → Bool) → (m t : ℕ) → List Call
 calls_of_tick setting accepted m t = takes_of_tick setting m t ++ gives_of_tick setting accepted m t
 
@@ -126,7 +127,8 @@ pub record IsBegin (made calls : List Call) : Type 0 where
   pub rest : List Call
   pub are : calls ≡ made ++ rest
 
--- the calls of each instant of each clock go by those of the sub-clocks' instants
+-- the calls of each instant of each clock are its readers' takes and then those of the instants that its sub-clocks
+-- make
 pub record GoDown (setting : Setting) (sub : ℕ → ℕ → List Slot) : Type 0 where
   pub each : (clock : NodeClock) (past : List Moment) → calls_of setting sub clock past
       ≡ takes_at setting clock past

@@ -76,7 +76,7 @@ pub record Moment : Type 0 where
   pub parts : List Part
   pub demands : List Bool
 
--- a node that offers nothing and uses no child
+-- what a node does that offers nothing and uses no child
 abbrev pub silent : Part
 silent = record { slot = None; pick = None }
 
@@ -136,7 +136,7 @@ started answers reading = record {
   taken = reading.taken + length (reader_takes (next_answers answers reading) reading.reader);
 }
 
--- a reader at an instant, where `before` is the reader that the instant before left
+-- the reader of a buffer at this instant, where `before` is the reader that the instant before left
 abbrev pub reading_at : Setting → (buffer instant : ℕ) → Reading → Reading
 reading_at setting buffer instant before =
     if nat_eq (instant % setting.plan.frame) 0 then started (setting.answers buffer) before else before
@@ -155,11 +155,11 @@ reading_after setting i buffer (moment ∷ past) =
 abbrev pub slots_at : List Part → List ℕ → List Slot
 slots_at parts children = map (λ child. (part_at parts child).slot) children
 
--- a node that offers this slot and uses no child
+-- what a node does that offers this slot and uses no child
 abbrev pub unpicked : Slot → Part
 unpicked slot = record { slot = slot; pick = None }
 
--- a node that offers the cell which was picked, and uses its child; nothing where none was picked
+-- what a node does that offers the cell which was picked, and uses its child; nothing where none was picked
 abbrev pub picked_part : Option Picked → Part
 picked_part None = silent
 picked_part (Some picked) = record { slot = Some picked.cell; pick = Some picked.child }
@@ -270,7 +270,7 @@ abbrev pub IsMeaning : Setting → (sub : ℕ → ℕ → List Slot) → Type 0
 IsMeaning setting sub = (k m : ℕ) → sub k m
     ≡ slots_of (first_instants setting sub (Sub k) m) (crossfaded setting.plan.nodes k)
 
--- the first m slots of the child of crossfade k in its sub-clock, where sub-clocks nest less deep than this
+-- the first m slots of the child of crossfade k in its sub-clock, where sub-clocks nest no deeper than this
 abbrev pub sub_within : Setting → (depth : ℕ) → ℕ → ℕ → List Slot
 sub_within setting zero k m = []
 sub_within setting (suc depth) k m = slots_of (first_instants setting (sub_within setting depth) (Sub k) m)

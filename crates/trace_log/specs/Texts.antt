@@ -47,14 +47,14 @@ places_of t = window_count t.ticks t.window * length t.buffers
 unfoldable pub trace_text : TraceValue → List ℕ
 trace_text t = header t.ticks t.window (length t.buffers) ++ lines_below t.buffers (length t.buffers) (places_of t)
 
--- the numbers that line 0 may have
+-- the numbers of line 0 are such as a trace may have
 pub record InBounds (ticks window buffers : ℕ) : Type 0 where
   pub ticks_most : ticks ≤ 1000000000
   pub window_least : 1 ≤ window
   pub window_most : window ≤ 1000000
   pub buffers_most : buffers ≤ 4096
 
--- a trace within the bounds, with a log per window in each buffer
+-- a trace is within the bounds, and each of its buffers has as many windows as its ticks have
 pub record IsTrace (t : TraceValue) : Type 0 where
   pub bounds : InBounds t.ticks t.window (length t.buffers)
   pub logs : (b : ℕ) → b < length t.buffers → length (slice_index_or t.buffers b []) ≡ window_count t.ticks t.window

@@ -25,9 +25,9 @@ yes (false ∷ answers) = yes answers
 abbrev pub AtNo : List Bool → (ℕ → Type 0) → Type 0
 AtNo answers P = (before after : List Bool) → answers ≡ before ++ false ∷ after → P (yes before)
 
--- What the answers of a legal window meet: at the end the queue holds no fewer chunks than none and no more than it
--- may; a refused put has as many chunks before it as fill the queue, and an empty take those of the opening; and of a
--- refused put and an empty take one comes long before the other: the queue is emptied or filled between them.
+-- What the answers of a legal window meet: no more chunks are got than were there or put, and no more are left than the
+-- queue may hold; a refused put has as many chunks before it as fill the queue, and an empty take those of the opening;
+-- and of a refused put and an empty take one comes long before the other: the queue is emptied or filled between them.
 pub record Fits (capacity opening : ℕ) (puts takes : List Bool) : Type 0 where
   pub least : yes takes ≤ opening + yes puts
   pub most : opening + yes puts ≤ capacity + yes takes
@@ -42,8 +42,8 @@ pub record Passed : Type 0 where
   pub floor : ℕ
   pub left : List Bool
 
--- The place among the takes before which those stand that come before a put with `count` chunks before it, if it is
--- refused: the first empty one that has as many before it. An empty one with fewer leaves the queue to be filled again.
+-- The place among the takes up to which they come before a refused put that has `count` chunks before it: that of the
+-- first empty take with as many before it. An empty take with fewer leaves the queue to be filled again.
 abbrev pub passed : (capacity count got floor : ℕ) → List Bool → Passed
 passed capacity count got floor [] = record { got = got; floor = floor; left = [] }
 passed capacity count got floor (true ∷ takes) = passed capacity count (suc got) floor takes

@@ -28,7 +28,7 @@ written_size head rate = 44 + 2 * channels_of head.kind * output_length (blocks_
 abbrev pub count_of_at_most : (most count : ℕ) → Result ℕ Unusable
 count_of_at_most most count = if nat_le count most then Ok count else Err TooLong
 
--- how many bytes a file of this head and of so many bytes counts for, if it can be used
+-- how many bytes a file with this head and of `size` bytes counts for, if one file may have so many
 abbrev pub head_count : Rules → Head → (size : ℕ) → Result ℕ Unusable
 head_count rules head size = count_of_at_most rules.file (max size (written_size head rules.rate))
 

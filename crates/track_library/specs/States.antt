@@ -42,7 +42,7 @@ lists_of read = listed read.lists.entries
 abbrev pub names_at : List (List ℕ × List (List ℕ)) → ℕ → List (List ℕ)
 names_at lists at = (slice_index_or lists at ([], [])).1
 
--- each number that a name has is that of a file that is used, and there are fewer than 2^32
+-- each number that a name was found to have is that of a file that is used, and there are fewer than 2^32 files
 pub record IsHeard (heard : Heard) : Type 0 where
   pub numbers : All (λ e. IfOk e.1 (λ number. number < length heard.titles)) heard.names
   pub many : length heard.titles < 2 ^ 32

@@ -139,7 +139,7 @@ abbrev pub use_audio : Rules → Files → Heard → List ℕ → Result (Heard 
 use_audio rules files heard name = use_of rules.all heard name (entry_of name heard.names)
     (count_of (audio_at rules files name))
 
--- the fault that is told of a file that cannot be used
+-- the fault of a plan that needs the file of this name, which cannot be used
 abbrev pub told_fault : List ℕ → Unusable → LoadFault
 told_fault name NotThere = Missing name
 told_fault name (NotWav fault) = BadAudio name fault
@@ -251,8 +251,8 @@ nothing_met = record { lists = []; heard = record { names = []; titles = []; byt
 abbrev pub load_of : Rules → Files → List Node → Result Sounds LoadFault
 load_of rules files nodes = sounds_or_fault rules files (nodes_walked rules files nodes (Ok (nothing_met, [])))
 
--- why a step ends with this fault: a read that failed let the count of failed reads rise, and is one of those of the
--- step; memory may be refused anywhere; every other fault is the one of the files, where they are told
+-- why a step that reads these files ends with this fault: a read that failed let the count of failed reads rise; memory
+-- may be refused anywhere; every other fault is the step's own, where the files are told
 abbrev pub Ends : {X : Type 0} → (old new : ShelfTold) → (Files → List ℕ → Type 0) → (Files → Result X LoadFault)
     → LoadFault → Type 0
 Ends old new reads step (Missing name) = ForSome old.files (λ files. step files ≡ Err (Missing name))

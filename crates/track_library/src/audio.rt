@@ -37,7 +37,7 @@ pub struct AudioFiles {
 }
 
 impl AudioFiles {
-    /// What this name is, if it was met before.
+    /// What this name was found to be, if it was met before: the number of a file that is used, or why it cannot be.
     fn known(&self, name: &str) -> Option<Result<u32, Unusable>>
         ensures { result ≡ entry_of name.now (heard_of self.now).names }
     {

@@ -35,7 +35,7 @@ impl Model for LeafLists {
 }
 
 impl LeafLists {
-    /// The lists of no node.
+    /// The lists of the nodes before the first is added.
     pub fn new(alloc: Global) -> LeafLists
         ensures { result ≡ [] }
     {

@@ -21,10 +21,10 @@ use liq_base::{Fetched, Looked, Memory, Shelf, ShelfFault, Text};
 use std::alloc::Global;
 use wav_io::{Head, head_of, read_head};
 
-/// The bytes that stand before the blocks of a file with nothing else in it.
+/// How many bytes come before the blocks of a file with nothing else in it.
 const HEADER_BYTES: u64 = 44;
 
-/// The first bytes of a file that are looked at.
+/// How many of a file's first bytes are looked at.
 const FRONT_BYTES: u64 = 16_384;
 
 /// The bytes of the file of this name, if it is there and has at most `most`.
@@ -50,7 +50,7 @@ pub fn fetch<S: Shelf>(
     }
 }
 
-/// Why a read of the file of this name that failed ends a load; want of memory may come in its place.
+/// The fault of a load for which the file of this name could not be read; want of memory may come in its place.
 fn read_fault(alloc: Global, name: &str) -> LoadFault
     ensures { (old new : ShelfTold) → Rose old.reads new.reads → IsReading name.now old new result }
 {
@@ -134,7 +134,7 @@ fn head_in(bytes: &[u8]) -> Result<(Head, u64), Unusable>
     }
 }
 
-/// How many bytes an audio file of these bytes and this head counts for, if they are at most as many as one may.
+/// How many bytes an audio file of these bytes and this head counts for, if one file may have so many.
 fn count_bytes(bytes: &[u8], head: Head, rules: Rules) -> Result<u64, Unusable>
     requires rules { AreRules rules }
     requires few { length bytes.now ≤ rules.file }
@@ -161,7 +161,7 @@ fn count_head(head: Head, size: u64, rules: Rules) -> Result<u64, Unusable>
     Ok(counted)
 }
 
-/// The audio file of these bytes, and how many it counts for, if it can be used.
+/// The audio file of these bytes, and how many bytes it counts for, if it can be used.
 fn use_bytes(bytes: Vec<u8>, rules: Rules) -> Result<(Undecoded, u64), Unusable>
     requires rules { AreRules rules }
     requires few { length bytes.items ≤ rules.file }
@@ -247,7 +247,7 @@ fn count_audio<S: Shelf>(
     }
 }
 
-/// What the audio file of this name counts for, if it can be used, and the file, if files are kept.
+/// The audio file of this name, if it is kept, and how many bytes it counts for, if it can be used.
 pub fn find_audio<S: Shelf>(
     alloc: Global,
     shelf: &mut S,

@@ -34,7 +34,7 @@ chunks_from (suc most) bytes place =
 abbrev pub chunks_behind : List ℕ → ℕ → List Chunk
 chunks_behind bytes place = chunks_from (length bytes) bytes place
 
--- the chunks of a file: the first stands behind `RIFF`, the size of the rest, and `WAVE`
+-- the chunks of a file: the first comes after `RIFF`, the size of the rest, and `WAVE`
 abbrev pub chunks_of : List ℕ → List Chunk
 chunks_of bytes = chunks_behind bytes 12
 

@@ -8,7 +8,7 @@ use Rattle.wav_io.specs.declared.chunks.Chunk.{Chunk}
 use Rattle.wav_io.specs.declared.head.Head.{Head}
 use Rattle.wav_io.specs.declared.fault.WavFault.{WavFault}
 
--- the bytes of the whole blocks that a data chunk holds in a file of so many bytes
+-- how many bytes the whole blocks have that a data chunk holds in a file of `size` bytes
 abbrev pub blocks_size : Bool → Kind → ℕ → Chunk → ℕ
 blocks_size wide kind size chunk =
     min chunk.size (size - (chunk.place + 8)) / block_align wide kind * block_align wide kind

@@ -24,7 +24,7 @@ four_bytes n = little_bytes 4 n
 abbrev pub two_bytes : ℕ → List ℕ
 two_bytes n = little_bytes 2 n
 
--- the 44 bytes before so many samples of each channel, at so many samples a second
+-- the 44 bytes before so many samples of 16 bits of each channel, at `rate` samples a second
 unfoldable pub header_bytes : Kind → ℕ → ℕ → List ℕ
 header_bytes kind rate samples =
     codes "RIFF" ++ four_bytes (36 + samples * block_size kind) ++ codes "WAVE"
@@ -41,7 +41,8 @@ header_of kind rate samples =
 abbrev pub padded : ℕ → ℕ
 padded size = size + size % 2
 
--- the 44 bytes before so many wide samples of each channel: their size in front counts the byte behind odd data
+-- the 44 bytes before so many samples of 24 bits of each channel, at `rate` samples a second; the size of the file
+-- counts the byte after odd data
 unfoldable pub wide_header_bytes : Kind → ℕ → ℕ → List ℕ
 wide_header_bytes kind rate samples =
     codes "RIFF" ++ four_bytes (36 + padded (samples * wide_block kind)) ++ codes "WAVE"

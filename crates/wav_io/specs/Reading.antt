@@ -48,7 +48,7 @@ is_format_body body size = (nat_eq size 16 || nat_eq size 18 || nat_eq size 40) 
 abbrev pub field : List ℕ → ℕ → ℕ → ℕ
 field body place width = little_number width (drop place body)
 
--- the last 16 of 40 bytes, where they say that the samples are plain numbers
+-- the last 16 bytes of a body of the extensible form whose samples are whole numbers
 abbrev pub pcm_guid : List ℕ
 pcm_guid = 0x01 ∷ 0x00 ∷ 0x00 ∷ 0x00 ∷ 0x00 ∷ 0x00 ∷ 0x10 ∷ 0x00 ∷ 0x80 ∷ 0x00 ∷ 0x00 ∷ 0xaa ∷ 0x00 ∷ 0x38 ∷ 0x9b ∷ 0x71
     ∷ []
@@ -80,7 +80,7 @@ checked_format wide (Some kind) rate block =
       wide = wide;
     }) else Err BadFormat
 
--- what the body of a `fmt ` chunk of this size says
+-- the format that the body of a `fmt ` chunk of this size gives, or its fault
 abbrev pub format_in : List ℕ → ℕ → Result Format WavFault
 format_in body size =
     if is_format_body body size then
@@ -124,7 +124,7 @@ abbrev pub chunk_step : List ℕ → Option Chunk → Option Chunk → Result Wa
 chunk_step bytes None samples = Err NoFormat
 chunk_step bytes (Some chunk) samples = format_step bytes (format_in (body_of bytes chunk) chunk.size) samples
 
--- the file, or the first fault that it has
+-- what a file holds, or the first fault that it has
 abbrev pub read_of : List ℕ → Result Wav WavFault
 read_of bytes = if is_riff bytes
     then chunk_step bytes (format_chunk (chunks_of bytes)) (first_named (codes "data") (chunks_of bytes))

@@ -9,7 +9,7 @@ use byteorder::{ByteOrder, LittleEndian};
 /// How many bytes a chunk's name and size have.
 const CHUNK_HEAD: usize = 8;
 
-/// Where the first chunk stands.
+/// The place of the first chunk in a file.
 const FIRST_CHUNK: usize = 12;
 
 /// A chunk: its name, the bytes of its body as its size field states them, and the place of its first byte in the file.

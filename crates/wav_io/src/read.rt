@@ -63,7 +63,7 @@ pub fn read_wav(bytes: &[u8]) -> Result<Wav<'_>, WavFault>
     })
 }
 
-/// Whether `RIFF` and `WAVE` stand at their places.
+/// Whether a file begins with `RIFF`, four bytes that are not looked at, and `WAVE`.
 pub(crate) fn is_riff(bytes: &[u8]) -> bool
     ensures { result ≡ is_riff bytes.now }
 {
