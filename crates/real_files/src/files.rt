@@ -185,7 +185,7 @@ fn size_past(file: &File, front: u64) -> Option<u64>
     }
 }
 
-// What a failed opening says of a file that was to be looked at.
+// What a failed opening says of a file that was to be looked at: it is missing only where the system did not find it.
 fn unlooked(kind: ErrorKind) -> Result<Looked, ShelfFault>
     ensures { (size : ℕ) → result ≢ Ok (Looked.Found size) }
 {

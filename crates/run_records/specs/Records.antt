@@ -89,8 +89,8 @@ windows_in setting clocks accepted buffer W N (suc j) =
     ) ∷ []
 
 -- A lawful record of N ticks of each running clock in windows of W ticks: each buffer's windows hold the puts and the
--- takes of these ticks and are one history of a bounded queue; those of a buffer with both ends in one clock stand in
--- the order in which this clock calls.
+-- takes of these ticks and are one history of a bounded queue; the calls on a buffer with both ends in one clock stand
+-- in the order in which this clock makes them.
 pub record AreWindows (setting : Setting) (clocks W N : ℕ) (run : Run) : Type 0 where
   pub buffers : length run.buffers ≡ length setting.plan.buffers
   pub accepted : (m t buffer : ℕ) → Bool
@@ -164,12 +164,12 @@ pub record IsWithin (s e made tried : ℕ) : Type 0 where
   pub no_fewer : made ≤ tried
   pub one_more : tried ≤ suc made
 
--- The record of a run in windows that was broken off: so many windows were closed, and each clock made so many ticks,
--- tried at most one more, in which it stopped, and is not past the next window; those that did not stop made as many,
--- and where one stopped, they ended this window; where none stopped, each stands at its border. Since the last closing
--- it made these calls: those of the ticks that it made, and a beginning of those of the one in which it stopped,
--- whatever answers follow. All windows of a buffer, the open one too, are one history; and the calls on a buffer with
--- both ends in one clock stand in the order in which this clock makes them.
+-- The record of a run in windows that was broken off. So many windows were closed, and clock m made `made m` ticks and
+-- tried at most one more, in which it stopped; none is past the next window. Those that did not stop made as many;
+-- where one stopped, they ended this window; where none did, each stands at its border. Since the last closing clock m
+-- made the calls `since m`: those of its ticks, and a beginning of those of the one in which it stopped, whatever
+-- answers follow. All windows of a buffer, the open one too, are one history; and the calls on a buffer with both ends
+-- in one clock stand in that clock's order.
 pub record AreWindowsBegun (setting : Setting) (clocks W N : ℕ) (run : Run) : Type 0 where
   pub buffers : length run.buffers ≡ length setting.plan.buffers
   pub accepted : (m t buffer : ℕ) → Bool

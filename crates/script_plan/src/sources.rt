@@ -18,7 +18,7 @@ use std::alloc::Global;
 use typing_rules::Use;
 
 /// The plan of the script that these bytes spell, and for each of its sources the token of the call that made it: of
-/// calls that run within each other, the outermost. Or the first fault of the bytes. Want of memory may come in place
+/// calls that run within each other, the outermost. Or the first fault of the bytes; want of memory may come in place
 /// of either.
 pub fn sources_of(alloc: Global, text: &[u8]) -> Result<Sources, ScriptFault>
     ensures calls { IfOk result (λ s. HasSources text.now s.plan s.calls) }

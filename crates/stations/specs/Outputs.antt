@@ -43,7 +43,7 @@ abbrev pub after_making : {A : Type 0} → List A → Option (List A) → Option
 after_making more None = None
 after_making more (Some before) = Some (before ++ more)
 
--- Sinks of these names were closed, one after another, and no other, each of which had got so many pieces at least.
+-- Sinks of these names were closed, one after another, and no other, each of which had got `least` pieces or more.
 -- Where that is one or more, the first piece is a header, of 44 bytes: a sink that had not failed holds it whole.
 -- `before` and `after` is what the shelf tells of its closings.
 pub record AreClosed (least : ℕ) (names : List (List ℕ)) (before : List Closing) (after : Option (List Closing)) : Type
@@ -54,7 +54,7 @@ pub record AreClosed (least : ℕ) (names : List (List ℕ)) (before : List Clos
   pub headers_are : All (λ closing. 0 < least → closing.faults ≡ 0 → 44 ≤ closing.bytes) closings
   pub told : after ≡ Some (before ++ closings)
 
--- if the shelf tells its closings, sinks of these names were closed
+-- if the shelf tells its closings, sinks of these names were closed, each of which had got `least` pieces or more
 abbrev pub HaveClosed : (least : ℕ) → List (List ℕ) → (before after : Option (List Closing)) → Type 0
 HaveClosed least names before after = ForSome before (λ closings. AreClosed least names closings after)
 

@@ -31,7 +31,8 @@ nothing b = []
 abbrev pub got_then : List Call → (rest : ℕ → List Answer) → ℕ → List Answer
 got_then calls rest b = answers_in b calls ++ rest b
 
--- these are the calls of the first n ticks of clock m, given the answers that they got, whatever answers follow
+-- these are the calls of the first n ticks of clock m, if its takes get the answers that these calls got, whatever
+-- answers follow
 abbrev pub IsMadeBy : Setting → (m n : ℕ) → (accepted : ℕ → ℕ → Bool) → List Call → Type 0
 IsMadeBy base m n accepted calls = (rest : ℕ → List Answer)
     → calls ≡ first_calls (answered base (got_then calls rest)) accepted m n
@@ -50,8 +51,8 @@ pub record ClockIsAt (base : Setting) (clocks W N : ℕ) (text : ℕ → Log) (c
   pub forced : (run : Run) (lawful : AreWindows base clocks W N run) → IsTold base text run
       → calls ≡ first_calls (answered base (answers_of run)) (lawful.accepted m) m n
 
--- Ticks in an order in which each chunk that a tick got was put in an earlier one; `ticks m t` are the calls of the
--- first t ticks of clock m, of which so many are in the order
+-- The ticks of all clocks are in this order, so many of each, and each chunk that a tick got was put in an earlier one;
+-- `ticks m t` are the calls of the first t ticks of clock m.
 pub record AreOrdered (base : Setting) (clocks : ℕ) (ticks : ℕ → ℕ → List Call) (made : ℕ
     → ℕ) (order : List (ℕ × ℕ)) : Type 0 where
   pub all : (m : ℕ) → m < clocks → counted m order ≡ made m
@@ -71,7 +72,7 @@ pub record AreAt (base : Setting) (clocks W N : ℕ) (text : ℕ → Log) (made 
   pub order : List (ℕ × ℕ)
   pub ordered : AreOrdered base clocks (λ m t. ticks_in base (accepted m) (calls m) m t) made order
 
--- tick n of clock m cannot be made before more chunks are there
+-- tick n of clock m cannot be made before more chunks are put into a buffer that joins it to another clock
 pub record IsHalted (base : Setting) (text : ℕ → Log) (chunks : ℕ → List (List Cell)) (m n : ℕ) : Type 0 where
   pub given : ℕ → List Answer
   pub accepted : ℕ → ℕ → Bool
@@ -95,8 +96,8 @@ pub record HasCome (base : Setting) (W N : ℕ) (text : ℕ → Log) (m n : ℕ)
   pub fed : (b : ℕ) → b < length base.plan.buffers → feeder base b ≡ m → others b ≡ somes (puts_to b calls)
   pub kept : (b : ℕ) → b < length base.plan.buffers → (feeder base b ≡ m → ⊥) → others b ≡ chunks b
 
--- Clock m was run from its first tick on, with the chunks that were there, and made n ticks: all, or up to one that
--- waits.
+-- Clock m was run from its first tick on, with the chunks that were there, and made n ticks: all, or those before one
+-- that waits. `others` are the chunks of each buffer after that.
 pub record HasTurned (base : Setting) (W N : ℕ) (text : ℕ → Log) (m n : ℕ) (chunks others : ℕ
     → List (List Cell)) : Type 0 where
   pub come : HasCome base W N text m n chunks others

@@ -68,7 +68,7 @@ refusals_fit capacity count got floor (false ∷ puts) takes =
 abbrev pub begins_true : ℕ → List Bool → Bool
 begins_true count answers = list_all (λ answer. answer) (take count answers)
 
--- whether a legal window has these answers
+-- whether some legal window of a queue of at most `capacity` chunks, which opens with `opening`, has these answers
 abbrev pub is_legal : (capacity opening : ℕ) → (puts takes : List Bool) → Bool
 is_legal capacity opening puts takes =
     nat_le (yes takes) (opening + yes puts) && (nat_le (opening + yes puts) (capacity + yes takes)

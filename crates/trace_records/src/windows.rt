@@ -92,14 +92,14 @@ fn all_true(answers: &[bool]) -> bool
     answers.iter().all(|answer| *answer)
 }
 
-// Where one stands among the takes of a window.
+// A place among the takes of a window.
 #[derive(Clone, Copy)]
 struct Place {
-    // How many of them come before.
+    // How many takes come before.
     at: usize,
-    // How many of these got a chunk.
+    // How many of the takes before it got a chunk.
     got: u64,
-    // How many chunks a refused put must have before it.
+    // How many chunks, opening and accepted puts, a refused put must have before it.
     floor: u64,
 }
 

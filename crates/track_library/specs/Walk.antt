@@ -251,8 +251,8 @@ nothing_met = record { lists = []; heard = record { names = []; titles = []; byt
 abbrev pub load_of : Rules → Files → List Node → Result Sounds LoadFault
 load_of rules files nodes = sounds_or_fault rules files (nodes_walked rules files nodes (Ok (nothing_met, [])))
 
--- why a step that reads these files ends with this fault: a read that failed let the count of failed reads rise; memory
--- may be refused anywhere; every other fault is the step's own, where the files are told
+-- why a step that reads files ends with this fault: a read that failed is one of the step's, and let the count of
+-- failed reads rise; memory may be refused anywhere; every other fault is the step's own, where the files are told
 abbrev pub Ends : {X : Type 0} → (old new : ShelfTold) → (Files → List ℕ → Type 0) → (Files → Result X LoadFault)
     → LoadFault → Type 0
 Ends old new reads step (Missing name) = ForSome old.files (λ files. step files ≡ Err (Missing name))
