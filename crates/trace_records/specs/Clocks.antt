@@ -35,8 +35,8 @@ Agree one other = IsFront one other ⊎ IsFront other one
 abbrev pub Joins : Setting → ℕ → Type 0
 Joins base b = feeder base b ≡ reader base b → ⊥
 
--- These calls are answered as the text tells, from its first answers on; what they got of each buffer that joins two
--- clocks are the first of the chunks that were put into it.
+-- These calls are answered as the text tells, from its first answers on; what they got of a buffer b that joins two
+-- clocks are the first of `chunks b`, those that were put into it.
 pub record AreAnswered (base : Setting) (text : ℕ → Log) (chunks : ℕ
     → List (List Cell)) (calls : List Call) : Type 0 where
   pub puts : (b : ℕ) → b < length base.plan.buffers → IsFront (map is_some (puts_to b calls)) (puts_in (text b))
