@@ -23,14 +23,14 @@ pub enum Called<'g> {
     General(&'g General),
 }
 
-/// What is called: the types of its parameters, and the variable that is the type of its result.
+/// What is called: the types of its parameters, and the number of the type variable that is its result's type.
 #[derive(Drop)]
 pub struct Callee {
     pub params: Vec<Ty>,
     pub result: u64,
 }
 
-/// Gives what is called new variables, and adds the use of its name.
+/// Gives what is called new variables, and adds the use of its name, which stands at token `at`.
 pub fn begin_call(
     alloc: Global,
     subst: &mut Subst,
@@ -64,7 +64,7 @@ fn instance_of(alloc: Global, subst: &mut Subst, called: Called<'_>) -> Result<I
     }
 }
 
-/// What is called, and its open kinds.
+/// What is called, by an instance of its type, and its open kinds.
 fn callee_of(
     alloc: Global,
     subst: &mut Subst,

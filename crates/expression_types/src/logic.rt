@@ -47,7 +47,7 @@ pub fn type_expr(
     }
 }
 
-/// Makes one part of an `or` have the type of another.
+/// Makes one part of an `or` have type variable `n`, the type of the first; false if they clash.
 #[cycle(value)]
 fn join_and(
     alloc: Global,
@@ -75,7 +75,7 @@ fn join_and(
     }
 }
 
-/// Makes the parts of an `or` have the type of the first.
+/// Makes the other parts of an `or` have type variable `n`, the type of the first; false if they clash.
 #[cycle(value)]
 fn join_ands(
     alloc: Global,
@@ -103,7 +103,7 @@ fn join_ands(
     Ok(true)
 }
 
-/// The type of parts joined by `and`.
+/// The type of parts joined by `and`: the number of its type variable, or `None` where the parts have no type.
 #[cycle(value)]
 fn type_and(
     alloc: Global,
@@ -133,7 +133,7 @@ fn type_and(
     }
 }
 
-/// Makes one part of an `and` have the type of another.
+/// Makes one part of an `and` have type variable `n`, the type of the first; false if they clash.
 #[cycle(value)]
 fn join_not(
     alloc: Global,
@@ -161,7 +161,7 @@ fn join_not(
     }
 }
 
-/// Makes the parts of an `and` have the type of the first.
+/// Makes the other parts of an `and` have type variable `n`, the type of the first; false if they clash.
 #[cycle(value)]
 fn join_nots(
     alloc: Global,
@@ -189,7 +189,7 @@ fn join_nots(
     Ok(true)
 }
 
-/// The type of a comparison, perhaps behind `not`.
+/// The type of a comparison, perhaps behind `not`: the number of its type variable, or `None` where there is no type.
 #[cycle(value)]
 fn type_not(
     alloc: Global,

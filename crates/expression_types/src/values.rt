@@ -48,7 +48,7 @@ pub fn type_full(
     }
 }
 
-/// The type of an operand.
+/// The type of an operand: the number of its type variable, or `None` where it has no type.
 #[cycle(value)]
 pub fn type_operand(
     alloc: Global,
@@ -136,7 +136,7 @@ pub fn type_choice(
     }
 }
 
-/// Makes one value have the type of another.
+/// Makes a value have type variable `n` as its type, if it can; false if they clash.
 #[cycle(value)]
 fn join_full(
     alloc: Global,
@@ -164,7 +164,7 @@ fn join_full(
     }
 }
 
-/// Makes values have one type.
+/// Makes each of these values have type variable `n` as its type, if they can; false if they clash.
 #[cycle(value)]
 fn join_fulls(
     alloc: Global,
@@ -192,7 +192,8 @@ fn join_fulls(
     Ok(true)
 }
 
-/// The type of values in square brackets.
+/// The type of a list, whose `[` is token `at`: the number of its type variable, or `None` where its items have no type
+/// in common.
 #[cycle(value)]
 fn type_list(
     alloc: Global,
@@ -219,7 +220,7 @@ fn type_list(
     Ok(Some(list))
 }
 
-/// The types of values, each its own.
+/// The numbers of the type variables of values, each its own; `None` where one has no type.
 #[cycle(value)]
 fn type_fulls(
     alloc: Global,
@@ -246,7 +247,8 @@ fn type_fulls(
     Ok(Some(vars))
 }
 
-/// The type of values in parentheses.
+/// The type of values in parentheses, which open at token `at`: the number of its type variable, or `None` where one
+/// has no type. One value alone makes no tuple.
 #[cycle(value)]
 fn type_tuple(
     alloc: Global,
