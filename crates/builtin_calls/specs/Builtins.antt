@@ -26,7 +26,7 @@ use Rattle.builtin_calls.specs.Times.{overlap_samples, track_of, samples_of, pit
 use Rattle.builtin_calls.specs.Sinks.{add_output}
 use Rattle.builtin_calls.specs.Settings.{setting}
 
--- a node of these
+-- the node of this operator, of this kind, over these children
 abbrev pub node : Op → Kind → List ℕ → Node
 node o k children = record { op = o; kind = k; children = children }
 
@@ -54,7 +54,7 @@ single kinds given m = do
   k ← one_kind kinds
   add (node (op.Single file.0) k []) m
 
--- the one mode of a playlist
+-- the one mode of a playlist, "normal"; any other is a bad value at token `at`
 abbrev pub is_normal : ℕ → List ℕ → Result (Unit {0}) Stop
 is_normal at mode =
     elim (bytes_eq mode (codes "normal")) [
@@ -94,20 +94,20 @@ fail kinds m = do
   k ← one_kind kinds
   add (node op.Fail k []) m
 
--- a list of sources, not too many of them
+-- the first argument without a label, a list of sources of this kind, at most 65535
 unfoldable pub few_sources : List Node → Kind → List Argument → Result (List ℕ) Stop
 few_sources nodes k given = do
   sources ← plain_sources nodes k given
   few sources.0
 
--- a list of predicates and sources, not too many of them
+-- the first argument without a label, a list of predicates with sources of this kind, at most 65535
 unfoldable pub few_pairs : List Node → Kind → List Argument → Result (List Predicate × List ℕ) Stop
 few_pairs nodes k given = do
   pairs ← plain_pairs nodes k given
   children ← few pairs.0.1
   Ok (pairs.0.0, children)
 
--- track_sensitive=true
+-- the argument `track_sensitive`, or true, and the other arguments
 unfoldable pub sensitive_or : List Argument → Result (Bool × List Argument) Stop
 sensitive_or given = bool_or (codes "track_sensitive") true given
 
@@ -132,7 +132,7 @@ switch kinds given m = do
   pairs ← few_pairs m.plan.nodes k sensitive.1
   add (node (op.Switch sensitive.0 pairs.0) k pairs.1) m
 
--- a seed, which is not below zero
+-- a seed; a number below zero is a bad value at token `at`
 abbrev pub seed_of : ℕ → ℤ → Result ℕ Stop
 seed_of at n =
     elim (int_lt n (pos 0)) [
@@ -176,7 +176,7 @@ stereo given m = do
   s ← plain_source m.plan.nodes Mono given
   add (node op.Stereo Kind.Stereo (s.0 ∷ [])) m
 
--- the overlap of a crossfade of a source, in samples
+-- the overlap of a crossfade of node s in samples, within the limits
 unfoldable pub short_overlap : ℕ → ℕ → Decimal → Plan → Result ℕ Stop
 short_overlap at s duration plan = do
   overlap ← overlap_samples at plan.rate duration
@@ -205,7 +205,7 @@ mksafe kinds given m = do
   s ← plain_source m.plan.nodes k given
   safe k s.0 m
 
--- a buffer whose reader holds the one time before it plays, and that holds at most the other
+-- a buffer whose reader collects the time `held` before it plays, and that holds at most the time `most`
 unfoldable pub buffer_plan : ℕ → Decimal → Decimal → Plan → Result BufferPlan Stop
 buffer_plan at held most plan = do
   pre ← samples_of at plan.rate held
@@ -232,7 +232,7 @@ clock kinds given m = do
   s ← plain_source m.plan.nodes k id.1
   add (node (op.Clock id.0) k (s.0 ∷ [])) m
 
--- what a call of each builtin makes, of its kinds and its arguments
+-- what a call of a builtin makes, by its open kinds and its arguments; its name stands at token `at`
 unfoldable pub builtin : Builtin → ℕ → List Kind → List Argument → Machine → Outcome
 builtin builtins.OutputFile at kinds given m = output_file kinds given m
 builtin builtins.Set at kinds given m = set given m

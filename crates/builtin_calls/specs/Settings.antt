@@ -8,7 +8,8 @@ use Rattle.script_values.specs.declared.machine.Machine.{Machine}
 use Rattle.script_values.specs.Outcomes.{◌>>=◌, Outcome}
 use Rattle.script_values.specs.Values.{Value, Int, Number, UnitValue}
 
--- only a call of `set` at top level that holds no other call, with no other statement before it, may set the two keys
+-- notes that this statement makes a setting; only a call of `set` at top level that holds no other call, with no other
+-- statement before it, may do so
 abbrev pub settings_opened : Machine → Result Machine Stop
 settings_opened m =
     elim m.settings.allowed [
@@ -16,7 +17,7 @@ settings_opened m =
       | false ↦ Err BadSetting
     ]
 
--- a rate in samples a second
+-- a rate in samples a second, within its bounds
 abbrev pub rate_within : ℤ → Result ℕ Stop
 rate_within n =
     elim (int_le (pos MIN_RATE) n && int_le n (pos MAX_RATE)) [

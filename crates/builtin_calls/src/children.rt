@@ -54,7 +54,7 @@ pub(crate) fn switch(
     )
 }
 
-/// `random(seed=0, sources)`.
+/// `random(seed=0, sources)`, whose name stands at token `at`.
 #[tactic(auto, unfolding(crate::specs::Builtins::random))]
 pub(crate) fn random(
     alloc: Global,
@@ -89,7 +89,7 @@ pub(crate) fn sum(
     over_sources(alloc, Op::Add { normalize }, kinds, given, machine)
 }
 
-/// A node of this operator over a list of sources, as `sequence(sources)` and `rotate(sources)` add it.
+/// A node of this operator over a list of sources, as `sequence(sources)` and `rotate(sources)` make it.
 #[tactic(auto, unfolding(crate::specs::Builtins::over_sources))]
 pub(crate) fn over_sources(
     alloc: Global,
@@ -106,7 +106,7 @@ pub(crate) fn over_sources(
     add(machine, op, kind, Items::from_vec(children))
 }
 
-// A seed, which is not below zero.
+// A seed, or a bad value at token `at` where the number is below zero.
 fn seed_of(at: u32, number: i64) -> Result<u64, Stop>
     ensures { Gives (λ n. n) result (seed_of at number) }
 {
@@ -116,7 +116,7 @@ fn seed_of(at: u32, number: i64) -> Result<u64, Stop>
     Ok(number as u64)
 }
 
-// The next plain parameter, a list of sources, not too many of them.
+// The next argument without a label, a list of sources of this kind, at most 65535.
 #[tactic(auto, unfolding(crate::specs::Builtins::few_sources))]
 fn few_sources(
     alloc: Global,
@@ -133,7 +133,7 @@ fn few_sources(
     Ok(sources)
 }
 
-// The next plain parameter, a list of predicates and sources, not too many of them.
+// The next argument without a label, a list of predicates with sources of this kind, at most 65535.
 #[tactic(auto, unfolding(crate::specs::Builtins::few_pairs))]
 fn few_pairs(alloc: Global, plan: &Draft, kind: Kind, given: &mut Vec<Given>) -> Result<Pairs, Stop>
     ensures given { Gives (λ ps. (map view_shared ps.preds.items, ps.sources.items)) result
@@ -146,7 +146,7 @@ fn few_pairs(alloc: Global, plan: &Draft, kind: Kind, given: &mut Vec<Given>) ->
     Ok(pairs)
 }
 
-// Whether a child plays on to the end of its track.
+// The argument `track_sensitive`, or true: whether a selection changes its child only where a track ends.
 #[tactic(auto, unfolding(crate::specs::Builtins::sensitive_or))]
 fn sensitive_or(given: &mut Vec<Given>) -> Result<bool, Stop>
     ensures { Gives (λ b. (b, map view_given given.new.items)) result (sensitive_or (map view_given given.old.items)) }

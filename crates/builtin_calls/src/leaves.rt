@@ -29,7 +29,7 @@ pub(crate) fn single(
     add(machine, Op::Single(file), kind, Items::new(alloc))
 }
 
-/// `playlist(loop=true, mode="normal", file)`.
+/// `playlist(loop=true, mode="normal", file)`, whose name stands at token `at`.
 #[tactic(auto, unfolding(crate::specs::Builtins::playlist))]
 pub(crate) fn playlist(
     alloc: Global,
@@ -55,7 +55,7 @@ pub(crate) fn playlist(
     )
 }
 
-/// `blank(duration=0.)`.
+/// `blank(duration=0.)`, whose name stands at token `at`.
 #[tactic(auto, unfolding(crate::specs::Builtins::blank))]
 pub(crate) fn blank(
     alloc: Global,
@@ -73,7 +73,7 @@ pub(crate) fn blank(
     add(machine, Op::Blank { track }, kind, Items::new(alloc))
 }
 
-/// `square(f)`.
+/// `square(f)`, whose name stands at token `at`.
 #[tactic(auto, unfolding(crate::specs::Builtins::square))]
 pub(crate) fn square(
     alloc: Global,
@@ -100,7 +100,7 @@ pub(crate) fn fail(alloc: Global, kinds: &[Kind], machine: &mut Machine) -> Resu
     add(machine, Op::Fail, kind, Items::new(alloc))
 }
 
-// The one mode of a playlist.
+// The one mode of a playlist, "normal"; any other is a bad value at token `at`.
 fn is_normal(at: u32, mode: &str) -> Result<(), Stop>
     ensures { Gives (λ _. tt) result (is_normal at mode.now) }
 {

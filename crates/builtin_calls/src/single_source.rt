@@ -63,7 +63,7 @@ pub(crate) fn stereo(
     add(machine, Op::Stereo, Kind::Stereo, children)
 }
 
-/// `crossfade(duration=5., s)`.
+/// `crossfade(duration=5., s)`, whose name stands at token `at`.
 #[tactic(auto, unfolding(crate::specs::Builtins::crossfade))]
 pub(crate) fn crossfade(
     alloc: Global,
@@ -99,7 +99,7 @@ pub(crate) fn mksafe(
     safe(alloc, machine, kind, source)
 }
 
-/// `buffer(buffer=1., max=10., s)`.
+/// `buffer(buffer=1., max=10., s)`, whose name stands at token `at`.
 #[tactic(auto, unfolding(crate::specs::Builtins::buffer))]
 pub(crate) fn buffer(
     alloc: Global,
@@ -138,7 +138,7 @@ pub(crate) fn clock(
     add(machine, Op::Clock(id), kind, children)
 }
 
-// The overlap of a crossfade of this source, in samples.
+// The overlap of a crossfade of this source in samples, at most `MAX_OVERLAP`.
 #[tactic(auto, unfolding(crate::specs::Builtins::short_overlap))]
 fn short_overlap(at: u32, plan: &Draft, source: u32, duration: Decimal) -> Result<u32, Stop>
     ensures { Gives (λ n. n) result (short_overlap at source duration plan.now) }
@@ -149,6 +149,7 @@ fn short_overlap(at: u32, plan: &Draft, source: u32, duration: Decimal) -> Resul
     Ok(overlap)
 }
 
+/// Adds an endless blank, and a fallback from node `source` to it; the value is the fallback's source.
 #[tactic(auto, unfolding(crate::specs::Builtins::safe))]
 fn safe(alloc: Global, machine: &mut Machine, kind: Kind, source: u32) -> Result<Value, Stop>
     requires { source < length machine.old.plan.nodes }
@@ -164,7 +165,8 @@ fn safe(alloc: Global, machine: &mut Machine, kind: Kind, source: u32) -> Result
     add(machine, Op::Fallback { sensitive: false }, kind, children)
 }
 
-// A buffer whose reader holds this time before it plays, and that holds at most the other time.
+// A buffer whose reader collects the time `held` before it plays, and that holds at most the time `most`, both in
+// seconds.
 #[tactic(auto, unfolding(crate::specs::Builtins::buffer_plan))]
 fn buffer_plan(at: u32, plan: &Draft, held: Decimal, most: Decimal) -> Result<BufferPlan, Stop>
     ensures { Gives (λ b. b) result (buffer_plan at held most plan.now) }
