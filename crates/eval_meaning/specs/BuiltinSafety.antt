@@ -16,7 +16,7 @@ use Rattle.script_values.specs.Values as value
 use Rattle.script_values.specs.Values.{Value}
 use Rattle.builtin_calls.specs.Builtins.{builtin}
 
--- the nodes that are there stay
+-- the nodes of `before` are in `after` with the same numbers
 abbrev pub Grows : List Node → List Node → Type 0
 Grows before after = (n : ℕ) (node : Node) → slice_get before n ≡ Some node → slice_get after n ≡ Some node
 
@@ -43,7 +43,7 @@ abbrev mutual
   EachIs ns (value.more_values v vs) ts = (t : Ground) × (us : Grounds) × (ts ≡ ground.and_more t us) × IsA ns v t
       × EachIs ns vs us
 
--- arguments of these types, each behind the same label
+-- arguments with these labels, whose values have these types over the nodes ns
 abbrev pub AreA : List Node → List Argument → List (arguments.GivenArgument Ground) → Type 0
 AreA ns [] [] = ⊤
 AreA ns [] (h ∷ hs) = ⊥
@@ -61,20 +61,22 @@ IsTold (faults.SameOutput name) = ⊤
 IsTold (faults.TooLarge limit) = ⊤
 IsTold faults.Stuck = ⊥
 
--- a step without a state that is not stuck
+-- a step that has no state is not stuck: it gives a value for which P holds, or a fault that is told
 abbrev pub NotStuck : {A : Type 0} → (A → Type 0) → Result A Stop → Type 0
 NotStuck P (Ok x) = P x
 NotStuck P (Err e) = IsTold e
 
--- not stuck, no node is lost, and what is made is such over the nodes behind it
+-- a step is not stuck: it gives a fault that is told, or something for which Q holds over the nodes behind it, and none
+-- of the nodes ns is lost
 abbrev pub Safe : {A : Type 0} → List Node → (List Node → A → Type 0) → Result (A × Machine) Stop → Type 0
 Safe ns Q (Ok x) = Grows ns x.1.plan.nodes × Q x.1.plan.nodes x.0
 Safe ns Q (Err e) = IsTold e
 
+-- a value has the type g over the nodes ns
 abbrev pub Of : Ground → List Node → Value → Type 0
 Of g ns v = IsA ns v g
 
--- each call of a builtin with arguments of its types is not stuck
+-- each call of a builtin with arguments of its types gives a value of its type, or a fault that is told
 abbrev pub BuiltinsAreSafe : Type 0
 BuiltinsAreSafe = (b : Builtin) (at : ℕ) (ks : List Kind) (gs : List (arguments.GivenArgument Ground)) (g : Ground)
     → IsCallOf b gs ks g

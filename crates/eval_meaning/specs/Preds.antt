@@ -4,12 +4,12 @@ use Rattle.script_grammar.specs.Tree.{Tree, Many, none, more, APOr, APAnd, APNot
 use Rattle.time_pred.specs.Predicates as pred
 use Rattle.time_pred.specs.Predicates.{Predicate}
 
--- one part stands for itself, more parts for all of them or for any of them
+-- a predicate alone, or with further parts one that holds where any of them holds
 abbrev pub any_of : Predicate → pred.PredicateTree pred.PredicateParts → Predicate
 any_of p pred.no_parts = p
 any_of p (pred.first_part q qs) = pred.Any (pred.first_part p (pred.first_part q qs))
 
--- one predicate stays itself; several must all hold
+-- a predicate alone, or with further parts one that holds where all of them hold
 abbrev pub all_of : Predicate → pred.PredicateTree pred.PredicateParts → Predicate
 all_of p pred.no_parts = p
 all_of p (pred.first_part q qs) = pred.All (pred.first_part p (pred.first_part q qs))

@@ -5,9 +5,8 @@ use Rattle.script_values.specs.declared.machine.Machine.{Machine}
 use Rattle.script_values.specs.Machines.{noted_by}
 use Rattle.script_values.specs.Values.{Value}
 
--- the first fault ends the steps
+-- a step, and the next one over what it gives; the first fault ends them
 infixl 10 ◌>>=◌
--- a step and the one behind it; the first fault ends them
 abbrev pub ◌>>=◌ : {A B : Type 0} → Result A Stop → (A → Result B Stop) → Result B Stop
 (Ok x) >>= f = f x
 (Err e) >>= f = Err e

@@ -19,7 +19,7 @@ use std::alloc::Global;
 pub struct Machine {
     pub plan: Draft,
 
-    /// What was evaluated so far, at most 999999.
+    /// How many steps of evaluation were counted, at most 999999.
     pub work: u64,
     pub settings: Settings,
 
