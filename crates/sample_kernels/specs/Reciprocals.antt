@@ -1,7 +1,7 @@
 -- Quotients by products: what private contracts say of the numbers that stand for divisors.
 use Rattle.std.specs.Prelude.{ℕ, ◌+◌, ◌*◌, ◌/◌, ℤ, pos, negsuc, neg_ℤ}
 
--- a size with the sign of a number
+-- the number of this size that has the sign of the first
 abbrev pub signed_as : ℤ → ℕ → ℤ
 signed_as (pos n) size = pos size
 signed_as (negsuc n) size = neg_ℤ (pos size)
@@ -10,6 +10,6 @@ signed_as (negsuc n) size = neg_ℤ (pos size)
 abbrev pub per_sample : ℕ → ℕ
 per_sample millionths = millionths * 536870912 / 15625 + 1
 
--- 2^47 divided by a number, and up to 1 more
+-- 2^47 divided by the number of parts `whole`, and up to 1 more
 abbrev pub inverse_of : ℕ → ℕ
 inverse_of whole = 140737488355328 / whole + 1
