@@ -32,7 +32,7 @@ left_at Stereo samples Stereo at = sample_at samples (2 * at)
 left_at Stereo samples Mono at = int_div (sample_at samples (2 * at) +ℤ sample_at samples (2 * at + 1)) (pos 2)
 
 -- the right sample of a cell in a source of the second kind, of a file's block `at`: of a mono file its only one, and 0
--- in mono
+-- in a mono source
 abbrev pub right_at : Kind → List ℤ → Kind → ℕ → ℤ
 right_at source samples Mono at = pos 0
 right_at Mono samples Stereo at = sample_at samples at

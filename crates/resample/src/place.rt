@@ -18,16 +18,17 @@ pub struct Place {
     pub part: u32,
 }
 
-/// From one rate to another, in samples a second: how far a sample at rate `to` lies behind the one before it, in the
-/// file at rate `from`.
+/// What is needed to read a file of rate `from` at rate `to`, in samples a second. `step` is how far a sample at rate
+/// `to` lies behind the one before it, in the file.
 #[derive(Clone, Copy)]
 pub struct Way {
     pub from: u32,
     pub to: u32,
     pub step: Place,
 
-    /// What takes the place of a division by `to`, and of eight at once.
+    /// What takes the place of a division by `to`: a product with this number.
     pub inverse: u64,
+    /// What takes the place of a division of eight numbers at once by `to`.
     pub by_lanes: u64,
 }
 
