@@ -33,7 +33,7 @@ pub(crate) fn few(children: &[u32]) -> Result<(), Stop>
     Ok(())
 }
 
-/// Refuses a crossfade of this node if its path down would have more than 4.
+/// Refuses a crossfade of this node if a path down from it would have more than 4 crossfades.
 pub(crate) fn room_over(plan: &Draft, child: u32) -> Result<(), Stop>
     ensures { Gives (λ _. crossfades_with child plan.now) result
         (at_most MAX_CROSSFADES Limit.Crossfades (crossfades_with child plan.now)) }

@@ -133,8 +133,7 @@ pub(crate) fn text_or(
     }
 }
 
-/// What a value holds that has the type of the function's name. A value of another type is stuck, which typing
-/// excludes.
+/// The text that a value is. A value of another type is stuck, which typing excludes.
 #[tactic(auto, unfolding(crate::specs::Parts::as_text))]
 fn as_text(alloc: Global, value: Value) -> Result<Text, Stop>
     ensures { Gives (λ t. t) result (as_text (view_value value)) }
@@ -145,6 +144,7 @@ fn as_text(alloc: Global, value: Value) -> Result<Text, Stop>
     }
 }
 
+/// The decimal that a value is, as the typing says.
 #[tactic(auto, unfolding(crate::specs::Parts::as_decimal))]
 fn as_decimal(value: Value) -> Result<Decimal, Stop>
     ensures { Gives (λ d. d) result (as_decimal (view_value value)) }
@@ -155,6 +155,7 @@ fn as_decimal(value: Value) -> Result<Decimal, Stop>
     }
 }
 
+/// The int that a value is, as the typing says.
 #[tactic(auto, unfolding(crate::specs::Parts::as_int))]
 fn as_int(value: Value) -> Result<i64, Stop>
     ensures { Gives (λ n. n) result (as_int (view_value value)) }
@@ -165,6 +166,7 @@ fn as_int(value: Value) -> Result<i64, Stop>
     }
 }
 
+/// The bool that a value is, as the typing says.
 #[tactic(auto, unfolding(crate::specs::Parts::as_bool))]
 fn as_bool(value: Value) -> Result<bool, Stop>
     ensures { Gives (λ b. b) result (as_bool (view_value value)) }
@@ -175,6 +177,7 @@ fn as_bool(value: Value) -> Result<bool, Stop>
     }
 }
 
+/// Whether the format that a value is has samples of 24 bits.
 #[tactic(auto, unfolding(crate::specs::Parts::as_format))]
 fn as_format(value: Value) -> Result<bool, Stop>
     ensures { Gives (λ w. w) result (as_format (view_value value)) }

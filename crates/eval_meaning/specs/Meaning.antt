@@ -82,53 +82,67 @@ operator_applied operator v right = right >>= λ x. count_work 1 x.1 >>= λ c. o
 -- Operands are evaluated from the left. Work is counted when a Prim begins, and when an operator is about to be
 -- applied.
 unfoldable mutual
+  -- the value of an expression, or of a number behind a minus
   pub full : Surroundings → Tree AFull → Machine → Outcome
   full s (Negative at n) m = count_work 1 m >>= λ c. negative at n >>= λ v. Ok (v, c)
   full s (Plain e) m = expr s e m
 
+  -- the value of an expression
   pub expr : Surroundings → Tree AnExpr → Machine → Outcome
   expr s (Expr a rest) m = conjunction s a m >>= λ x. ors s rest x.0 x.1
 
+  -- the value v with further parts joined to it by `or`
   pub ors : Surroundings → Tree (Many AnAnd) → Value → Machine → Outcome
   ors s none v m = Ok (v, m)
   ors s (more a rest) v m = operator_applied either v (conjunction s a m) >>= λ x. ors s rest x.0 x.1
 
+  -- the value of a part of an `or`
   pub conjunction : Surroundings → Tree AnAnd → Machine → Outcome
   conjunction s (And n rest) m = negation s n m >>= λ x. ands s rest x.0 x.1
 
+  -- the value v with further parts joined to it by `and`
   pub ands : Surroundings → Tree (Many ANot) → Value → Machine → Outcome
   ands s none v m = Ok (v, m)
   ands s (more n rest) v m = operator_applied both v (negation s n m) >>= λ x. ands s rest x.0 x.1
 
+  -- the value of a comparison, or with `not` its opposite
   pub negation : Surroundings → Tree ANot → Machine → Outcome
   negation s (Not true inner) m = compare s inner m >>= λ x. count_work 1 x.1 >>= λ c. opposite x.0 >>= λ u. Ok (u, c)
   negation s (Not false inner) m = compare s inner m
 
+  -- the value of a sum, or the truth of its comparison with another one
   pub compare : Surroundings → Tree ACompare → Machine → Outcome
   compare s (Alone left) m = sum s left m
   compare s (Compared left at o right) m = sum s left m >>= λ x. sum s right x.1 >>= λ y. count_work 1 y.1 >>= λ c.
       compared o x.0 y.0 >>= λ u. Ok (u, c)
 
+  -- the value of a sum
   pub sum : Surroundings → Tree ASum → Machine → Outcome
   sum s (Sum p rest) m = product s p m >>= λ x. addends s rest x.0 x.1
 
+  -- the value v with further terms of a sum added or subtracted
   pub addends : Surroundings → Tree (Many AnAdded) → Value → Machine → Outcome
   addends s none v m = Ok (v, m)
   addends s (more a rest) v m = plus s a v m >>= λ x. addends s rest x.0 x.1
 
+  -- the value v with one term of a sum added or subtracted
   pub plus : Surroundings → Tree AnAdded → Value → Machine → Outcome
   plus s (Added at minus p) v m = operator_applied (added minus at) v (product s p m)
 
+  -- the value of a product
   pub product : Surroundings → Tree AProduct → Machine → Outcome
   product s (Product p rest) m = operand s p m >>= λ x. factors s rest x.0 x.1
 
+  -- the value v multiplied or divided by further factors
   pub factors : Surroundings → Tree (Many AMultiplied) → Value → Machine → Outcome
   factors s none v m = Ok (v, m)
   factors s (more a rest) v m = times s a v m >>= λ x. factors s rest x.0 x.1
 
+  -- the value v multiplied or divided by one factor
   pub times : Surroundings → Tree AMultiplied → Value → Machine → Outcome
   times s (Multiplied at divide p) v m = operator_applied (multiplied divide at) v (operand s p m)
 
+  -- the value of an operand
   pub operand : Surroundings → Tree AnOperand → Machine → Outcome
   operand s (Constant at n) m = count_work 1 m >>= λ c. Ok (literal_value n, c)
   operand s (Quoted at text) m = count_work 1 m >>= λ c. Ok (value.TextValue text, c)
@@ -145,12 +159,12 @@ unfoldable mutual
   operand s (Braces at pred) m = count_work 1 m >>= λ c. Ok (value.PredValue (or_pred pred), c)
   operand s (PlaceFormat at bits) m = count_work 1 m >>= λ c. format at bits >>= λ v. Ok (v, c)
 
-  -- the values so far, and those of more
+  -- the values vs and behind them those of further parts
   pub fulls : Surroundings → Tree (Many AFull) → List Value → Machine → Result (List Value × Machine) Stop
   fulls s none vs m = Ok (vs, m)
   fulls s (more f rest) vs m = full s f m >>= λ x. fulls s rest (vs ++ x.0 ∷ []) x.1
 
-  -- only the chosen branch is evaluated
+  -- the value of an `if`; only the chosen branch is evaluated
   pub choice : Surroundings → Tree AnIf → Machine → Outcome
   choice s (If at c t e) m = full s c m >>= λ x. truth_of x.0 >>= λ b. elim b
       [ true ↦ full s t x.1 | false ↦ full s e x.1 ]
@@ -159,20 +173,22 @@ unfoldable mutual
   pub call : Surroundings → Tree ACall → Machine → Outcome
   call s (NamedCall at name args) m = arguments s args [] m >>= λ x. applied s (use_at at s.uses) at x.0 x.1
 
+  -- the arguments `given` and behind them those of further parts
   pub arguments : Surroundings → Tree (Many AnArg) → List Argument → Machine → Result (List Argument × Machine) Stop
   arguments s none given m = Ok (given, m)
   arguments s (more a rest) given m = argued s a m >>= λ x. arguments s rest (given ++ x.0 ∷ []) x.1
 
+  -- an argument with its label
   pub argued : Surroundings → Tree AnArg → Machine → Result (Argument × Machine) Stop
   argued s (Arg at label f) m = full s f m >>= λ x. Ok ((label, x.0), x.1)
 
--- values in parentheses, once their 1 is counted: none is the value of `()`, one is itself, several are a tuple
+-- values in parentheses, behind the count of 1: none is the value of `()`, one is itself, several are a tuple
 abbrev pub grouped : Surroundings → Tree (Many AFull) → Machine → Outcome
 grouped s none m = Ok (value.UnitValue, m)
 grouped s (more f none) m = full s f m
 grouped s (more f (more g rest)) m = fulls s (more f (more g rest)) [] m >>= λ z. Ok (value.TupleValue (many z.0), z.1)
 
--- a list of values, once its 1 is counted
+-- a list of values, behind the count of 1
 abbrev pub all_of : Surroundings → Tree (Many AFull) → Machine → Outcome
 all_of s parts m = fulls s parts [] m >>= λ z. Ok (value.ListValue (many z.0), z.1)
 

@@ -56,11 +56,11 @@ abbrev pub is_tick : ℤ → ℕ → Bool
 is_tick duration rate = int_le (pos 0) duration
     && (nat_le 1 (samples_in duration rate) && nat_le (samples_in duration rate) MAX_FRAME)
 
--- how many samples a tick of this duration has, in millionths of a second, where a tick may have so many
+-- how many samples a tick of this duration has, in millionths of a second; none if it is no length for a tick
 abbrev pub tick_of : ℤ → ℕ → Option ℕ
 tick_of duration rate = elim (is_tick duration rate) [ true ↦ Some (samples_in duration rate) | false ↦ None ]
 
--- the settings are over: the plan has a tick of so many samples, or without one the last setting was bad
+-- the settings are over: the plan has a tick of `frame` samples, or without one the last setting was bad
 abbrev pub closed : Machine → Option ℕ → Result Machine Ending
 closed m (Some frame) = Ok (record m {
   plan = record m.plan { frame = frame };

@@ -52,7 +52,7 @@ pub fn type_compare(
     }
 }
 
-/// Makes the right side of a comparison have type variable `n`, the type of the left, if it can; false if they clash.
+/// Makes the right side of a comparison have type variable `n`, the type of the left; false where it cannot.
 #[cycle(value)]
 fn join_sum(
     alloc: Global,
@@ -110,7 +110,7 @@ fn type_sum(
     }
 }
 
-/// Makes one term of a sum have type variable `n`, the type of the first; false if they clash.
+/// Makes one term of a sum have type variable `n`, the type of the first; false where that cannot be.
 #[cycle(value)]
 fn join_added(
     alloc: Global,
@@ -138,7 +138,7 @@ fn join_added(
     }
 }
 
-/// Makes the other terms of a sum have type variable `n`, the type of the first; false if they clash.
+/// Makes the other terms of a sum have type variable `n`, the type of the first; false where that cannot be.
 #[cycle(value)]
 fn join_addends(
     alloc: Global,
@@ -196,7 +196,7 @@ fn type_product(
     }
 }
 
-/// Makes one factor of a product have type variable `n`, the type of the first; false if they clash.
+/// Makes one factor of a product have type variable `n`, the type of the first; false where that cannot be.
 #[cycle(value)]
 fn join_multiplied(
     alloc: Global,
@@ -224,7 +224,7 @@ fn join_multiplied(
     }
 }
 
-/// Makes the other factors of a product have type variable `n`, the type of the first; false if they clash.
+/// Makes the other factors of a product have type variable `n`, the type of the first; false where that cannot be.
 #[cycle(value)]
 fn join_factors(
     alloc: Global,

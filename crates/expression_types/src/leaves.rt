@@ -46,7 +46,7 @@ pub fn push_use(
 }
 
 /// The number of the type variable of a name outside a call, which stands at token `at`; `None` where the name means no
-/// binding. The use is added.
+/// binding. Its use is added.
 pub fn type_name(
     alloc: Global,
     subst: &mut Subst,

@@ -47,7 +47,7 @@ pub fn type_expr(
     }
 }
 
-/// Makes one part of an `or` have type variable `n`, the type of the first; false if they clash.
+/// Makes one part of an `or` have type variable `n`, the type of the first; false where that cannot be.
 #[cycle(value)]
 fn join_and(
     alloc: Global,
@@ -75,7 +75,7 @@ fn join_and(
     }
 }
 
-/// Makes the other parts of an `or` have type variable `n`, the type of the first; false if they clash.
+/// Makes the other parts of an `or` have type variable `n`, the type of the first; false where that cannot be.
 #[cycle(value)]
 fn join_ands(
     alloc: Global,
@@ -133,7 +133,7 @@ fn type_and(
     }
 }
 
-/// Makes one part of an `and` have type variable `n`, the type of the first; false if they clash.
+/// Makes one part of an `and` have type variable `n`, the type of the first; false where that cannot be.
 #[cycle(value)]
 fn join_not(
     alloc: Global,
@@ -161,7 +161,7 @@ fn join_not(
     }
 }
 
-/// Makes the other parts of an `and` have type variable `n`, the type of the first; false if they clash.
+/// Makes the other parts of an `and` have type variable `n`, the type of the first; false where that cannot be.
 #[cycle(value)]
 fn join_nots(
     alloc: Global,

@@ -136,7 +136,7 @@ pub fn type_choice(
     }
 }
 
-/// Makes a value have type variable `n` as its type, if it can; false if they clash.
+/// Makes a value have type variable `n` as its type; false where it cannot.
 #[cycle(value)]
 fn join_full(
     alloc: Global,
@@ -164,7 +164,7 @@ fn join_full(
     }
 }
 
-/// Makes each of these values have type variable `n` as its type, if they can; false if they clash.
+/// Makes each of these values have type variable `n` as its type; false where one cannot.
 #[cycle(value)]
 fn join_fulls(
     alloc: Global,

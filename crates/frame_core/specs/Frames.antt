@@ -1,4 +1,4 @@
--- The cells of a tick, as they come; and what is there of a list of slots.
+-- The cells of a tick while they are made, and the cells in a list of slots.
 use Rattle.std.specs.Prelude.{ℕ, Option, Some, None, List, [], ◌∷◌}
 use Rattle.frame_core.specs.declared.cell.Cell.{Cell}
 

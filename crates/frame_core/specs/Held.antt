@@ -5,6 +5,7 @@ use Rattle.frame_core.specs.Bytes.{samples_from}
 use Rattle.frame_core.specs.declared.track.Held.{Held}
 use Rattle.frame_core.specs.declared.track.Held.TheVariants.{Numbers, Bytes, OtherRate}
 
+-- the samples that are held, those of both channels where there are two
 abbrev pub samples_held : Held → List ℤ
 samples_held (Numbers samples) = samples.items
 samples_held (Bytes raw) = samples_from (take raw.size (drop raw.from raw.bytes.items))

@@ -32,8 +32,8 @@ abbrev pub last_or : {X : Type 0} → ℕ → List (X × ℕ) → ℕ
 last_or before [] = before
 last_or before (move ∷ moves) = last_or move.1 moves
 
--- The answers that are true are the moves. At each false one the queue held just `stop` items: the capacity where puts
--- are told, none where takes are. It held `before` at first.
+-- The answers that are true are the moves. At each false one the move before it, or the beginning, left just `stop`
+-- items: the capacity where puts are told, none where takes are. `before` is what the beginning left.
 abbrev pub Fits : {X : Type 0} → ℕ → ℕ → List Bool → List (X × ℕ) → Type 0
 Fits stop before [] [] = Unit {0}
 Fits stop before [] (move ∷ moves) = ⊥

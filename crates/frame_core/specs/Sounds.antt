@@ -24,8 +24,8 @@ pub record IsSound (sound : Sound) : Type 0 where
 abbrev pub sample_at : List ℤ → ℕ → ℤ
 sample_at samples at = slice_index_or samples at (pos 0)
 
--- the left sample of a cell in a source of kind `kind`, of a file's block `at`; in mono it is half the sum of a stereo
--- block
+-- the left sample of a cell in a source of kind `kind`, of a file's block `at`; of a stereo file in a mono source it is
+-- half the sum of the block, rounded toward zero
 abbrev pub left_at : Kind → List ℤ → Kind → ℕ → ℤ
 left_at Mono samples kind at = sample_at samples at
 left_at Stereo samples Stereo at = sample_at samples (2 * at)

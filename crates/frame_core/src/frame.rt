@@ -1,4 +1,4 @@
-// The cells of one tick, as they come.
+// The cells of one tick while they are made.
 ghost use Rattle.std.specs.Prelude.{◌≡◌, ◌↔◌, ◌≤◌, ◌+◌, ◌++◌, [], true, length, vec_capacity, vec_len, IfOk};
 ghost use Rattle.frame_core.specs.Chunks.{cells_in};
 ghost use Rattle.frame_core.specs.MarkRuns.{marks_in, run_marks};
@@ -106,14 +106,14 @@ impl Frame {
     }
 }
 
-// Whether two lists of runs are the same.
+// Whether two lists of runs are equal.
 fn are_runs(one: &[MarkRun], other: &[MarkRun]) -> bool
     ensures { (result ≡ true) ↔ (one.now ≡ other.now) }
 {
     one == other
 }
 
-// Whether two lists of samples are the same.
+// Whether two lists of samples are equal.
 fn are_samples(one: &[i16], other: &[i16]) -> bool
     ensures { (result ≡ true) ↔ (one.now ≡ other.now) }
 {

@@ -30,7 +30,7 @@ joined_slot library (file ∷ files) kind position =
     then Some (cell_of (file_of library file) (suc file) kind position)
     else joined_slot library files kind (position - length_of (file_of library file))
 
--- the position in one pass over the files: with true they begin again after the last one, with false not
+-- the position among the files: where they begin again after the last one, it is that of a single pass
 abbrev pub place_in_round : List Sound → Bool → ℕ → ℕ
 place_in_round sounds true position = position % total_of sounds
 place_in_round sounds false position = position
@@ -71,7 +71,7 @@ square_cell pitch rate kind position = record {
   title = 0;
 }
 
--- the slot of a leaf at a position: after it gave so many cells
+-- the slot of a leaf at a position, which is how many cells it has given
 abbrev pub leaf_slot : Sounds → Leaf → ℕ → Slot
 leaf_slot library (Files node again kind) position = files_slot library node again kind position
 leaf_slot library (Blank track) position = Some (blank_cell track position)

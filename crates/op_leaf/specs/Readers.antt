@@ -33,7 +33,7 @@ abbrev pub holds_some : List Cell → Bool
 holds_some [] = false
 holds_some (cell ∷ cells) = true
 
--- after the takes of a tick
+-- the reader after the takes of a tick:
 --   where it played: it plays on where it holds a cell, else it stops
 --   where it did not, and holds its prefill: it begins to play, and its front cell begins a track
 --   otherwise: it stays as it is

@@ -66,6 +66,6 @@ CursorStandsAt library (Silence blank) position = BlankStandsAt blank position
 CursorStandsAt library (Wave square) position = SquareStandsAt square position
 CursorStandsAt library Nothing position = Unit {0}
 
--- the state of a leaf stands for this position: it may have given so many cells
+-- the state of a leaf stands for this position, which is how many cells it may have given
 abbrev pub StandsAt : Sounds → LeafState → ℕ → Type 0
 StandsAt library state position = CursorStandsAt library state.cursor position

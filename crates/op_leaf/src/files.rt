@@ -24,7 +24,7 @@ pub struct FilesState {
     /// The file that is played, among those of the node; past the last one where they are over.
     pub track: u32,
 
-    /// The place in this file.
+    /// The sample in this file, counted from 0.
     pub at: u64,
 }
 

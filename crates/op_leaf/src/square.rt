@@ -6,10 +6,10 @@ use fixed_text::Decimal;
 use frame_core::Cell;
 use liq_base::Kind;
 
-/// The sample in the first half of a period; in the second half it is this below zero.
+/// The sample in the first half of a period; the second half has its opposite.
 const HEIGHT: i16 = 8192;
 
-/// How many millionths one period has.
+/// A period has `rate` times this many parts, of which the pitch in millionths goes by with each sample.
 const MILLION: u64 = 1_000_000;
 
 /// The state of a square wave between two instants.

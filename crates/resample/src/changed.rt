@@ -192,8 +192,8 @@ fn read_inside(source: Source<'_>, way: &Way, side: usize, at: usize, into: &mut
     }
 }
 
-// Makes eight samples that lie before the last block of the file, and writes them from index `at` on. The first is that
-// of block `first`, at place `from` of the file. Returns the place behind them.
+// Makes eight samples that lie before the last block of the file, and writes them from index `at` on. The first is of
+// block `first` at the other rate, which lies at place `from` of the file. Returns the place behind them.
 fn make_eight(
     source: Source<'_>,
     way: &Way,

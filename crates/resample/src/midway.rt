@@ -3,7 +3,7 @@ ghost use Rattle.std.specs.Prelude.{◌≡◌, ◌<◌, ◌≤◌, ◌*◌, ◌*
 ghost use Rattle.resample.specs.Reciprocals.{inverse_of, signed_as};
 ghost use Rattle.resample.specs.Resampled.{interpolated};
 
-// Up to so many parts, a product takes the place of the division.
+// Up to this many parts, a product takes the place of the division.
 const MOST: u32 = 92_681;
 
 /// The number that lies `part` of `whole` parts behind the sample `before` on the way to `behind`, rounded toward zero.

@@ -6,7 +6,7 @@ abbrev pub signed_as : ℤ → ℕ → ℤ
 signed_as (pos n) size = pos size
 signed_as (negsuc n) size = neg_ℤ (pos size)
 
--- 2^35 times a factor of so many millionths, and up to 1 more: 2^35 / 10^6 is 2^29 / 15625
+-- 2^35 times a factor in millionths, and up to 1 more: 2^35 / 10^6 is 2^29 / 15625
 abbrev pub per_sample : ℕ → ℕ
 per_sample millionths = millionths * 536870912 / 15625 + 1
 

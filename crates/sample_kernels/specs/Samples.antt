@@ -6,7 +6,7 @@ use Rattle.std.specs.Int.{int_max, int_min}
 abbrev pub clamped : ℤ → ℤ
 clamped number = int_max (negsuc 32767) (int_min number (pos 32767))
 
--- a number that may be the sum of so many samples
+-- a number that may be the sum of this many samples
 pub record IsSumOf (parts : ℕ) (sum : ℤ) : Type 0 where
   pub low : neg_ℤ (pos (32768 * parts)) ≤ℤ sum
   pub high : sum ≤ℤ pos (32767 * parts)

@@ -10,7 +10,7 @@ use crate::silence::are_silent;
 use fixed_text::Decimal;
 use std::simd::prelude::*;
 
-// A factor of up to so many millionths either way is multiplied in vectors of 32 bits.
+// A factor of up to this many millionths either way is multiplied in vectors of 32 bits.
 const MOST: u64 = 1_000_000_000;
 
 /// Multiplies each sample by a factor, rounded toward zero and cut to the range of a sample. `into` is as long as

@@ -199,7 +199,7 @@ fn end_settings(machine: &mut Machine) -> Result<(), EvalFault>
     }
 }
 
-// How many samples a tick of this duration has; `None` where a tick may not have so many.
+// How many samples a tick of this duration has at `rate` samples a second; `None` outside of 1 to `MAX_FRAME`.
 fn tick(duration: Decimal, rate: u32) -> Option<u32>
     ensures { result ≡ tick_of duration.millionths rate }
 {

@@ -19,7 +19,7 @@ first_machine = record {
   calls = [];
 }
 
--- adds so many steps of work; past the bound there is too much work
+-- adds `steps` to the work; past the bound there is too much work
 unfoldable pub count_work : ℕ → Machine → Result Machine Stop
 count_work steps m =
     elim (nat_le (m.work + steps) MAX_WORK) [
@@ -27,7 +27,8 @@ count_work steps m =
       | false ↦ Err TooMuchWork
     ]
 
--- the calls of the first sources, and behind them the call at this token for each further source, up to so many
+-- the calls of the first sources, and behind them the call at this token for each further source, up to number
+-- `sources`
 abbrev pub filled : (at : ℕ) → (sources : ℕ) → List ℕ → List ℕ
 filled at sources calls = calls ++ replicate (sources - length calls) at
 

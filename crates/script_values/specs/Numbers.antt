@@ -24,7 +24,7 @@ decimal_by m true true above below = Some (record { millionths = m; low = above 
 decimal_by m true false above below = None
 decimal_by m false high above below = None
 
--- the decimal of so many millionths, if they are at most 10^15 either way
+-- the decimal of this number of millionths, if it is at most 10^15 either way
 unfoldable pub of_millionths : ℤ → Option Decimal
 of_millionths m = decimal_by m (int_le (negsuc 999999999999999) m) (int_le m (pos 1000000000000000))
     (λ t. record { le = t }) (λ t. record { le = t })
@@ -34,7 +34,7 @@ abbrev pub or_bad_value : ℕ → Option Decimal → Result Value Stop
 or_bad_value at (Some d) = Ok (Number d)
 or_bad_value at None = Err (BadValue at)
 
--- the decimal of so many millionths, or a bad value at this token
+-- the decimal of this number of millionths, or a bad value at this token
 abbrev pub decimal_at : ℕ → ℤ → Result Value Stop
 decimal_at at m = or_bad_value at (of_millionths m)
 

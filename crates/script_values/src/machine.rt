@@ -1,4 +1,4 @@
-// What evaluation changes: the plan so far, the work, the settings, and the calls of its sources.
+// What evaluation changes: the plan, the work, the settings, and the calls of its sources.
 ghost use Rattle.std.specs.Prelude.{◌≡◌, OnOk, length};
 ghost use Rattle.script_values.specs.Gives.{Gives};
 ghost use Rattle.script_values.specs.Machines.{count_work, filled, first_machine, noted_by};

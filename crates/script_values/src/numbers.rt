@@ -138,7 +138,7 @@ fn int(at: u32, number: i128) -> Result<Value, Stop>
     Ok(Value::Int(number as i64))
 }
 
-// The decimal of so many millionths, or a bad value at token `at` beyond 10^15 millionths.
+// The decimal of this number of millionths, or a bad value at token `at` beyond 10^15.
 fn decimal(at: u32, millionths: i128) -> Result<Value, Stop>
     ensures { Gives (λ v. view_value v) result (decimal_at at millionths) }
 {
@@ -175,8 +175,7 @@ fn decimal_sum(minus: bool, at: u32, a: Decimal, b: Decimal) -> Result<Value, St
     }
 }
 
-// The quotient of `a` and `b`, rounded toward zero; `None` if `b` is 0. `a` may be as large as a decimal's millionths
-// times a million.
+// The quotient of `a` and `b`, rounded toward zero; `None` if `b` is 0. `a` may be as large as 64 bits times a million.
 #[tactic(auto, unfolding(crate::specs::Numbers::quotient))]
 fn divided(a: i128, b: i64) -> Option<i128>
     requires low { negsuc 9223372036854775807999999 ≤ℤ a }

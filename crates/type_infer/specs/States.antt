@@ -1,4 +1,4 @@
--- What typing holds of the statements so far, and what one statement more comes to.
+-- What typing keeps of the statements that it has typed, and what one statement more comes to.
 use Rattle.std.specs.Prelude.{◌≡◌, ℕ, List, [], ◌∷◌, ◌++◌, map, length, Option, Some, None, Bool, true, false}
 use Rattle.script_grammar.specs.Placed.{IsPlaced}
 use Rattle.script_grammar.specs.Tree.{Sort, Tree, APart, AStmt, Stmt, Script}
@@ -49,7 +49,7 @@ abbrev pub IsTypedAs : Table → Table → Env → List KnownDef → {r : Sort} 
 IsTypedAs s s' env ds e None = HasNoType s env e []
 IsTypedAs s s' env ds e (Some t) = IsTypedWith s s' env ds e t
 
--- ---- the statements so far
+-- ---- the statements that were typed
 
 -- what the typed statements have bound, the newest first
 abbrev pub knowns : Typing → List Known

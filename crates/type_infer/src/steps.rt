@@ -1,4 +1,4 @@
-// The statements that were typed so far.
+// What typing keeps of the statements that it has typed.
 use expression_types::{Bindings, Defs, FoundUse, TypedName};
 use general_types::Held;
 use type_terms::Subst;

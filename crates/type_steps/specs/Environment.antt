@@ -68,7 +68,7 @@ or_else None o = o
 abbrev pub term_seen : ℕ → Env → Option Term
 term_seen t env = or_else (term_at t env.inner) (term_before t env.before)
 
--- ---- the same under an assignment to the variables
+-- ---- what is seen, under an assignment to the variables
 
 -- a pending kind under an assignment: a kind, or the number of an open kind
 abbrev pub settled : Assignment → Pending → KindOf
@@ -118,8 +118,8 @@ TextTakes calls kinds chain given [] = ⊤
 TextTakes calls kinds chain given (u ∷ us) = ((ks : List Kind) × (kinds_of given u.kinds ≡ Some ks)
     × Takes calls kinds chain u.at u.target ks) × TextTakes calls kinds chain given us
 
--- the places behind a chain that ends in a call of the def at token t, whose open kinds are ks, have the kinds of its
--- text's uses; no call of a def that is not among the texts has any
+-- the places behind a chain that ends in a call of the def at token t, with the open kinds ks, have the kinds of the
+-- uses in its text; of a def that is not among the texts there is no call
 abbrev pub CallTakes : Texts → Places → List ℕ → ℕ → List Kind → Type 0
 CallTakes [] kinds chain t ks = ⊥
 CallTakes (x ∷ xs) kinds chain t ks =

@@ -119,13 +119,13 @@ HaveNoGiven s env es old = (a : Assignment) → Solves a s → (kinds : Places) 
 
 -- ---- a fact of types that is made to hold
 
--- the solutions of s' are those of s at which C holds
+-- from s to s' the condition C was made to hold: the solutions of s' are those of s at which C holds
 pub record Restricts (s s' : Table) (C : Assignment → Type 0) : Type 0 where
   pub follows : Follows s s'
   pub sound : (a : Assignment) → Solves a s' → C a
   pub complete : (a : Assignment) → Solves a s → C a → (b : Assignment) × Solves b s' × Agrees s a b
 
--- C holds at no solution
+-- the condition C holds at no solution of s
 abbrev pub Never : Table → (Assignment → Type 0) → Type 0
 Never s C = (a : Assignment) → Solves a s → C a → ⊥
 

@@ -23,8 +23,8 @@ pub struct Argument<'a> {
     pub var: u64,
 }
 
-/// Makes the arguments match parameters of these types, if they can; false if they cannot. It takes arguments out of
-/// `given`.
+/// Makes the arguments match parameters of these types, if they can; false if they cannot. Arguments that are taken may
+/// leave `given`.
 pub fn fit(
     alloc: Global,
     subst: &mut Subst,
@@ -113,8 +113,8 @@ fn labels_of<'a>(alloc: Global, given: &[Argument<'a>]) -> Result<Vec<Option<&'a
     Ok(labels)
 }
 
-/// The type variable of the first argument left in the table with this label, or of the first without one. It leaves
-/// the table. `None` if there is no such argument.
+/// Takes the first argument left in the table with this label, or the first without one. Returns its type variable;
+/// `None` if there is no such argument.
 fn take_labelled(
     labels: &mut Labels<'_>,
     given: &[Argument<'_>],
@@ -161,8 +161,8 @@ fn take_argument(given: &mut Vec<Argument<'_>>, label: Option<&str>) -> Option<u
     None
 }
 
-/// Makes the type variable `taken` of a parameter's argument have the parameter's type, if it can. Without an argument
-/// it is true if the parameter need not have one.
+/// Makes the type variable `taken`, that of a parameter's argument, have the parameter's type; false if it cannot.
+/// Without an argument it is true if the parameter need not have one.
 fn fit_one(
     alloc: Global,
     subst: &mut Subst,
