@@ -12,7 +12,7 @@ use Rattle.script_values.specs.Outcomes.{◌>>=◌}
 use Rattle.script_values.specs.Slots.{Argument}
 use Rattle.script_values.specs.Values.{ValueTree, ManyValues, no_values, more_values, Value, Int, Number, TextValue, TruthValue, FormatValue, PredValue, Source, ListValue, TupleValue}
 
--- the kind of a call with one open kind
+-- the open kind of a call that has one
 abbrev pub one_kind : List Kind → Result Kind Stop
 one_kind [] = Err Stuck
 one_kind (k ∷ ks) = Ok k
@@ -68,7 +68,7 @@ unfoldable pub nodes_from : List Node → Kind → ValueTree ManyValues → List
 nodes_from nodes k no_values ns = Ok ns
 nodes_from nodes k (more_values v vs) ns = source_of nodes k v >>= λ n. nodes_from nodes k vs (ns ++ n ∷ [])
 
--- the nodes of a list of sources
+-- the nodes of a list of sources of this kind
 unfoldable pub sources_of : List Node → Kind → Value → Result (List ℕ) Stop
 sources_of nodes k (ListValue vs) = nodes_from nodes k vs []
 sources_of nodes k v = Err Stuck

@@ -30,7 +30,7 @@ unfoldable pub rate_of : Value → Result ℕ Stop
 rate_of (Int n) = rate_within n
 rate_of v = Err BadSetting
 
--- a tick in seconds; whether it is a good one is asked when the settings end
+-- a tick in seconds; its range is checked where the settings end
 unfoldable pub duration_of : Value → Result Decimal Stop
 duration_of (Number d) = Ok d
 duration_of v = Err BadSetting
@@ -49,7 +49,7 @@ set_duration v m = do
   d ← duration_of v
   Ok (UnitValue, record c { settings = record c.settings { duration = d } })
 
--- a setting by its key; one of another key changes nothing
+-- makes the setting of this key; any other key changes nothing
 unfoldable pub setting : List ℕ → Value → Machine → Outcome
 setting key v m =
     elim (bytes_eq key (codes "frame.audio.samplerate")) [

@@ -16,7 +16,7 @@ use plan_core::{Draft, Items, Op, Preds};
 use script_values::{Given, Machine, Stop, Value};
 use std::alloc::Global;
 
-/// `fallback(track_sensitive=true, sources)`.
+/// `fallback(track_sensitive=true, sources)`: adds a node that plays the first source that is ready.
 #[tactic(auto, unfolding(crate::specs::Builtins::fallback))]
 pub(crate) fn fallback(
     alloc: Global,
@@ -31,7 +31,8 @@ pub(crate) fn fallback(
     over_sources(alloc, Op::Fallback { sensitive }, kinds, given, machine)
 }
 
-/// `switch(track_sensitive=true, pairs)`.
+/// `switch(track_sensitive=true, pairs)`: adds a node that plays the first source that is ready and whose predicate
+/// holds.
 #[tactic(auto, unfolding(crate::specs::Builtins::switch))]
 pub(crate) fn switch(
     alloc: Global,
@@ -54,7 +55,8 @@ pub(crate) fn switch(
     )
 }
 
-/// `random(seed=0, sources)`, whose name stands at token `at`.
+/// `random(seed=0, sources)`, whose name stands at token `at`: adds a node that chooses a source by chance for each
+/// track.
 #[tactic(auto, unfolding(crate::specs::Builtins::random))]
 pub(crate) fn random(
     alloc: Global,
@@ -74,7 +76,7 @@ pub(crate) fn random(
     add(machine, Op::Random { seed }, kind, Items::from_vec(sources))
 }
 
-/// `add(normalize=true, sources)`.
+/// `add(normalize=true, sources)`: adds a node that mixes these sources.
 #[tactic(auto, unfolding(crate::specs::Builtins::add_sources))]
 pub(crate) fn sum(
     alloc: Global,

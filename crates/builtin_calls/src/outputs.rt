@@ -16,7 +16,7 @@ use plan_core::SinkPlan;
 use script_values::{Given, Limit, Machine, Stop, Value};
 use std::alloc::Global;
 
-/// `output.file(fallible=false, format, name, s)`.
+/// `output.file(fallible=false, format, name, s)`: adds an output of the source to the file of this name.
 #[tactic(auto, unfolding(crate::specs::Builtins::output_file))]
 pub(crate) fn output_file(
     alloc: Global,

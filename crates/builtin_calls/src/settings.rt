@@ -13,7 +13,7 @@ use liq_base::limits::{MAX_RATE, MIN_RATE};
 use script_values::{Given, Machine, Stop, Value};
 use std::alloc::Global;
 
-/// `set(key, value)`.
+/// `set(key, value)`: makes the setting of this key.
 #[tactic(auto, unfolding(crate::specs::Builtins::set))]
 pub(crate) fn set(
     alloc: Global,

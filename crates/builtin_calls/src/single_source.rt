@@ -17,7 +17,7 @@ use plan_core::{BufferPlan, Draft, Items, Node, Op};
 use script_values::{Given, Limit, Machine, Stop, Value};
 use std::alloc::Global;
 
-/// `amplify(k, s)`.
+/// `amplify(k, s)`: adds a node that multiplies each sample of the source by this factor.
 #[tactic(auto, unfolding(crate::specs::Builtins::amplify))]
 pub(crate) fn amplify(
     alloc: Global,
@@ -35,7 +35,7 @@ pub(crate) fn amplify(
     add(machine, Op::Amplify { factor }, kind, children)
 }
 
-/// `mean(s)`: stereo to mono.
+/// `mean(s)`: adds a node that makes a stereo source mono.
 #[tactic(auto, unfolding(crate::specs::Builtins::mean))]
 pub(crate) fn mean(
     alloc: Global,
@@ -49,7 +49,7 @@ pub(crate) fn mean(
     add(machine, Op::Mean, Kind::Mono, children)
 }
 
-/// `stereo(s)`: mono to stereo.
+/// `stereo(s)`: adds a node that makes a mono source stereo.
 #[tactic(auto, unfolding(crate::specs::Builtins::stereo))]
 pub(crate) fn stereo(
     alloc: Global,
@@ -63,7 +63,7 @@ pub(crate) fn stereo(
     add(machine, Op::Stereo, Kind::Stereo, children)
 }
 
-/// `crossfade(duration=5., s)`, whose name stands at token `at`.
+/// `crossfade(duration=5., s)`, whose name stands at token `at`: adds a node that mixes each track into the one before.
 #[tactic(auto, unfolding(crate::specs::Builtins::crossfade))]
 pub(crate) fn crossfade(
     alloc: Global,
@@ -83,7 +83,7 @@ pub(crate) fn crossfade(
     add(machine, Op::Crossfade { overlap }, kind, children)
 }
 
-/// `mksafe(s)`: an endless blank, and a fallback to it.
+/// `mksafe(s)`: adds an endless blank, and a fallback from the source to it.
 #[tactic(auto, unfolding(crate::specs::Builtins::mksafe))]
 pub(crate) fn mksafe(
     alloc: Global,
@@ -99,7 +99,7 @@ pub(crate) fn mksafe(
     safe(alloc, machine, kind, source)
 }
 
-/// `buffer(buffer=1., max=10., s)`, whose name stands at token `at`.
+/// `buffer(buffer=1., max=10., s)`, whose name stands at token `at`: adds a buffer with its feed and its reader.
 #[tactic(auto, unfolding(crate::specs::Builtins::buffer))]
 pub(crate) fn buffer(
     alloc: Global,
@@ -119,7 +119,7 @@ pub(crate) fn buffer(
     add_buffer(alloc, machine, source, kind, plan)
 }
 
-/// `clock(id="", s)`.
+/// `clock(id="", s)`: adds a node that has the source in the clock of this id.
 #[tactic(auto, unfolding(crate::specs::Builtins::clock))]
 pub(crate) fn clock(
     alloc: Global,

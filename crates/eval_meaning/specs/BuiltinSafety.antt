@@ -52,7 +52,7 @@ AreA ns [] (h ∷ hs) = ⊥
 AreA ns (g ∷ gs) [] = ⊥
 AreA ns (g ∷ gs) (h ∷ hs) = (g.0 ≡ h.0) × IsA ns g.1 h.1 × AreA ns gs hs
 
--- every fault but that of a value of a wrong type
+-- a stop that a script's author is told of: any but that of a value of a wrong type
 abbrev pub IsTold : Stop → Type 0
 IsTold faults.Memory = ⊤
 IsTold faults.BadSetting = ⊤

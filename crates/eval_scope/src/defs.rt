@@ -18,7 +18,7 @@ pub struct Defs<'a> {
 }
 
 impl<'a> Defs<'a> {
-    /// The defs of a script, with their table.
+    /// The defs of a script, with a table of their statements.
     pub fn new(alloc: Global, script: &'a Script) -> Result<Defs<'a>, Memory>
         ensures { IfOk result (λ d. d.script.now ≡ script.entry.now) }
     {

@@ -17,7 +17,7 @@ pub struct Uses<'a> {
 }
 
 impl<'a> Uses<'a> {
-    /// These uses, with their table.
+    /// The uses of a script, with a table of their tokens.
     pub fn new(alloc: Global, all: &'a [Use]) -> Result<Uses<'a>, Memory>
         ensures { IfOk result (λ u. u.all.now ≡ all.entry.now) }
     {

@@ -44,7 +44,7 @@ tokens_used (Arg at label f) = tokens_used f
 tokens_used (If at c t e) = tokens_used c ++ tokens_used t ++ tokens_used e
 tokens_used t = []
 
--- a token, what its name means, and how many open kinds that has
+-- what is told of a use: its token, what the name means, and how many open kinds that has
 abbrev pub Said : Type 0
 Said = ℕ × Option Target × Option ℕ
 

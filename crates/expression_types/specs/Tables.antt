@@ -28,6 +28,6 @@ abbrev pub def_seen : ℕ → List KnownDef → Option KnownDef
 def_seen t [] = None
 def_seen t (d ∷ ds) = cond (nat_eq d.at t) (Some d) (def_seen t ds)
 
--- the table has at each token the place of the first def there
+-- the table has at each token the index of the first def whose name stands there
 abbrev pub ArePlaces : List (Option ℕ) → List KnownDef → Type 0
 ArePlaces places ds = (t : ℕ) → at_token t places ≡ position (λ d. nat_eq d.at t) ds

@@ -16,7 +16,7 @@ use type_steps::new_type;
 use type_terms::{KindTerm, Subst, Ty};
 use typing_rules::{Builtin, Target};
 
-/// What a call calls: a builtin, or what has this general type.
+/// What a call calls: a builtin, or a def by its general type.
 #[derive(Clone, Copy)]
 pub enum Called<'g> {
     Builtin(Builtin),
@@ -49,7 +49,7 @@ pub fn begin_call(
     Ok(callee)
 }
 
-/// The type of what is called, with new variables for its own.
+/// The type of what is called, with new variables in place of its own.
 fn instance_of(alloc: Global, subst: &mut Subst, called: Called<'_>) -> Result<Instance, Memory>
     requires over { IsSchemeOver subst.old (called_scheme called) }
     ensures instance { IfOk result

@@ -21,7 +21,7 @@ use type_steps::{Argument, fit};
 use type_terms::Subst;
 use typing_rules::Target;
 
-/// The type of a call; `None` where it has no type. It fails only where memory is refused.
+/// The number of the type variable of a call; `None` where it has no type. It fails only where memory is refused.
 ///
 /// Where it has a type, one use for each name of its text was added, in the order of the tokens.
 #[cycle(value)]

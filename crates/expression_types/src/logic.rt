@@ -15,7 +15,8 @@ use std::alloc::Global;
 use type_steps::{is_truth, is_truth_of_many, same};
 use type_terms::Subst;
 
-/// The variable that is the type of an expression; `None` where it has no type. It fails only where memory is refused.
+/// The number of the type variable of an expression; `None` where it has no type. It fails only where memory is
+/// refused.
 ///
 /// Where it has a type, one use for each name of its text was added, in the order of the tokens.
 #[cycle(value)]

@@ -17,7 +17,7 @@ use std::alloc::Global;
 use type_steps::{is_truth, new_list, new_tuple, new_type, new_var, same};
 use type_terms::{Subst, Ty};
 
-/// The variable that is the type of a value; `None` where it has no type. It fails only where memory is refused.
+/// The number of the type variable of a value; `None` where it has no type. It fails only where memory is refused.
 ///
 /// Where it has a type, one use for each name of its text was added, in the order of the tokens.
 #[cycle(value)]
@@ -99,7 +99,7 @@ pub fn type_operand(
     }
 }
 
-/// The type of an `if`; `None` where it has no type. It fails only where memory is refused.
+/// The number of the type variable of an `if`; `None` where it has no type. It fails only where memory is refused.
 ///
 /// Where it has a type, one use for each name of its text was added, in the order of the tokens.
 #[cycle(value)]

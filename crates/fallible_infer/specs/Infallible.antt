@@ -25,8 +25,9 @@ pub data Rests : Type 0 where
   OnCases : List Predicate → Rests
   OnLast : Rests
 
--- a file that is repeated, zeros and a square wave are so by themselves; a playlist, a fail and a reader by nothing; a
--- switch rests on its cases, a sequence on its last child, and any other on some child
+-- what makes a node of this operator infallible: a file that is repeated, zeros and a square wave are so by themselves,
+-- and nothing makes a playlist, a fail or a reader so; a switch rests on its cases, a sequence on its last child, and
+-- any other on some child
 abbrev pub rests_of : Op → Rests
 rests_of (Single file) = ByItself
 rests_of (Playlist file again) = ByNothing
@@ -38,9 +39,8 @@ rests_of Sequence = OnLast
 rests_of (Buffer number) = ByNothing
 rests_of _ = OnSome
 
--- whether a node that rests on this is infallible over these children, where the mark of a child says whether it is: on
--- some child where one is, on cases where a child is whose predicate is always true by its form, and on the last child
--- where there is one and it is
+-- whether a node that rests on this is infallible, by the marks of its children: on some child where one is marked, on
+-- cases where a child is whose predicate is always true by its form, and on the last child where that one is
 abbrev pub rests_on : (mark : ℕ → Bool) → Rests → List ℕ → Bool
 rests_on mark ByNothing children = false
 rests_on mark ByItself children = true

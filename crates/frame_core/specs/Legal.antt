@@ -14,7 +14,8 @@ pub data Legal {X : Type 0} (capacity : ℕ) (rest : List X) : List X → List (
   empty : {puts takes : List (Option X)} →
       Legal capacity rest [] puts takes → Legal capacity rest [] puts (None ∷ takes)
 
--- Windows one after another, each legal from what the one before it left: from the items `queue` to `rest`.
+-- Windows one after another, each in the order of a queue of `capacity` items that begins with what the one before it
+-- left: from the items `queue` to `rest`.
 abbrev pub IsHistory : {X : Type 0} → ℕ → List X → List (List (Option X) × List (Option X)) → List X → Type 0
 IsHistory capacity queue [] rest = queue ≡ rest
 IsHistory {X} capacity queue (window ∷ windows) rest =

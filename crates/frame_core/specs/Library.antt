@@ -29,7 +29,7 @@ abbrev pub leaves_of : Option (Vec ℕ Global) → (lists : List (List ℕ)) →
 leaves_of None lists = lists
 leaves_of (Some numbers) lists = chosen_lists lists numbers.items
 
--- each number is that of a list
+-- where nodes have numbers of lists, each number is that of a list that is there
 abbrev pub AreThere : Option (Vec ℕ Global) → (lists : List (List ℕ)) → Type 0
 AreThere None lists = ⊤
 AreThere (Some numbers) lists = All (λ number. number < length lists) numbers.items

@@ -2,18 +2,18 @@
 -- the answers of each end.
 use Rattle.std.specs.Prelude.{◌≡◌, ℕ, ◌<◌, Bool, true, false, List, [], ◌∷◌, ◌++◌, length, map, drop, Option, Some, None}
 
--- an item that was put or got, and how many items the queue held afterwards
+-- a move of a queue: an item that was put or got, and how many items the queue held afterwards
 pub data Move (X : Type 0) : Type 0 where
   Put : X → ℕ → Move X
   Got : X → ℕ → Move X
 
--- the puts among the moves
+-- the items that were put, each with how many items the queue held afterwards
 abbrev pub puts_of : {X : Type 0} → List (Move X) → List (X × ℕ)
 puts_of [] = []
 puts_of (Put x left ∷ moves) = (x, left) ∷ puts_of moves
 puts_of (Got x left ∷ moves) = puts_of moves
 
--- the gets among the moves
+-- the items that were got, each with how many items the queue held afterwards
 abbrev pub gots_of : {X : Type 0} → List (Move X) → List (X × ℕ)
 gots_of [] = []
 gots_of (Put x left ∷ moves) = gots_of moves

@@ -84,7 +84,8 @@ impl Frame {
         self.runs.clear();
     }
 
-    /// Appends cells of these samples and this title: `first` flags the first of them, and no other.
+    /// Appends a cell for each of these samples, with this title. `first` says whether the first of them begins a
+    /// track; the others do not.
     pub fn lay(&mut self, left: &[i16], right: &[i16], first: bool, title: u32)
         requires same { length right.now ≡ length left.now }
         requires room { length self.old.cells + length left.now ≤ self.old.room }

@@ -57,8 +57,8 @@ impl Library {
         }
     }
 
-    /// The library of these files, their names, and these lists, of which nodes may share one: for each node the number
-    /// of its list, counted from 0.
+    /// The library of these files with their names, where nodes may share the lists of files that they play. `numbers`
+    /// has for each node the number of its list, counted from 0.
     pub fn of_lists(
         files: Vec<Track>,
         names: Vec<Text>,
@@ -106,7 +106,7 @@ impl Library {
         self.list(leaf).len() as u32
     }
 
-    /// How many samples each channel has in a file, which is a leaf's file number `track`: at least 1.
+    /// How many samples each channel of a leaf's file number `track` has: at least 1.
     pub fn samples(&self, leaf: u32, track: u32) -> u64
         requires leaf { leaf < length self.now.leaves }
         requires track { track < length (tracks_of self.now leaf) }

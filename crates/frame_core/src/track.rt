@@ -50,7 +50,7 @@ impl Model for Track {
 }
 
 impl Track {
-    /// The file of these samples.
+    /// The file of these samples, left before right where there are two channels.
     pub fn new(kind: Kind, samples: Vec<i16>) -> Track
         requires { IsSound (record { kind = kind; samples = samples.items }) }
         ensures { result ≡ record { kind = kind; samples = samples.items } }

@@ -57,7 +57,7 @@ height_at pitch rate position =
     if nat_lt (position * unsigned_abs pitch.millionths % (rate * 1000000)) (rate * 500000) then pos 8192
     else negsuc 8191
 
--- the right sample of a source of this kind, where both sides are alike
+-- the right sample of a cell in a source of this kind, where both sides are alike; 0 in mono
 abbrev pub on_the_right : Kind → ℤ → ℤ
 on_the_right Mono sample = pos 0
 on_the_right Stereo sample = sample
@@ -85,7 +85,7 @@ HasRate (Blank track) = Unit {0}
 HasRate (Square pitch rate kind) = 0 < rate
 HasRate Never = Unit {0}
 
--- the library has a list of files for the leaf
+-- the library has a list of files for a leaf that plays files
 abbrev pub HasTracksOf : Sounds → Leaf → Type 0
 HasTracksOf library (Files node again kind) = node < length library.leaves
 HasTracksOf library (Blank track) = Unit {0}

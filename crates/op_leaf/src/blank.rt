@@ -71,7 +71,7 @@ impl Blank {
         }
     }
 
-    /// Goes on by one sample.
+    /// Goes on by one cell.
     pub fn advance(&mut self)
         ensures track { self.new.track ≡ self.old.track }
         ensures placed { BlankIsPlaced self.new }

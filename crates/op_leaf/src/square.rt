@@ -76,7 +76,7 @@ impl Square {
         }
     }
 
-    /// Goes on by one sample.
+    /// Goes on by one cell.
     pub fn advance(&mut self)
         ensures pitch { self.new.pitch ≡ self.old.pitch }
         ensures rate { self.new.rate ≡ self.old.rate }

@@ -36,7 +36,7 @@ HasKind Mean children kind = (children ≡ Kind.Stereo) × (kind ≡ Mono)
 HasKind Stereo children kind = (children ≡ Mono) × (kind ≡ Kind.Stereo)
 HasKind _ children kind = kind ≡ children
 
--- a pitch is above 0, and an overlap has at least a sample
+-- the pitch of a square wave is above 0, and an overlap is from 1 to MAX_OVERLAP
 abbrev pub IsInRange : Op → Type 0
 IsInRange (Square pitch) = pos 0 <ℤ pitch.millionths
 IsInRange (Crossfade overlap) = (1 ≤ overlap) × (overlap ≤ MAX_OVERLAP)
@@ -88,7 +88,7 @@ crossfade_counts nodes = counts_after [] nodes
 abbrev pub crossfades_from : List Node → Node → ℕ
 crossfades_from nodes node = crossfades_over (crossfade_counts nodes) node
 
--- what a node over these nodes has to meet
+-- what a node has to meet whose children are among the nodes `below`
 pub record IsNodeOver (below : List Node) (node : Node) : Type 0 where
   pub children : All (λ child. child < length below) node.children
   pub few : length node.children ≤ MAX_CHILDREN
@@ -163,13 +163,13 @@ with_buffer plan source kind buffer = record plan {
   buffers = plan.buffers ++ buffer ∷ [];
 }
 
--- a path down from a node: a child of it, a child of that one, and so on
+-- a path down from node i: a child of it, a child of that one, and so on
 abbrev pub IsPathDown : List Node → ℕ → List ℕ → Type 0
 IsPathDown nodes i [] = i < length nodes
 IsPathDown nodes i (child ∷ path) = ((node : Node) × (slice_get nodes i ≡ Some node) × Contains node.children child)
     × IsPathDown nodes child path
 
--- 1 if there is a crossfade of this number
+-- 1 if node i is a crossfade, else 0
 abbrev pub crossfades_at : List Node → ℕ → ℕ
 crossfades_at nodes i = option_map_or (λ node. own_crossfades node.op) (slice_get nodes i) 0
 

@@ -26,7 +26,7 @@ pub record IsFile (kind : Kind) (samples : List ℤ) : Type 0 where
 abbrev pub output_length : (count from to : ℕ) → ℕ
 output_length count from to = max 1 (count * to / from)
 
--- the sample of a block, on a side that is counted from 0
+-- the sample of a block on a side, which is 0 for left and 1 for right
 abbrev pub side_at : Kind → List ℤ → (block side : ℕ) → ℤ
 side_at kind samples block side = slice_index_or samples (block * channels_of kind + side) (pos 0)
 
@@ -51,13 +51,13 @@ abbrev pub sample_behind : (from to : ℕ) → Kind → List ℤ → (j side : �
 sample_behind from to kind samples j side = side_at kind samples
     (min (block_before from to j + 1) (blocks_of kind samples - 1)) side
 
--- sample j of a side, at the other rate
+-- sample j of a side at the other rate, between the two samples of the file around it
 abbrev pub resampled_sample : (from to : ℕ) → Kind → List ℤ → (j side : ℕ) → ℤ
 resampled_sample from to kind samples j side =
     interpolated (sample_before from to kind samples j side) (sample_behind from to kind samples j side)
     (parts_behind from to j) to
 
--- the samples at the other rate, in the order in which they stand
+-- the samples of a file at the other rate, left before right where there are two channels
 abbrev pub resampled : (from to : ℕ) → Kind → List ℤ → List ℤ
 resampled from to kind samples =
     map (λ k. resampled_sample from to kind samples (k / channels_of kind) (k % channels_of kind))

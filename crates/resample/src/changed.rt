@@ -60,7 +60,8 @@ impl Model for Changed {
 }
 
 impl Changed {
-    /// The file of these blocks at another rate, from `MIN_RATE` to `MAX_RATE`.
+    /// The file of these blocks, which has rate `from`, read at rate `to`, from `MIN_RATE` to `MAX_RATE`, in samples a
+    /// second.
     pub fn new(blocks: Blocks, from: u32, to: u32) -> Changed
         requires rates { AreRates from to }
         requires there { AreThere blocks }

@@ -10,7 +10,7 @@ use Rattle.script_values.specs.declared.fault.Stop.TheVariants.{TooMuchWork}
 abbrev pub some_millionths : (m : ℕ) → T (nat_le m 1000000000000000) → Decimal
 some_millionths m few = record { millionths = pos m; low = record { le = tt }; high = record { le = few } }
 
--- before the first statement: 44100 samples a second, and 0.04 seconds a tick, which are 1764 samples
+-- the state before the first statement: 44100 samples a second, and 0.04 seconds a tick, which are 1764 samples
 abbrev pub first_machine : Machine
 first_machine = record {
   plan = record { rate = 44100; frame = 1764; nodes = []; sinks = []; buffers = [] };

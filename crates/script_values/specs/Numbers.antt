@@ -29,7 +29,7 @@ unfoldable pub of_millionths : ℤ → Option Decimal
 of_millionths m = decimal_by m (int_le (negsuc 999999999999999) m) (int_le m (pos 1000000000000000))
     (λ t. record { le = t }) (λ t. record { le = t })
 
--- a decimal, or a bad value at this token
+-- the value of a decimal, or a bad value at this token if there is none
 abbrev pub or_bad_value : ℕ → Option Decimal → Result Value Stop
 or_bad_value at (Some d) = Ok (Number d)
 or_bad_value at None = Err (BadValue at)
@@ -82,7 +82,7 @@ multiplied true at (Number a) (Number b) = quotient_at at (decimal_at at)
     (quotient (a.millionths *ℤ pos 1000000) b.millionths)
 multiplied divide at v w = Err Stuck
 
--- whether a comparison holds
+-- whether two numbers compare as the operator says
 abbrev pub is_so : CompareOp → ℤ → ℤ → Bool
 is_so op.Equal a b = int_le a b && int_le b a
 is_so op.Differs a b = int_lt a b || int_lt b a

@@ -8,7 +8,7 @@ pub data ValueSort : Type 0 where
   OneValue : ValueSort
   ManyValues : ValueSort
 
--- the values of a script
+-- the values of a script, and lists of them, as trees
 pub data ValueTree : ValueSort → Type 0 where
   no_values : ValueTree ManyValues
   more_values : ValueTree OneValue → ValueTree ManyValues → ValueTree ManyValues

@@ -78,14 +78,14 @@ pub fn copy(alloc: Global, value: &Value) -> Result<Value, Memory>
     }
 }
 
-/// A list of values.
+/// The list of these values as a value.
 pub fn listed(parts: Vec<Value>) -> Value
     ensures { view_value result ≡ a_list (many (map view_value parts.items)) }
 {
     Value::Listed(parts)
 }
 
-/// A tuple of values.
+/// The tuple of these values as a value.
 pub fn tuple(parts: Vec<Value>) -> Value
     ensures { view_value result ≡ a_tuple (many (map view_value parts.items)) }
 {

@@ -45,7 +45,7 @@ AddsDones s xs old new = (d : HasDefaults s) → new ≡ old ++ uses_under d.at 
 abbrev pub AreDefaultOf : Table → List Done → List Use → Type 0
 AreDefaultOf s xs us = (d : HasDefaults s) → us ≡ uses_under d.at xs
 
--- a kind where nothing binds its variable
+-- a kind after all bindings were followed: a variable that nothing binds is stereo
 abbrev pub free_kind : KindTerm → Kind
 free_kind (term.Fixed k) = k
 free_kind (term.Var n) = Stereo

@@ -78,7 +78,7 @@ pub record IsAfter (targets : Targets) (script : Script) (t : Typing) : Type 0 w
   pub ready : IsReady targets t
   pub typed : IsTypedSo targets script t
 
--- the same typing, whose lists may have room for more
+-- the lists of a typing may have room for more, and nothing else has changed
 pub record IsSameTyping (old new : Typing) : Type 0 where
   pub subst : new.subst ≡ old.subst
   pub before : new.before ≡ old.before

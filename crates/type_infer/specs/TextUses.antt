@@ -19,7 +19,7 @@ kinds_in (f ∷ fs) = f.kinds ++ kinds_in fs
 abbrev pub use_of : Found → List TextKind → TextUse
 use_of f text = record { at = f.at; target = f.target; kinds = map pending_of text }
 
--- each use takes as many kinds of the text as it has
+-- the uses of a text: each takes as many of the text's kinds as it has, in order
 abbrev pub text_uses : List Found → List TextKind → List TextUse
 text_uses [] text = []
 text_uses (f ∷ fs) text = use_of f (take (length f.kinds) text) ∷ text_uses fs (drop (length f.kinds) text)

@@ -134,7 +134,7 @@ fn type_with<'a>(
     }
 }
 
-/// Types the statements without a fault of names, up to the first clash, behind room for what they leave.
+/// Makes room for what the statements leave, and types the first `front.count` of them, up to the first clash.
 fn type_all<'a>(
     alloc: Global,
     typing: &mut Typing<'a>,
@@ -161,7 +161,7 @@ fn type_all<'a>(
     type_each(alloc, typing, targets, statements, front)
 }
 
-/// Types the statements without a fault of names one after another, up to the first clash.
+/// Types the first `front.count` statements one after another, up to the first clash.
 fn type_each<'a>(
     alloc: Global,
     typing: &mut Typing<'a>,

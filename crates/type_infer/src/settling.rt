@@ -36,7 +36,7 @@ fn free_kind(kind: KindTerm) -> Kind
     }
 }
 
-/// A kind under the default solution.
+/// A kind under the default solution: a variable that nothing binds is stereo.
 fn settle_kind(subst: &Subst, kind: KindTerm) -> Kind
     requires over { IsKindOver subst.now kind }
     ensures { IsSettledKind subst.now kind result }

@@ -153,8 +153,8 @@ abbrev pub AreTermsOver : Table → List Term → Type 0
 AreTermsOver s [] = ⊤
 AreTermsOver s (t ∷ ts) = IsOver s t × AreTermsOver s ts
 
--- What a name may call at a token: the calls are those with arguments that match parameters ps of types ts, a result g
--- and open kinds ks, for the ts, g and ks that I says.
+-- What t means at token `at` may be called: its calls are those whose arguments match parameters ps of types ts, with a
+-- result g and open kinds ks, for all ts, g and ks that I allows.
 pub record IsCallable (s : Table) (env : Env) (at : ℕ) (t : Target) (ps : List Parameter) (I : Assignment → List Ground
     → Ground → List Kind → Type 0) : Type 0 where
   pub calls : (a : Assignment) → Solves a s

@@ -181,7 +181,7 @@ fn fit_one(
     }
 }
 
-/// The parameter at an index.
+/// Parameter `i` of these, counted from 0.
 fn param_at<'a>(params: &[Parameter<'a>], i: usize) -> Parameter<'a>
     requires inside { i < length params.now }
     ensures at { result ≡ get_or params.now i result }

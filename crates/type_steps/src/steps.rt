@@ -127,7 +127,7 @@ pub fn is_number_of_many(
     }
 }
 
-/// A type variable as a type.
+/// The type variable of this number as a type.
 fn var(n: u64) -> Ty
     ensures { term_of result ≡ variable n }
 {
