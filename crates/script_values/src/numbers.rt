@@ -175,7 +175,8 @@ fn decimal_sum(minus: bool, at: u32, a: Decimal, b: Decimal) -> Result<Value, St
     }
 }
 
-// The quotient of `a` and `b`, rounded toward zero; `None` if `b` is 0. `a` may be as large as 64 bits times a million.
+// The quotient of `a` and `b`, rounded toward zero; `None` if `b` is 0. `a` may be as large as a number of 64 bits
+// times a million.
 #[tactic(auto, unfolding(crate::specs::Numbers::quotient))]
 fn divided(a: i128, b: i64) -> Option<i128>
     requires low { negsuc 9223372036854775807999999 ≤ℤ a }
