@@ -113,8 +113,9 @@ pub record IsWriteEnd {S : Type 0} (told : S
   pub there : slice_get (outputs_of setting clock) place ≡ Some (sink, node)
   pub rose : RoseAt told place before.outs after.outs
 
--- How far a run came, and its record: each clock made the windows that were closed whole, and none is past the one that
--- follows them.
+-- The engines have come as far as this record of a run says, which may have been broken off: each clock has made the
+-- ticks of the windows that were closed, and tried none behind the next window. A write that ended the run is one of
+-- the lowest clock that stopped.
 pub record HasRunSome {S : Type 0} (told : S
     → SinkTold) (setting : Setting) (clocks : ClockMap) (W N : ℕ) (old new : List (ClockEngine S)) (end : End) : Type 0
   where

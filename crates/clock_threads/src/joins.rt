@@ -11,7 +11,7 @@ use buffer_queue::{BufferQueue, PutPass, TakePass};
 use liq_base::Memory;
 use std::alloc::Global;
 
-// Adds to a clock's task an end at which it puts.
+// Adds to a clock's task an end at which it puts. Its buffer has a lower number than those of the ends before.
 fn add_put<'q, O, R>(
     task: &mut Task<'_, O, ThreadTaps<'q, R>>,
     end: PutEnd<'q>,

@@ -106,7 +106,8 @@ pub record IsOffEnd (states : List BufferState) (ends : List Ends) (j : ℕ) : T
 abbrev pub EndsWith : (W N n : ℕ) → Type 0
 EndsWith W N n = (n % W ≡ W - 1) ⊎ (suc n ≡ N)
 
--- how a run goes on after tick n, by how its calls were answered
+-- The last course is how a run of N ticks, in windows of W, goes on after tick n. That is `before`, by how its calls
+-- were answered; but if all were, and a window ends with this tick at whose end some buffer is not, the run fails.
 abbrev pub GoesOn : (W N n : ℕ) → Course → List BufferState → List Ends → Course → Type 0
 GoesOn W N n before states ends Goes = (before ≡ Goes) × (EndsWith W N n → AreAtEnd states ends (n / W))
 GoesOn W N n before states ends Waits = before ≡ Waits
@@ -176,6 +177,6 @@ pub record AreFit (base : Setting) (W N : ℕ) (text : ℕ
   pub formed : IsFormed (length base.plan.buffers) W N text
   pub ends_are : (b : ℕ) (e : Ends) → b < length base.plan.buffers → AreEnds (text b) (slice_index_or ends b e)
 
--- the setting of a station
+-- the setting of a plan with its clocks, files and start second, before its buffers have answered
 abbrev pub base_at : Station → Setting
 base_at station = base_of station.plan.now station.library.now station.clocks.now station.start.second
