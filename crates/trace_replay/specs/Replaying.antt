@@ -186,8 +186,8 @@ pub record ArePlaying {S : Type 0} (told : S
       → slice_get now k ≡ Some after → slice_get rests k ≡ Some rest
       → IsResting told tale sides k (made k) (progress before after rest.marks.items) full states
 
--- All ticks of a station's engines, which have made none, may be made in these turns: in them the clocks make the record
--- that a trace tells, and the buffers tell its answers and hold no chunk.
+-- All ticks of a station's engines, which have made none, may be made in these turns: in them the clocks make the
+-- record that a trace tells, and the buffers tell its answers and hold no chunk.
 pub record MayPlayAll {S : Type 0} (tells : S
     → SinkTold) (station : Station) (of : Sides) (list : List TurnMade) (trace : TraceValue)
     (running : List (ClockEngine S)) (states : List BufferState) : Type 0 where
@@ -200,8 +200,8 @@ pub record MayPlayAll {S : Type 0} (tells : S
   pub told : AreTold (base_at station) (text_of trace.buffers) states
   pub empty : (b : ℕ) → chunks_of states b ≡ []
   pub kept : AreKept states
-  pub turns : AreTurns (base_at station) station.clocks.now.running trace.window trace.ticks (text_of trace.buffers) list
-      no_ticks no_chunks
+  pub turns : AreTurns (base_at station) station.clocks.now.running trace.window trace.ticks (text_of trace.buffers)
+      list no_ticks no_chunks
 
 -- where an engine rests before its first tick, over so many buffers
 pub record IsNewRest (buffers : ℕ) (rest : Rest) : Type 0 where

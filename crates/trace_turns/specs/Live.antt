@@ -45,7 +45,8 @@ pub record MayFlow (score : Score) (W N m n : ℕ) (parts : EngineParts) (states
   pub unlost : NoneLost states
   pub may : MayGoOn score W N m n parts full ends
 
--- A clock that has made n ticks may make a few more: every call was answered so far, and of some score they may be made.
+-- A clock that has made n ticks may make a few more: every call was answered so far, and of some score they may be
+-- made.
 pub record MayMakeMore (W N n : ℕ) (parts : EngineParts) (course : Course) (states : List BufferState)
     (ends : List Ends) : Type 0 where
   pub some : 1 ≤ W
