@@ -7,11 +7,11 @@ ghost use Rattle.op_cross.specs.Runs.{run_of};
 ghost use Rattle.plan_core.specs.Plans.{HasChildren, IsInRange};
 ghost use Rattle.op_select.specs.declared.rule.Rule.{Rule as TheRule};
 ghost use Rattle.stream_meaning.specs.Operators.{Work, Eligible, Fades, Picks, Reads, Selects};
-ghost use Rattle.stretch_laws.specs.Stretches.{AreFilled, NodeGoes, NodeKeeps};
+ghost use Rattle.stretch_laws.specs.Stretches.{NodeGoes, NodeKeeps};
 ghost use Rattle.stream_meaning.specs.Instants.{Setting, Moment, demanded, gives, last_pick, part_at, part_by};
 ghost use Rattle.stream_meaning.specs.Instants.{position, second_at, work_at};
 ghost use Rattle.node_states.specs.Passing.{asked, passes};
-ghost use Rattle.node_states.specs.Stretches.{LiesAhead};
+ghost use Rattle.node_states.specs.Stretches.{HasRested, HasStood, Latest, LiesAhead};
 ghost use Rattle.node_states.specs.States.{AreLong, FadesOn, Fits, IsSettled, left, StateStands, wants};
 
 use crate::marks::mark_eligible;
@@ -201,28 +201,16 @@ impl NodeState {
         ensures within { result ≤ most }
         ensures ahead { gave ≡ true → LiesAhead library.now self.now result }
         ensures through { gave ≡ true → passes self.now ≡ true → result ≤ below }
-        ensures goes { (setting : Setting) (sub : ℕ → ℕ
-            → List TheSlot) (past : List Moment) (moment : Moment) (filled i : ℕ) (work : Work)
-            → setting.library ≡ library.now → AreLong sub
-            → StateStands setting sub (moment ∷ past) filled i work self.now
-            → ((buffer : ℕ) → work ≡ Reads buffer → filled ≡ suc (length past))
-            → part_at moment.parts i ≡ part → gives moment i ≡ gave
-            → (gave ≡ true → passes self.now ≡ true → AreFilled setting sub i filled below below_title)
-            → NodeGoes setting sub past moment i work begins result }
-        ensures keeps { (setting : Setting) (sub : ℕ → ℕ
-            → List TheSlot) (past : List Moment) (moment : Moment) (filled i : ℕ) (work : Work)
-            → setting.library ≡ library.now → AreLong sub
-            → StateStands setting sub (moment ∷ past) filled i work self.now
-            → ((buffer : ℕ) → work ≡ Reads buffer → filled ≡ suc (length past))
-            → part_at moment.parts i ≡ part → gives moment i ≡ gave
-            → (gave ≡ true → passes self.now ≡ true → AreFilled setting sub i filled below below_title)
-            → NodeKeeps setting sub past moment i work result }
-        ensures asks { (setting : Setting) (sub : ℕ → ℕ
-            → List TheSlot) (past : List Moment) (moment : Moment) (filled i overlap j : ℕ)
-            → AreLong sub → StateStands setting sub (moment ∷ past) filled i (Fades overlap) self.now
-            → gives moment i ≡ gave → gave ≡ true → (passes self.now ≡ true
-            → AreFilled setting sub i filled below below_title) → j < result
-            → run_of overlap (sub i) (suc (position past i) + j) ≡ filled + asked (passes self.now) j }
+        ensures goes { (latest : Latest) (work : Work)
+            → HasRested latest work library.now part gave below below_title self.now
+            → NodeGoes latest.setting latest.sub latest.past latest.moment latest.i work begins result }
+        ensures keeps { (latest : Latest) (work : Work)
+            → HasRested latest work library.now part gave below below_title self.now
+            → NodeKeeps latest.setting latest.sub latest.past latest.moment latest.i work result }
+        ensures asks { (latest : Latest) (overlap j : ℕ)
+            → HasStood latest (Fades overlap) gave below below_title self.now → gave ≡ true → j < result
+            → run_of overlap (latest.sub latest.i) (suc (position latest.past latest.i) + j)
+            ≡ latest.filled + asked (passes self.now) j }
     {
         match self {
             NodeState::Leaf(state) => {

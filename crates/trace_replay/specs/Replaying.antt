@@ -1,5 +1,5 @@
 -- The run of an engine, turn after turn.
-use Rattle.std.specs.Prelude.{◌≡◌, ◌<◌, ◌≤◌, ◌+◌, ◌++◌, ℕ, suc, Bool, Some, List, length, slice_get, slice_index_or}
+use Rattle.std.specs.Prelude.{◌≡◌, ◌<◌, ◌≤◌, ◌+◌, ◌++◌, ℕ, suc, Bool, Some, List, [], length, slice_get, slice_index_or}
 use Rattle.frame_core.specs.declared.cell.Cell.{Cell}
 use Rattle.liq_base.specs.Pieces.{SinkTold}
 use Rattle.frame_core.specs.Calls.{Call, Answer}
@@ -14,20 +14,20 @@ use Rattle.clock_ticks.specs.Pieces.{RoseAt}
 use Rattle.clock_ticks.specs.declared.engine.ClockEngine.{ClockEngine}
 use Rattle.clock_ticks.specs.Engines.{EngineStands, outputs_of, setting_of}
 use Rattle.clock_ticks.specs.Ticks.{HaveTicksRoom}
-use Rattle.rounds_run.specs.Rounds.{HasRunPart, HasRunTurns, world}
+use Rattle.rounds_run.specs.Rounds.{AreEngines, HasRunPart, HasRunTurns, world}
 use Rattle.trace_turns.specs.declared.course.TurnMade.{TurnMade}
 use Rattle.trace_replay.specs.declared.engines.Rest.{Rest}
 use Rattle.trace_turns.specs.declared.station.Sides.{Sides}
 use Rattle.trace_turns.specs.declared.station.Station.{Station}
 use Rattle.trace_turns.specs.declared.told.Mark.{Mark}
 use Rattle.trace_records.specs.Clocks.{HasReplayed, IsFront, Log}
-use Rattle.trace_records.specs.Passes.{AreAt, HasCome, IsMadeBy, IsTold}
+use Rattle.trace_records.specs.Passes.{AreAt, HasCome, IsFormed, IsMadeBy, IsTold}
 use Rattle.trace_turns.specs.Answering.{AllStand, BufferState}
 use Rattle.trace_turns.specs.Turns.{base_at, AreOf, AreSides, AreTold, Score, chunks_of}
 use Rattle.trace_turns.specs.Live.{IsPaused, mains}
 use Rattle.trace_turns.specs.Marks.{no_mark}
-use Rattle.trace_turns.specs.Orders.{AreTurns}
-use Rattle.trace_turns.specs.Thin.{AreFull, AreUnlost, NoneLost}
+use Rattle.trace_turns.specs.Orders.{AreTurns, no_chunks, no_ticks}
+use Rattle.trace_turns.specs.Thin.{AreFull, AreKept, AreUnlost, NoneLost}
 use Rattle.trace_records.specs.Traces.{text_of}
 use Rattle.trace_turns.specs.Timed.{timed}
 
@@ -149,6 +149,12 @@ pub record MayPlay {S : Type 0} (told : S
   pub next : ℕ → List (List Cell)
   pub come : HasCome tale.base tale.window tale.ticks tale.text m n (chunks_of full) next
 
+-- an engine that has gone on from `first` may play on from where it rests, and come to n ticks
+abbrev pub MayPlayOn : {S : Type 0} → (told : S
+    → SinkTold) → Tale → Sides → (n : ℕ) → (first now : ClockEngine S) → Rest → List BufferState → Type 0
+MayPlayOn told tale sides n first now rest states = MayPlay told tale sides now.parts.clock rest.made n
+    (progress first now rest.marks.items) states
+
 -- In its turn clock m came to n ticks, after which these chunks are there: from buffers that with all their chunks are
 -- `opening` to those that are `full`. No chunk was let go that another clock is to get.
 pub record HasPlayed {S : Type 0} (told : S
@@ -180,6 +186,23 @@ pub record ArePlaying {S : Type 0} (told : S
   pub each : (k : ℕ) (before after : ClockEngine S) (rest : Rest) → slice_get first k ≡ Some before
       → slice_get now k ≡ Some after → slice_get rests k ≡ Some rest
       → IsResting told tale sides k (made k) (progress before after rest.marks.items) full states
+
+-- All ticks of a station's engines, which have made none, may be made in these turns: in them the clocks make the
+-- record that a trace tells, and the buffers tell its answers and hold no chunk.
+pub record MayPlayAll {S : Type 0} (tells : S
+    → SinkTold) (station : Station) (of : Sides) (list : List TurnMade) (trace : TraceValue)
+    (running : List (ClockEngine S)) (states : List BufferState) : Type 0 where
+  pub few : trace.ticks ≤ 1000000000
+  pub setting : IsSetting (base_at station) station.clocks.now
+  pub sides : AreSides (base_at station) of.feeders.items of.readers.items
+  pub engines : AreEngines tells trace.ticks (base_at station) running
+  pub all : length running ≡ station.clocks.now.running
+  pub formed : IsFormed (length (base_at station).plan.buffers) trace.window trace.ticks (text_of trace.buffers)
+  pub told : AreTold (base_at station) (text_of trace.buffers) states
+  pub empty : (b : ℕ) → chunks_of states b ≡ []
+  pub kept : AreKept states
+  pub turns : AreTurns (base_at station) station.clocks.now.running trace.window trace.ticks (text_of trace.buffers)
+      list no_ticks no_chunks
 
 -- where an engine rests before its first tick, over so many buffers
 pub record IsNewRest (buffers : ℕ) (rest : Rest) : Type 0 where

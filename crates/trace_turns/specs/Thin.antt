@@ -46,6 +46,11 @@ abbrev pub AreUnlost : (readers : List ℕ) → (m : ℕ) → List Mark → List
 AreUnlost readers m marks states = (b : ℕ) (d : BufferState) (e : Mark) → b < length states
     → slice_index_or readers b 0 ≡ m → (slice_index_or states b d).gone ≤ (slice_index_or marks b e).got
 
+-- what other clocks than m are to get is not let go
+abbrev pub OthersStayUnlost : (readers : List ℕ) → (m : ℕ) → (before after : List BufferState) → Type 0
+OthersStayUnlost readers m before after = (k : ℕ) (marks : List Mark) → (k ≡ m → ⊥)
+    → AreUnlost readers k marks before → AreUnlost readers k marks after
+
 -- no chunk of any buffer was let go
 abbrev pub AreKept : List BufferState → Type 0
 AreKept states = (b : ℕ) (d : BufferState) → b < length states → (slice_index_or states b d).gone ≡ 0

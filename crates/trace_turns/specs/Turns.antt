@@ -177,6 +177,11 @@ pub record AreFit (base : Setting) (W N : ℕ) (text : ℕ
   pub formed : IsFormed (length base.plan.buffers) W N text
   pub ends_are : (b : ℕ) (e : Ends) → b < length base.plan.buffers → AreEnds (text b) (slice_index_or ends b e)
 
+-- over any plan, what the buffers told they tell still
+abbrev pub StayFit : List Ends → (W N : ℕ) → (before after : List BufferState) → Type 0
+StayFit ends W N before after = (base : Setting) (text : ℕ → Log) → AreFit base W N text before ends
+    → AreFit base W N text after ends
+
 -- the setting of a plan with its clocks, files and start second, before its buffers have answered
 abbrev pub base_at : Station → Setting
 base_at station = base_of station.plan.now station.library.now station.clocks.now station.start.second

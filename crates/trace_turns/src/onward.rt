@@ -1,17 +1,11 @@
 // A turn of a clock whose engine goes on where it stopped.
-ghost use Rattle.std.specs.Prelude.{◌≡◌, ◌≤◌, ℕ, List, length, IfOk};
-ghost use Rattle.trace_turns.specs.declared.course.Course.TheVariants.{Goes as IsGoing};
+ghost use Rattle.std.specs.Prelude.{◌≡◌, ◌≤◌, ℕ, length, IfOk};
 ghost use Rattle.trace_turns.specs.declared.onward.Reached.TheVariants.{Made as HasReached, Refused as MeetsNone};
 ghost use Rattle.trace_records.specs.Passes.{IsRefused};
-ghost use Rattle.stream_meaning.specs.Instants.{Setting};
-ghost use Rattle.stream_meaning.specs.Settings.{IsSetting};
-ghost use Rattle.clock_infer.specs.declared.clock_map.ClockMap.{ClockMap as Map};
-ghost use Rattle.trace_turns.specs.Answering.{BufferState, SameBuffers};
-ghost use Rattle.trace_records.specs.Clocks.{Log};
-ghost use Rattle.trace_turns.specs.Live.{HasFlown, HasFlownOn, IsPaused, MayFlow, mains};
-ghost use Rattle.trace_turns.specs.declared.told.Mark.{Mark as TheMark};
-ghost use Rattle.trace_turns.specs.Thin.{AreFull, AreUnlost};
-ghost use Rattle.trace_turns.specs.Turns.{AreFit, AreSides, Score, chunks_of};
+ghost use Rattle.trace_turns.specs.Answering.{SameBuffers};
+ghost use Rattle.trace_turns.specs.Live.{FullScore, HasFlown, HasResumed, MayFlow, MayMakeMore, MayResume, MayTakeTurn};
+ghost use Rattle.trace_turns.specs.Thin.{OthersStayUnlost};
+ghost use Rattle.trace_turns.specs.Turns.{Score, StayFit, chunks_of};
 ghost use Rattle.trace_turns.specs.Timed.{timed};
 
 use crate::course::Course;
@@ -173,12 +167,7 @@ pub fn go_on(
     from: u64,
     tried: bool,
 ) -> Result<Reached, Memory>
-    requires some { 1 ≤ window }
-    requires few { ticks ≤ 1000000000 }
-    requires within { from ≤ ticks }
-    requires goes { taps.old.course ≡ IsGoing }
-    requires turn { (score : Score)
-        × MayFlow score window ticks engine.old.parts.clock from engine.old.parts taps.old.buffers.items ends.now }
+    requires { MayMakeMore window ticks from engine.old.parts taps.old.course taps.old.buffers.items ends.now }
     ensures on { IfOk result (λ reached. (n : ℕ) → reached ≡ HasReached n → from ≤ n) }
     ensures within { IfOk result (λ reached. (n : ℕ) → reached ≡ HasReached n → n ≤ ticks) }
     ensures refused { IfOk result (λ reached. (score : Score) → reached ≡ MeetsNone
@@ -221,42 +210,18 @@ pub fn live_turn(
     from: u64,
     tried: bool,
 ) -> Result<Reached, Memory>
-    requires some { 1 ≤ window }
-    requires few { ticks ≤ 1000000000 }
-    requires within { from ≤ ticks }
-    requires long { length ends.now ≡ length taps.old.buffers.items }
-    requires marks { length live.old.marks.items ≡ length taps.old.buffers.items }
-    requires turn { (base : Setting) × (clocks : Map) × (text : ℕ → Log) × (full : List BufferState)
-        × IsSetting base clocks × AreSides base sides.now.feeders.items sides.now.readers.items
-        × AreFit base window ticks text taps.old.buffers.items ends.now × AreFull taps.old.buffers.items full
-        × AreUnlost sides.now.readers.items live.old.engine.parts.clock live.old.marks.items taps.old.buffers.items
-        × IsPaused base (timed text window ticks) (mains sides.now.feeders.items sides.now.readers.items)
-        live.old.engine.parts.clock from live.old.engine.parts live.old.marks.items full }
+    requires { MayTakeTurn sides.now ends.now window ticks from live.old taps.old.buffers.items }
     ensures on { IfOk result (λ reached. (n : ℕ) → reached ≡ HasReached n → from ≤ n) }
     ensures within { IfOk result (λ reached. (n : ℕ) → reached ≡ HasReached n → n ≤ ticks) }
-    ensures refused { IfOk result (λ reached. (base : Setting) (clocks : Map) (text : ℕ
-        → Log) (full : List BufferState) → reached ≡ MeetsNone → IsSetting base clocks
-        → AreSides base sides.now.feeders.items sides.now.readers.items
-        → AreFit base window ticks text taps.old.buffers.items ends.now → AreFull taps.old.buffers.items full
-        → AreUnlost sides.now.readers.items live.old.engine.parts.clock live.old.marks.items taps.old.buffers.items
-        → IsPaused base (timed text window ticks) (mains sides.now.feeders.items sides.now.readers.items)
-        live.old.engine.parts.clock from live.old.engine.parts live.old.marks.items full
-        → IsRefused base window ticks text (chunks_of full) live.old.engine.parts.clock) }
-    ensures gone { IfOk result (λ reached. (n : ℕ) (base : Setting) (clocks : Map) (text : ℕ
-        → Log) (full : List BufferState) → reached ≡ HasReached n → IsSetting base clocks
-        → AreSides base sides.now.feeders.items sides.now.readers.items
-        → AreFit base window ticks text taps.old.buffers.items ends.now → AreFull taps.old.buffers.items full
-        → AreUnlost sides.now.readers.items live.old.engine.parts.clock live.old.marks.items taps.old.buffers.items
-        → IsPaused base (timed text window ticks) (mains sides.now.feeders.items sides.now.readers.items)
-        live.old.engine.parts.clock from live.old.engine.parts live.old.marks.items full
-        → HasFlownOn base (timed text window ticks) (mains sides.now.feeders.items sides.now.readers.items)
-        live.old.engine.parts.clock n live.new.engine.parts live.new.marks.items full taps.new.buffers.items) }
-    ensures stays { IfOk result (λ reached. (k : ℕ) (marks : List TheMark) → (k ≡ live.old.engine.parts.clock → ⊥)
-        → AreUnlost sides.now.readers.items k marks taps.old.buffers.items
-        → AreUnlost sides.now.readers.items k marks taps.new.buffers.items) }
-    ensures fit { IfOk result (λ reached. (base : Setting) (text : ℕ → Log)
-        → AreFit base window ticks text taps.old.buffers.items ends.now
-        → AreFit base window ticks text taps.new.buffers.items ends.now) }
+    ensures refused { IfOk result (λ reached. (score : FullScore) → reached ≡ MeetsNone
+        → MayResume score sides.now ends.now window ticks from live.old taps.old.buffers.items
+        → IsRefused score.base window ticks score.text (chunks_of score.full) live.old.engine.parts.clock) }
+    ensures gone { IfOk result (λ reached. (n : ℕ) (score : FullScore) → reached ≡ HasReached n
+        → MayResume score sides.now ends.now window ticks from live.old taps.old.buffers.items
+        → HasResumed score sides.now window ticks live.old.engine.parts.clock n live.new taps.new.buffers.items) }
+    ensures stays { IfOk result (λ reached. OthersStayUnlost sides.now.readers.items live.old.engine.parts.clock
+        taps.old.buffers.items taps.new.buffers.items) }
+    ensures fit { IfOk result (λ reached. StayFit ends.now window ticks taps.old.buffers.items taps.new.buffers.items) }
     ensures many { IfOk result (λ reached. length taps.new.buffers.items ≡ length taps.old.buffers.items) }
     ensures marks { IfOk result (λ reached. length live.new.marks.items ≡ length live.old.marks.items) }
 {
