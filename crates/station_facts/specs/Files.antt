@@ -58,6 +58,10 @@ entries_in (list_look.Names names skipped) = names.items
 abbrev pub once : List (List ℕ) → List (List ℕ)
 once names = insert_all bytes_eq [] names
 
+-- a plan plays no file, and has no list
+abbrev pub HasNoFiles : Plan → Type 0
+HasNoFiles plan = (lists plan.nodes ≡ []) × (singles plan.nodes ≡ [])
+
 -- the lists of a plan, each once
 abbrev pub lists_of : Plan → List (List ℕ)
 lists_of plan = once (lists plan.nodes)

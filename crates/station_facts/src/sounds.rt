@@ -26,6 +26,7 @@ pub fn look_at_lists<S: Shelf>(
 ) -> Result<Vec<ListLook>, Memory>
     ensures looks { IfOk result (λ looks. AreListLooks names.now (S.told shelf.old) (S.told shelf.new) looks.items) }
     ensures shelf { OnlyRead (S.told shelf.old) (S.told shelf.new) }
+    ensures untouched { names.now ≡ [] → shelf.new ≡ shelf.old }
 {
     let mut looks = Vec::new(alloc);
     for name in names {
@@ -45,6 +46,7 @@ pub fn look_at_sounds<S: Shelf>(
     requires { AreRules rules }
     ensures looks { IfOk result (λ looks. AreLooks rules names.now (S.told shelf.old) (S.told shelf.new) looks.items) }
     ensures shelf { OnlyRead (S.told shelf.old) (S.told shelf.new) }
+    ensures untouched { names.now ≡ [] → shelf.new ≡ shelf.old }
 {
     let mut looks = Vec::new(alloc);
     for name in names {
