@@ -8,6 +8,7 @@ import os
 import resource
 import shutil
 import subprocess
+import sys
 import threading
 
 from lib.common import TOP, content, header, left_samples, sound
@@ -390,23 +391,46 @@ def parts_are_joined_where_they_lie(place):
         place.wants(f"the bytes of {name}", held(place, name) == held(place, name.replace("B", "e/A")), True)
 
 
+# A night to which calls are refused once A.wav is replaced: those of a function whose words are meant.
+REFUSING = """import builtins, fcntl, os, sys
+sys.argv = {words!r}
+replace, done = os.replace, []
+def replacing(*words, **more):
+    if os.fsdecode(words[1]).endswith("A.wav"):
+        done.append(1)
+    return replace(*words, **more)
+def refused(call, is_meant):
+    def refusing(*words, **more):
+        if done and is_meant(*words):
+            raise OSError(5, "refused")
+        return call(*words, **more)
+    return refusing
+os.replace = replacing
+{function} = refused({function}, lambda *words: {meant})
+exec(compile(open(sys.argv[0]).read(), sys.argv[0], "exec"), dict(__name__="__main__", __file__=sys.argv[0]))
+"""
+
+
 def refused_behind_the_replacing(place):
-    """Where the system refuses a call behind the replacing, the night is there, and the status says so."""
-    for name in ("unlink", "listdir", "rmdir"):
+    """Where the system refuses a call behind the replacing, the night is there, and the status says so; so it is with the calls that
+    end the use of a cache."""
+    data = bytes([100]) * (4 * RATE)
+    write_file(place.folder, "e.wav", header(len(data), rate=RATE, width=1) + data)
+    write_file(place.folder, "m.m3u", "e.wav\nt0.wav\n")
+    has_cache = bool(shutil.which("ffmpeg"))
+    words = [NIGHT, f"--program={place.program}", "--cache=cache", "f", "0.002"]
+    for function, meant in (("os.unlink", "True"), ("os.listdir", "True"), ("os.rmdir", "True"), ("fcntl.flock", "True"),
+                            ("builtins.open", "set('wa+') & set(words[1] if len(words) > 1 else '')")):
         write_file(place.folder, "A.wav", "old")
-        with_fault = (f"import os, sys\nsys.argv = ['liq-night', '--program={place.program}', 'f', '0.002']\n"
-                      f"call, done = os.{name}, []\nreplace = os.replace\n"
-                      "def replacing(*words, **more):\n    done.append(1)\n    return replace(*words, **more)\n"
-                      "def refusing(*words, **more):\n    if done:\n        raise OSError(5, 'refused')\n"
-                      f"    return call(*words, **more)\nos.replace, os.{name} = replacing, refusing\n"
-                      f"exec(compile(open({NIGHT!r}).read(), {NIGHT!r}, 'exec'), {{'__name__': '__main__', '__file__': {NIGHT!r}}})")
-        done = subprocess.run(["python3", "-X", "utf8", "-c", with_fault], cwd=place.folder, capture_output=True, text=True,
+        code = REFUSING.format(words=words, function=function, meant=meant)
+        done = subprocess.run([sys.executable, "-X", "utf8", "-c", code], cwd=place.folder, capture_output=True, text=True,
                               check=False, stdin=subprocess.DEVNULL)
-        place.wants(f"where {name} is refused", (done.returncode, content(place.path("A.wav"))[:4], "Traceback" in done.stderr),
-                    (0, b"RIFF", False))
+        place.wants(f"where {function} is refused", (done.returncode, held(place, "A.wav")[:4], done.stderr), (0, b"RIFF", ""))
+        place.wants("what is played", played(place)[:1], ["e.wav"] if has_cache else ["t0.wav"])
         shutil.rmtree(place.path(".night-A.wav"), ignore_errors=True)
 
 
 RUNS = (lists_that_share, a_length_that_is_told_too_long, the_same_night_once_more, a_day_of_another_script,
         what_cannot_be_read, a_single_that_is_gone, a_script_that_is_refused, what_was_next_is_gone, places_that_are_none, a_cache_of_zeros, a_name_with_a_tab, an_entry_that_goes,
-        what_is_damaged_is_told, a_night_asks_for_heads, one_loudness_for_all, a_report, behind_a_crossfade, two_nights_over_one_cache, parts_are_joined_where_they_lie, refused_behind_the_replacing)
+        what_is_damaged_is_told, a_night_asks_for_heads, one_loudness_for_all, a_report, behind_a_crossfade, two_nights_over_one_cache,
+        parts_are_joined_where_they_lie, refused_behind_the_replacing)
