@@ -401,12 +401,12 @@ def replacing(*words, **more):
     return replace(*words, **more)
 def refused(call, is_meant):
     def refusing(*words, **more):
-        if done and is_meant(*words):
+        if done and is_meant(*words, **more):
             raise OSError(5, "refused")
         return call(*words, **more)
     return refusing
 os.replace = replacing
-{function} = refused({function}, lambda *words: {meant})
+{function} = refused({function}, lambda *words, **more: {meant})
 exec(compile(open(sys.argv[0]).read(), sys.argv[0], "exec"), dict(__name__="__main__", __file__=sys.argv[0]))
 """
 
@@ -418,14 +418,22 @@ def refused_behind_the_replacing(place):
     write_file(place.folder, "e.wav", header(len(data), rate=RATE, width=1) + data)
     write_file(place.folder, "m.m3u", "e.wav\nt0.wav\n")
     has_cache = bool(shutil.which("ffmpeg"))
-    words = [NIGHT, f"--program={place.program}", "--cache=cache", "f", "0.002"]
+    if has_cache:                               # a sound of which a line is told behind the replacing
+        whole = content(place.path("t7.wav"))
+        subprocess.run(["ffmpeg", "-v", "error", "-f", "wav", "-i", "pipe:0", place.path("c.mp3")], input=whole, check=True)
+        write_file(place.folder, "c.mp3", content(place.path("c.mp3"))[:20000])
+        write_file(place.folder, "m.m3u", "e.wav\nc.mp3\nt0.wav\n")
+    words = [NIGHT, f"--program={place.program}", "--cache=cache", "f", "0.003"]
     for function, meant in (("os.unlink", "True"), ("os.listdir", "True"), ("os.rmdir", "True"), ("fcntl.flock", "True"),
+                            ("builtins.print", "'damaged' in words[0] and 'file' not in more"),
                             ("builtins.open", "set('wa+') & set(words[1] if len(words) > 1 else '')")):
         write_file(place.folder, "A.wav", "old")
         code = REFUSING.format(words=words, function=function, meant=meant)
         done = subprocess.run([sys.executable, "-X", "utf8", "-c", code], cwd=place.folder, capture_output=True, text=True,
                               check=False, stdin=subprocess.DEVNULL)
-        place.wants(f"where {function} is refused", (done.returncode, held(place, "A.wav")[:4], done.stderr), (0, b"RIFF", ""))
+        wanted = "night: standard output: refused" if function == "builtins.print" and has_cache else ""
+        place.wants(f"where {function} is refused", (done.returncode, held(place, "A.wav")[:4], done.stderr.partition(";")[0]),
+                    (0, b"RIFF", wanted))
         place.wants("what is played", played(place)[:1], ["e.wav"] if has_cache else ["t0.wav"])
         shutil.rmtree(place.path(".night-A.wav"), ignore_errors=True)
 
