@@ -78,7 +78,8 @@ def a_length_that_is_told_too_long(place):
 
 
 def the_same_night_once_more(place):
-    """A night with a start that is rendered twice plays the same; the next one goes on behind it."""
+    """A night with a start that is rendered twice plays the same, also where a later one was made meanwhile; that one stays, and the
+    next one goes on behind it."""
     first = place.night("--go-on", TODAY, "f", "0.02") and played(place)
     again = place.night("--go-on", TODAY, "f", "0.02") and played(place)
     place.wants("the same night", again, first)
@@ -86,6 +87,14 @@ def the_same_night_once_more(place):
     place.wants("the night behind it", played(place)[:1], [f"t{len(first)}.wav"])
     place.wants("its start", held(place, "A.wav.start").decode()[:19],
                 f"{datetime.date.today() + datetime.timedelta(1)}T20:00:00")
+    behind = played(place)
+    for start, wanted in ((TODAY, first), ("--start=tomorrow:20:00", behind), (TODAY, first)):
+        place.night("--go-on", start, "f", "0.02")
+        place.wants(f"once more of {start}", played(place), wanted)
+    place.night("--go-on", f"--start={datetime.date.today() + datetime.timedelta(2)}:20:00", "f", "0.01")
+    place.wants("the night behind both", played(place)[:1], [f"t{(len(first) + len(behind)) % 10}.wav"])
+    place.night("--go-on", "f", "0.01")
+    place.wants("a night without a start", played(place)[:1] != first[:1], True)
 
 
 def a_day_of_another_script(place):
