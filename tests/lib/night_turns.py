@@ -19,6 +19,7 @@ from lib.stations import cues_in, write_file
 
 PAGE = os.path.join(TOP, "bin", "liq-page")
 TODAY = "--start=today:20:00"
+BERLIN = "CET-1CEST,M3.5.0,M10.5.0/3"          # a time zone, for the library of C
 
 
 def short_songs(place, count, seconds=2):
@@ -95,6 +96,45 @@ def the_same_night_once_more(place):
     place.wants("the night behind both", played(place)[:1], [f"t{(len(first) + len(behind)) % 10}.wav"])
     place.night("--go-on", "f", "0.01")
     place.wants("a night without a start", played(place)[:1] != first[:1], True)
+
+
+# A night whose files may have so many bytes.
+SMALL = """import sys
+sys.path.insert(0, {modules!r})
+from liq.command import run
+from liq.nights import parts
+from liq.nights.command import main
+parts.MOST = {most}
+run(main, "", "night")
+"""
+
+
+def clocks_that_are_changed(place):
+    """A night in which the clocks are set forward or back has each part at its moment, with the hour of that; the night of the day after
+    goes on behind it."""
+    code = SMALL.format(modules=os.path.join(TOP, "share", "liq"), most=500000)
+    for first, moments in (("2026-03-29:01:59:50", ("2026-03-29T01:59:50+01:00", "2026-03-29T03:00:")),
+                           ("2026-10-25:02:59:50", ("2026-10-25T02:59:50+02:00", "2026-10-25T02:00:"))):
+        names = []
+        for start, hours in ((first, "0.02"), (first[:10].replace("-29", "-30").replace("-25", "-26") + ":20:00", "0.01")):
+            words = [f"--program={place.program}", f"--start={start}", "--go-on", "--part=0.006", "f", hours]
+            done = subprocess.run([sys.executable, "-X", "utf8", "-c", code, *words], cwd=place.folder, capture_output=True, text=True,
+                                  check=False, stdin=subprocess.DEVNULL, env={**os.environ, "TZ": BERLIN})
+            place.wants(f"the night of {start}", (done.returncode, done.stderr), (0, ""))
+            found = [name for name in ("A-1.wav", "A-2.wav", "A-3.wav") if os.path.exists(place.path(name))]
+            if hours == "0.02":
+                told = [held(place, name + ".start").decode().strip() for name in found]
+                seconds = [datetime.datetime.fromisoformat(text).timestamp() for text in told]
+                lengths = [(len(held(place, name)) - 44) / (2 * RATE) for name in found]
+                place.wants("the parts", (len(found) > 1, told[0], told[1][:len(moments[1])]), (True, *moments))
+                place.wants("their moments", [round(b - a, 5) for a, b in zip(seconds, seconds[1:])], [round(length, 5) for length in lengths[:-1]])
+                names += [title for name in found for title in played(place, name + ".cue")]
+            else:
+                names += played(place)
+        place.wants("what is played", names, [f"t{[0, 1, 2, 3, 4, 5, 6, 7, 2, 2][k % 10]}.wav" for k in range(len(names))])
+        for name in os.listdir(place.folder):
+            if name.startswith("A"):
+                os.remove(place.path(name))
 
 
 def a_day_of_another_script(place):
@@ -447,7 +487,7 @@ def refused_behind_the_replacing(place):
         shutil.rmtree(place.path(".night-A.wav"), ignore_errors=True)
 
 
-RUNS = (lists_that_share, a_length_that_is_told_too_long, the_same_night_once_more, a_day_of_another_script,
+RUNS = (lists_that_share, a_length_that_is_told_too_long, the_same_night_once_more, clocks_that_are_changed, a_day_of_another_script,
         what_cannot_be_read, a_single_that_is_gone, a_script_that_is_refused, what_was_next_is_gone, places_that_are_none, a_cache_of_zeros, a_name_with_a_tab, an_entry_that_goes,
         what_is_damaged_is_told, a_night_asks_for_heads, one_loudness_for_all, a_report, behind_a_crossfade, two_nights_over_one_cache,
         parts_are_joined_where_they_lie, refused_behind_the_replacing)
