@@ -127,7 +127,7 @@ def clocks_that_are_changed(place):
                 seconds = [datetime.datetime.fromisoformat(text).timestamp() for text in told]
                 lengths = [(len(held(place, name)) - 44) / (2 * RATE) for name in found]
                 place.wants("the parts", (len(found) > 1, told[0], told[1][:len(moments[1])]), (True, *moments))
-                place.wants("their moments", [round(b - a, 5) for a, b in zip(seconds, seconds[1:])], [round(length, 5) for length in lengths[:-1]])
+                place.wants("their moments", [round(b - a, 4) for a, b in zip(seconds, seconds[1:])], [round(length, 4) for length in lengths[:-1]])
                 names += [title for name in found for title in played(place, name + ".cue")]
             else:
                 names += played(place)
