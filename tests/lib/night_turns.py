@@ -336,6 +336,19 @@ def a_night_asks_for_heads(place):
     place.wants("seconds of a processor", seconds < 6, True)
 
 
+def nothing_is_asked_twice(place):
+    """A night asks the companion once what becomes of the files of the script, and once for its tokens."""
+    program = place.slow()
+    real = os.path.realpath(place.path("slow", "about_program"))
+    os.remove(place.path("slow", "about_program"))
+    write_file(place.folder, "slow/about_program", f"#!/bin/sh\necho \"$*\" >> '{place.path('asked')}'\nexec '{real}' \"$@\"\n")
+    os.chmod(place.path("slow", "about_program"), 0o755)
+    status, _, said = place.run("f", "0.01", program=program)
+    place.wants("the night", (status, said), (0, ""))
+    calls = collections.Counter(held(place, "asked").decode().split("\n"))
+    place.wants("what is asked", (calls["files f"], calls["tokens f"]), (1, 1))
+
+
 def one_loudness_for_all(place):
     """With --loudness each entry of a list has that loudness, a WAV file too; what a single plays stays as it is."""
     if not shutil.which("ffmpeg"):
@@ -489,5 +502,6 @@ def refused_behind_the_replacing(place):
 
 RUNS = (lists_that_share, a_length_that_is_told_too_long, the_same_night_once_more, clocks_that_are_changed, a_day_of_another_script,
         what_cannot_be_read, a_single_that_is_gone, a_script_that_is_refused, what_was_next_is_gone, places_that_are_none, a_cache_of_zeros, a_name_with_a_tab, an_entry_that_goes,
-        what_is_damaged_is_told, a_night_asks_for_heads, one_loudness_for_all, a_report, behind_a_crossfade, two_nights_over_one_cache,
+        what_is_damaged_is_told, a_night_asks_for_heads, nothing_is_asked_twice, one_loudness_for_all, a_report, behind_a_crossfade,
+        two_nights_over_one_cache,
         parts_are_joined_where_they_lie, refused_behind_the_replacing)

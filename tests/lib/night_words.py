@@ -242,13 +242,16 @@ def settings_of_any_form(place):
 
 
 def units_are_right(place):
-    """systemd takes the units of share/liq/systemd."""
+    """systemd takes the units of share/liq/systemd. Each wants its disk, and those of the air are begun again."""
     if not shutil.which("systemd-analyze"):
         raise Skipped("systemd-analyze is missing")
     for path in glob.glob(os.path.join(UNITS, "*")):
         text = content(path).decode().replace("/usr/bin/liq-", os.path.join(TOP, "bin", "liq-"))
         write_file(place.folder, os.path.basename(path), text)
         place.wants(f"a disk that is not mounted is no failure by {os.path.basename(path)}", "ConditionPath" in text, False)
+    for name, is_kept in (("liq-night@", False), ("liq-prepare@", False), ("liq-air@", True), ("liq-station@", True)):
+        place.wants(f"the mounts of {name}", called_by(f"{name}.service", "RequiresMountsFor") != [], True)
+        place.wants(f"whether {name} is begun again", called_by(f"{name}.service", "Restart"), ["always"] * is_kept)
     names = sorted(name.replace("@.", "@f.") for name in os.listdir(place.folder)
                    if name.endswith((".service", ".timer")))
     for name in names:

@@ -71,15 +71,17 @@ def facts_of_names(companion: Companion, names: Names) -> Optional[Facts]:
     return None if isinstance(facts, Refused) else facts
 
 
-def findings_of(file: str, program: str, more: Sequence[More], facts: Optional[Facts] = None) -> Iterator[str]:
+def findings_of(file: str, program: str, more: Sequence[More], facts: Optional[Facts] = None,
+                companion: Optional[Companion] = None) -> Iterator[str]:
     """What is found of a script, over the built program and its companion beside it. `more` makes the names of other
-    files that `render` is to write of those of the outputs; `facts` are those of the script, where they are known."""
+    files that `render` is to write of those of the outputs; `facts` are those of the script, where they are known, and so is
+    a companion that may remember some."""
     trouble = trouble_of(file)
     if trouble:
         yield Finding(f"script {shown(file)}: {trouble}")
         return
     try:
-        companion = companion_of(program)
+        companion = companion or companion_of(program)
         facts = facts or facts_of(companion, file)
     except NoAnswer as error:
         yield Finding(f"liq cannot be asked: {error}")

@@ -25,11 +25,11 @@ from liq.watching.names import shown
 SOUNDS = os.path.join("liq", "sounds")         # the cache below the folder for caches of a user
 
 
-def examine_files(file: str, program: str, facts: Optional[Facts], found: Found) -> None:
+def examine_files(file: str, program: str, companion: Companion, facts: Optional[Facts], found: Found) -> None:
     """Tells what the doctor finds. That all sounds are too many for one call (E24) is nothing here, as parts play
     fewer."""
     is_much = False
-    for line in findings_of(file, program, [lambda outputs: [f"{name}.cue" for name in outputs]], facts):
+    for line in findings_of(file, program, [lambda outputs: [f"{name}.cue" for name in outputs]], facts, companion):
         is_much |= line.startswith("liq refuses the script: E24 ")
         weight = getattr(line, "weight", None)
         if is_much and line.startswith(("liq refuses", "  ")):
@@ -101,7 +101,7 @@ def looked_at(call: words.Call, file: str, program: str, companion: Companion) -
             found.tell(line)
     cache = cache_of(call, facts, found) if facts else None
     try:
-        examine_files(file, program, facts_seen(facts, cache, found), found)
+        examine_files(file, program, companion, facts_seen(facts, cache, found), found)
         return facts, lack, cache, found
     except BaseException:
         close(cache)

@@ -68,7 +68,7 @@ class Night(NamedTuple):
 
 def text_of(nights: List[Night], keeps_more: bool) -> str:
     """What a file tells of these nights, the last one first. Of that one alone the entries behind its places are kept."""
-    told = {"is": KIND, **nights[0].told(keeps_more)}
+    told: Dict[str, object] = {"is": KIND, **nights[0].told(keeps_more)}
     return json.dumps({**told, "earlier": [night.told(False) for night in nights[1:]]}, indent=1) + "\n"
 
 
