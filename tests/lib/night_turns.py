@@ -228,6 +228,18 @@ def what_was_next_is_gone(place):
                 True)
 
 
+def a_list_that_loses_most(place):
+    """Where a list loses its middle, with what was next and far more behind it, it goes on with the first one behind that, so that no
+    song comes again before those that are left."""
+    names = short_songs(place, 60)
+    write_file(place.folder, "m.m3u", "".join(name + "\n" for name in names))
+    place.night("--go-on", TODAY, "f", "0.0166")
+    place.wants("the first night", played(place), names[:30])
+    write_file(place.folder, "m.m3u", "".join(name + "\n" for name in names[:10] + names[53:]))
+    place.night("--go-on", "--start=tomorrow:20:00", "f", "0.005")
+    place.wants("the night behind it", played(place), [*names[53:], names[0], names[1]])
+
+
 def places_that_are_none(place):
     """An empty or broken NAME.next is told and kept under another name; the night is there."""
     for k, text in enumerate((b"", b"my notes", b"\0" * 512, b'{"is": "lists of a night", "next": {"m.m3u": {"entry": "t0.wav", '
@@ -501,7 +513,7 @@ def refused_behind_the_replacing(place):
 
 
 RUNS = (lists_that_share, a_length_that_is_told_too_long, the_same_night_once_more, clocks_that_are_changed, a_day_of_another_script,
-        what_cannot_be_read, a_single_that_is_gone, a_script_that_is_refused, what_was_next_is_gone, places_that_are_none, a_cache_of_zeros, a_name_with_a_tab, an_entry_that_goes,
+        what_cannot_be_read, a_single_that_is_gone, a_script_that_is_refused, what_was_next_is_gone, a_list_that_loses_most, places_that_are_none, a_cache_of_zeros, a_name_with_a_tab, an_entry_that_goes,
         what_is_damaged_is_told, a_night_asks_for_heads, nothing_is_asked_twice, one_loudness_for_all, a_report, behind_a_crossfade,
         two_nights_over_one_cache,
         parts_are_joined_where_they_lie, refused_behind_the_replacing)

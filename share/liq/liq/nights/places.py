@@ -14,7 +14,7 @@ from liq.watching.names import shown
 
 KIND = "lists of a night"
 MOST = 1000            # lists of which the places are kept
-THEN = 20              # entries behind a place that are kept
+THEN, FEW = 10000, 20  # entries behind a place that are kept, and so many where a file would be too large
 NIGHTS = 14            # nights of which the places are kept
 LARGEST = 1 << 24      # bytes of such a file
 
@@ -59,17 +59,17 @@ class Night(NamedTuple):
         start = told.get("start")
         return Night(None if start is None else str(start), places_in(told.get("before", {})), places_in(told["next"]))
 
-    def told(self, keeps_more: bool) -> Dict[str, object]:
-        """The night as a file tells it, with or without the entries behind its places."""
-        behind, before = ({name: (place if keeps_more else place._replace(then=())).told() for name, place in one.items()}
+    def told(self, most: int) -> Dict[str, object]:
+        """The night as a file tells it, with so many entries behind its places at most."""
+        behind, before = ({name: place._replace(then=place.then[:most]).told() for name, place in one.items()}
                           for one in (self.behind, self.before))
         return {"start": self.start, "next": behind, "before": before}
 
 
-def text_of(nights: List[Night], keeps_more: bool) -> str:
-    """What a file tells of these nights, the last one first. Of that one alone the entries behind its places are kept."""
-    told: Dict[str, object] = {"is": KIND, **nights[0].told(keeps_more)}
-    return json.dumps({**told, "earlier": [night.told(False) for night in nights[1:]]}, indent=1) + "\n"
+def text_of(nights: List[Night], most: int) -> str:
+    """What a file tells of these nights, the last one first. Of that one alone so many entries behind its places are kept."""
+    told: Dict[str, object] = {"is": KIND, **nights[0].told(most)}
+    return json.dumps({**told, "earlier": [night.told(0) for night in nights[1:]]}, indent=1) + "\n"
 
 
 class Places:
@@ -122,8 +122,8 @@ class Places:
         nights = [this, *(night for night in self.nights if night.start is not None)]
         if self.again is not None:
             nights = [*self.nights[:self.again], this, *self.nights[self.again + 1:]]
-        texts = (text_of(nights[:count], keeps_more) for count, keeps_more in ((NIGHTS, True), (NIGHTS, False), (1, False)))
-        return next((text for text in texts if len(text) <= LARGEST), text_of([this], False))
+        texts = (text_of(nights[:count], most) for count, most in ((NIGHTS, THEN), (NIGHTS, FEW), (NIGHTS, 0), (1, 0)))
+        return next((text for text in texts if len(text) <= LARGEST), text_of([this], 0))
 
     def kept_path(self) -> str:
         """Where a file is kept that no night made."""
