@@ -42,7 +42,7 @@ class Log:
         return {"track": row and [*row, round(self.seconds, 1)]}
 
     def resume(self, state: Dict[str, Any]) -> None:
-        """Adds the track that was on the air when the run before was killed, unless it was over and is there already."""
+        """Adds the track that was on the air when the run before was killed, unless it was over and is there."""
         track = state.get("track")
         if isinstance(track, list) and len(track) == len(HEAD) and isinstance(track[-1], (int, float)):
             row = list(map(str, track[:-1]))

@@ -74,8 +74,8 @@ def facts_of_names(companion: Companion, names: Names) -> Optional[Facts]:
 def findings_of(file: str, program: str, more: Sequence[More], facts: Optional[Facts] = None,
                 companion: Optional[Companion] = None) -> Iterator[str]:
     """What is found of a script, over the built program and its companion beside it. `more` makes the names of other
-    files that `render` is to write of those of the outputs; `facts` are those of the script, where they are known, and so is
-    a companion that may remember some."""
+    files that `render` is to write of those of the outputs; `facts` are those of the script, where they are known, and so
+    is a companion that may remember some."""
     trouble = trouble_of(file)
     if trouble:
         yield Finding(f"script {shown(file)}: {trouble}")

@@ -47,8 +47,8 @@ def stop(process: "subprocess.Popen[bytes]") -> None:
 def why_not_mailed(to: str, subject: str, text: str) -> str:
     """Mails a text by the command `mail`; why that was not possible, or nothing."""
     try:
-        done = subprocess.run(["mail", "-s", subject, to], input=text.encode(errors="surrogateescape"), stdout=subprocess.DEVNULL,
-                              stderr=subprocess.DEVNULL, check=False, timeout=PATIENCE)
+        done = subprocess.run(["mail", "-s", subject, to], input=text.encode(errors="surrogateescape"), check=False,
+                              stdout=subprocess.DEVNULL, stderr=subprocess.DEVNULL, timeout=PATIENCE)
         return f"mail ends with {done.returncode}" if done.returncode else ""
     except subprocess.TimeoutExpired:
         return "mail does not end"

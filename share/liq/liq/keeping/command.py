@@ -42,7 +42,7 @@ def show(text: str) -> None:
 
 
 class Call(NamedTuple):
-    """A call: the folder, whether the work is done once, for how many nights, and whether it prints only what is found."""
+    """A call: the folder, whether it is done once, for how many nights, and whether only what is found is printed."""
     folder: str
     is_once: bool
     nights: Optional[int]

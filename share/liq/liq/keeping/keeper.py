@@ -67,7 +67,8 @@ class Keeper:
         found = [*report.get("found", []), *said]
         removed = shelf.prune(datetime.datetime.now(), self.settings.keep)
         said += [f"{removed} old night{'s' * (removed != 1)} removed"] if removed else []
-        self.tell(f"{start:%Y-%m-%d %H:%M}: {told_of(report, status)}" + "".join(f"; {text}" for text in said), found, status != 0)
+        line = f"{start:%Y-%m-%d %H:%M}: {told_of(report, status)}" + "".join(f"; {text}" for text in said)
+        self.tell(line, found, status != 0)
         return status == 0
 
     def tell(self, line: str, found: Sequence[str] = (), is_bad: bool = False) -> None:
@@ -77,7 +78,8 @@ class Keeper:
         if self.settings.mail and (found or is_bad) and line != self.mailed:
             self.mailed = line
             text = "".join(shown(one) + "\n" for one in [line, *found])
-            why = children.why_not_mailed(self.settings.mail, f"{self.settings.name}: {'no night' if is_bad else 'a night'}", text)
+            subject = f"{self.settings.name}: {'no night' if is_bad else 'a night'}"
+            why = children.why_not_mailed(self.settings.mail, subject, text)
             if why:
                 self.say(why)
 

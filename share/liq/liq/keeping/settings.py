@@ -88,7 +88,8 @@ READERS: Dict[str, Tuple[Reader, str]] = {
     "rate": (read_whole(*RATES), f"a number of samples from {RATES[0]} to {RATES[1]}"), "prune": (read_choice, "yes or no"),
     "bitrate": (read_whole(32, 320), "a number of kilobits, as 128"), "repeat": (read_choice, "yes or no"),
     "address": (read_address, "an address as http://127.0.0.1:8000/air.mp3"),
-    "call": (read_address, "an address as https://example.org/x"), "mail": (read_mail, "a user or an address as radio@example.org")}
+    "call": (read_address, "an address as https://example.org/x"),
+    "mail": (read_mail, "a user or an address as radio@example.org")}
 NEEDED = ("script", "start", "hours")
 
 

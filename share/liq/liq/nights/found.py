@@ -60,7 +60,8 @@ class Report:
 
     def kept(self, text: str) -> str:
         """Why there is no night. Where this one ended what a killed one had begun, outputs are new by that."""
-        return text.replace(KEPT, f"new, as of the night that was killed: {', '.join(map(shown, self.put))}") if self.put else text
+        told = f"new, as of the night that was killed: {', '.join(map(shown, self.put))}"
+        return text.replace(KEPT, told) if self.put else text
 
     def write(self, status: int, error: str = "") -> Optional[str]:
         """Adds the line to the file, where there is one; why that cannot be."""

@@ -1,9 +1,9 @@
 """Where a night left its lists: NAME.next, put in place together with the outputs.
 
-It has the places of the lists behind the night, those before it, and when it began; the same of some nights that were made before
-it. So the same night once more begins where it began before, and the nights behind it stay as they are. The places of lists that
-another script plays are kept. A place has the entries behind it, too, so that a list from which the next one was taken away goes
-on with the one that comes then.
+It has the places of the lists behind the night, those before it, and when it began; the same of some nights that were
+made before it. So the same night once more begins where it began before, and the nights behind it stay as they are. The
+places of lists that another script plays are kept. A place has the entries behind it, too, so that a list from which the
+next one was taken away goes on with the one that comes then.
 """
 import json
 import os
@@ -67,7 +67,7 @@ class Night(NamedTuple):
 
 
 def text_of(nights: List[Night], most: int) -> str:
-    """What a file tells of these nights, the last one first. Of that one alone so many entries behind its places are kept."""
+    """What a file tells of these nights, the last one first. Of that one alone entries behind its places are kept."""
     told: Dict[str, object] = {"is": KIND, **nights[0].told(most)}
     return json.dumps({**told, "earlier": [night.told(0) for night in nights[1:]]}, indent=1) + "\n"
 

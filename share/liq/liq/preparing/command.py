@@ -87,7 +87,8 @@ def gone_text(work: Work, found: Found, prunes: bool) -> str:
     if not gone:
         return ""
     place = "in old lists" if work.old_lists() else "in no list"
-    return f"{gone} sound{'s are' if gone > 1 else ' is'} no more there; what was made is left, {place}; --prune removes it"
+    are = "s are" if gone > 1 else " is"
+    return f"{gone} sound{are} no more there; what was made is left, {place}; --prune removes it"
 
 
 def prepared(source: str, out: str, options: Options, companion: Companion, limits: Facts) -> Tuple[List[str], int]:

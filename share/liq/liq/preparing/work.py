@@ -289,12 +289,14 @@ class Work:
 
     def old_lists(self) -> List[str]:
         """The lists that were made before, and are written no more."""
-        return sorted(name for name in self.record.made if name.endswith(".m3u") and name not in self.written and self.record.is_own(name))
+        return sorted(name for name in self.record.made
+                      if name.endswith(".m3u") and name not in self.written and self.record.is_own(name))
 
     def tell_old_lists(self) -> None:
         """Tells the lists of folders that are gone, or have another name now. A script may still play them."""
         for name in self.old_lists():
-            self.tell(self.record.at(name), "is the list of a folder that is gone, and lists what was there; --prune removes it")
+            self.tell(self.record.at(name),
+                      "is the list of a folder that is gone, and lists what was there; --prune removes it")
 
     def prune(self, found: Found) -> int:
         """Removes what was made of sources that are no more there, and lists that are no more written, as far as nobody
