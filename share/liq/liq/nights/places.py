@@ -14,7 +14,7 @@ from liq.watching.names import shown
 
 KIND = "lists of a night"
 MOST = 1000            # lists of which the places are kept
-THEN, FEW = 10000, 20  # entries behind a place that are kept, and so many where a file would be too large
+THEN, FEW = 50000, 20  # entries behind the places of all lists that are kept, and of one where a file would be too large
 NIGHTS = 14            # nights of which the places are kept
 LARGEST = 1 << 24      # bytes of such a file
 
@@ -116,13 +116,14 @@ class Places:
 
     def text_of(self, lists: Dict[str, Turns]) -> str:
         """What the next night has to know."""
-        left = {name: Place(turns.next, turns.at, turns.behind(THEN)) for name, turns in lists.items() if turns.next is not None}
+        most = max(FEW, THEN // max(1, len(lists)))
+        left = {name: Place(turns.next, turns.at, turns.behind(most)) for name, turns in lists.items() if turns.next is not None}
         others = {name: place for name, place in self.before.items() if name not in left}
         this = Night(self.start, self.before, dict([*others.items(), *left.items()][-MOST:]))
         nights = [this, *(night for night in self.nights if night.start is not None)]
         if self.again is not None:
             nights = [*self.nights[:self.again], this, *self.nights[self.again + 1:]]
-        texts = (text_of(nights[:count], most) for count, most in ((NIGHTS, THEN), (NIGHTS, FEW), (NIGHTS, 0), (1, 0)))
+        texts = (text_of(nights[:count], kept) for count, kept in ((NIGHTS, most), (NIGHTS, FEW), (NIGHTS, 0), (1, 0)))
         return next((text for text in texts if len(text) <= LARGEST), text_of([this], 0))
 
     def kept_path(self) -> str:
