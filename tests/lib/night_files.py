@@ -331,6 +331,24 @@ def a_look_leaves_nothing(place):
     place.wants("what lies there meanwhile", [sorted(names) for names in seen], [sorted(before)])
 
 
+def behind_one_that_was_killed(place):
+    """A night that fails says which outputs are new, where it first ended what a killed one had begun."""
+    place.script(TWO)
+    old_files(place, *NAMES)
+    child = os.fork()
+    if child == 0:
+        os.chdir(place.folder)
+        rooms = Rooms(["A.wav", "B.wav"])
+        putting.carry_out = lambda *_: os._exit(9)          # killed once it had decided
+        putting.put(rooms, made_in(rooms))
+    place.wants("the killed one", (ended(child), held(place)), (9, ["old"] * 4))
+    status, _, said = place.run("f", "0.002", program=place.slow("exit 5"))
+    top = os.path.realpath(place.folder) + "/"
+    place.wants("the end", (status, said.replace(top, ""), held(place)), (
+        5, "night: part 1: memory was refused; a shorter --part takes less; new, as of the night that was killed: "
+        "A.wav, A.wav.cue, B.wav, B.wav.cue\n", ["new"] * 4))
+
+
 def nothing_can_be_printed(place):
     """Where standard output takes nothing there is no night; where it takes nothing more once the outputs are in their
     places, the night is there."""
@@ -344,4 +362,4 @@ def nothing_can_be_printed(place):
 
 
 RUNS = (a_room_of_others, outputs_on_two_disks, stopped_at_each_step, what_is_new_is_told, killed_at_random,
-        the_renderer_ends_too, a_look_leaves_nothing, nothing_can_be_printed)
+        the_renderer_ends_too, a_look_leaves_nothing, behind_one_that_was_killed, nothing_can_be_printed)

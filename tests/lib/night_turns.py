@@ -22,6 +22,7 @@ from liq.reading.programs import beside  # noqa: E402
 
 PAGE = os.path.join(TOP, "bin", "liq-page")
 TODAY = "--start=today:20:00"
+BERLIN = "CET-1CEST,M3.5.0,M10.5.0/3"          # a time zone, for the library of C
 
 
 def short_songs(place, count, seconds=2):
@@ -81,7 +82,8 @@ def a_length_that_is_told_too_long(place):
 
 
 def the_same_night_once_more(place):
-    """A night with a start that is rendered twice plays the same; the next one goes on behind it."""
+    """A night with a start that is rendered twice plays the same, also where a later one was made meanwhile; that one stays, and the
+    next one goes on behind it."""
     first = place.night("--go-on", TODAY, "f", "0.02") and played(place)
     again = place.night("--go-on", TODAY, "f", "0.02") and played(place)
     place.wants("the same night", again, first)
@@ -89,6 +91,53 @@ def the_same_night_once_more(place):
     place.wants("the night behind it", played(place)[:1], [f"t{len(first)}.wav"])
     place.wants("its start", held(place, "A.wav.start").decode()[:19],
                 f"{datetime.date.today() + datetime.timedelta(1)}T20:00:00")
+    behind = played(place)
+    for start, wanted in ((TODAY, first), ("--start=tomorrow:20:00", behind), (TODAY, first)):
+        place.night("--go-on", start, "f", "0.02")
+        place.wants(f"once more of {start}", played(place), wanted)
+    place.night("--go-on", f"--start={datetime.date.today() + datetime.timedelta(2)}:20:00", "f", "0.01")
+    place.wants("the night behind both", played(place)[:1], [f"t{(len(first) + len(behind)) % 10}.wav"])
+    place.night("--go-on", "f", "0.01")
+    place.wants("a night without a start", played(place)[:1] != first[:1], True)
+
+
+# A night whose files may have so many bytes.
+SMALL = """import sys
+sys.path.insert(0, {modules!r})
+from liq.command import run
+from liq.nights import parts
+from liq.nights.command import main
+parts.MOST = {most}
+run(main, "", "night")
+"""
+
+
+def clocks_that_are_changed(place):
+    """A night in which the clocks are set forward or back has each part at its moment, with the hour of that; the night of the day after
+    goes on behind it."""
+    code = SMALL.format(modules=os.path.join(TOP, "share", "liq"), most=500000)
+    for first, moments in (("2026-03-29:01:59:50", ("2026-03-29T01:59:50+01:00", "2026-03-29T03:00:")),
+                           ("2026-10-25:02:59:50", ("2026-10-25T02:59:50+02:00", "2026-10-25T02:00:"))):
+        names = []
+        for start, hours in ((first, "0.02"), (first[:10].replace("-29", "-30").replace("-25", "-26") + ":20:00", "0.01")):
+            words = [f"--program={place.program}", f"--start={start}", "--go-on", "--part=0.006", "f", hours]
+            done = subprocess.run([sys.executable, "-X", "utf8", "-c", code, *words], cwd=place.folder, capture_output=True, text=True,
+                                  check=False, stdin=subprocess.DEVNULL, env={**os.environ, "TZ": BERLIN})
+            place.wants(f"the night of {start}", (done.returncode, done.stderr), (0, ""))
+            found = [name for name in ("A-1.wav", "A-2.wav", "A-3.wav") if os.path.exists(place.path(name))]
+            if hours == "0.02":
+                told = [held(place, name + ".start").decode().strip() for name in found]
+                seconds = [datetime.datetime.fromisoformat(text).timestamp() for text in told]
+                lengths = [(len(held(place, name)) - 44) / (2 * RATE) for name in found]
+                place.wants("the parts", (len(found) > 1, told[0], told[1][:len(moments[1])]), (True, *moments))
+                place.wants("their moments", [round(b - a, 4) for a, b in zip(seconds, seconds[1:])], [round(length, 4) for length in lengths[:-1]])
+                names += [title for name in found for title in played(place, name + ".cue")]
+            else:
+                names += played(place)
+        place.wants("what is played", names, [f"t{[0, 1, 2, 3, 4, 5, 6, 7, 2, 2][k % 10]}.wav" for k in range(len(names))])
+        for name in os.listdir(place.folder):
+            if name.startswith("A"):
+                os.remove(place.path(name))
 
 
 def a_day_of_another_script(place):
@@ -180,6 +229,18 @@ def what_was_next_is_gone(place):
     place.wants("the night behind it", played(place), [*names[8:], names[0], names[4]])
     place.wants("what is told", [line for line in lines if line.endswith("s06.wav was next, and is no entry now; it goes on with s08.wav")] != [],
                 True)
+
+
+def a_list_that_loses_most(place):
+    """Where a list loses its middle, with what was next and far more behind it, it goes on with the first one behind that, so that no
+    song comes again before those that are left."""
+    names = short_songs(place, 60)
+    write_file(place.folder, "m.m3u", "".join(name + "\n" for name in names))
+    place.night("--go-on", TODAY, "f", "0.0166")
+    place.wants("the first night", played(place), names[:30])
+    write_file(place.folder, "m.m3u", "".join(name + "\n" for name in names[:10] + names[53:]))
+    place.night("--go-on", "--start=tomorrow:20:00", "f", "0.005")
+    place.wants("the night behind it", played(place), [*names[53:], names[0], names[1]])
 
 
 def places_that_are_none(place):
@@ -409,23 +470,55 @@ def parts_are_joined_where_they_lie(place):
         place.wants(f"the bytes of {name}", held(place, name) == held(place, name.replace("B", "e/A")), True)
 
 
+# A night to which calls are refused once A.wav is replaced: those of a function whose words are meant.
+REFUSING = """import builtins, fcntl, os, sys
+sys.argv = {words!r}
+replace, done = os.replace, []
+def replacing(*words, **more):
+    if os.fsdecode(words[1]).endswith("A.wav"):
+        done.append(1)
+    return replace(*words, **more)
+def refused(call, is_meant):
+    def refusing(*words, **more):
+        if done and is_meant(*words, **more):
+            raise OSError(5, "refused")
+        return call(*words, **more)
+    return refusing
+os.replace = replacing
+{function} = refused({function}, lambda *words, **more: {meant})
+exec(compile(open(sys.argv[0]).read(), sys.argv[0], "exec"), dict(__name__="__main__", __file__=sys.argv[0]))
+"""
+
+
 def refused_behind_the_replacing(place):
-    """Where the system refuses a call behind the replacing, the night is there, and the status says so."""
-    for name in ("unlink", "listdir", "rmdir"):
+    """Where the system refuses a call behind the replacing, the night is there, and the status says so; so it is with the calls that
+    end the use of a cache."""
+    data = bytes([100]) * (4 * RATE)
+    write_file(place.folder, "e.wav", header(len(data), rate=RATE, width=1) + data)
+    write_file(place.folder, "m.m3u", "e.wav\nt0.wav\n")
+    has_cache = bool(shutil.which("ffmpeg"))
+    if has_cache:                               # a sound of which a line is told behind the replacing
+        whole = content(place.path("t7.wav"))
+        subprocess.run(["ffmpeg", "-v", "error", "-f", "wav", "-i", "pipe:0", place.path("c.mp3")], input=whole, check=True)
+        write_file(place.folder, "c.mp3", content(place.path("c.mp3"))[:20000])
+        write_file(place.folder, "m.m3u", "e.wav\nc.mp3\nt0.wav\n")
+    words = [NIGHT, f"--program={place.program}", "--cache=cache", "f", "0.003"]
+    for function, meant in (("os.unlink", "True"), ("os.listdir", "True"), ("os.rmdir", "True"), ("fcntl.flock", "True"),
+                            ("builtins.print", "'damaged' in words[0] and 'file' not in more"),
+                            ("builtins.open", "set('wa+') & set(words[1] if len(words) > 1 else '')")):
         write_file(place.folder, "A.wav", "old")
-        with_fault = (f"import os, sys\nsys.argv = ['liq-night', '--program={place.program}', 'f', '0.002']\n"
-                      f"call, done = os.{name}, []\nreplace = os.replace\n"
-                      "def replacing(*words, **more):\n    done.append(1)\n    return replace(*words, **more)\n"
-                      "def refusing(*words, **more):\n    if done:\n        raise OSError(5, 'refused')\n"
-                      f"    return call(*words, **more)\nos.replace, os.{name} = replacing, refusing\n"
-                      f"exec(compile(open({NIGHT!r}).read(), {NIGHT!r}, 'exec'), {{'__name__': '__main__', '__file__': {NIGHT!r}}})")
-        done = subprocess.run(["python3", "-X", "utf8", "-c", with_fault], cwd=place.folder, capture_output=True, text=True,
+        code = REFUSING.format(words=words, function=function, meant=meant)
+        done = subprocess.run([sys.executable, "-X", "utf8", "-c", code], cwd=place.folder, capture_output=True, text=True,
                               check=False, stdin=subprocess.DEVNULL)
-        place.wants(f"where {name} is refused", (done.returncode, content(place.path("A.wav"))[:4], "Traceback" in done.stderr),
-                    (0, b"RIFF", False))
+        wanted = "night: standard output: refused" if function == "builtins.print" and has_cache else ""
+        place.wants(f"where {function} is refused", (done.returncode, held(place, "A.wav")[:4], done.stderr.partition(";")[0]),
+                    (0, b"RIFF", wanted))
+        place.wants("what is played", played(place)[:1], ["e.wav"] if has_cache else ["t0.wav"])
         shutil.rmtree(place.path(".night-A.wav"), ignore_errors=True)
 
 
-RUNS = (lists_that_share, a_length_that_is_told_too_long, the_same_night_once_more, a_day_of_another_script,
-        what_cannot_be_read, a_single_that_is_gone, a_script_that_is_refused, what_was_next_is_gone, places_that_are_none, a_cache_of_zeros, a_name_with_a_tab, an_entry_that_goes,
-        what_is_damaged_is_told, a_night_asks_for_heads, a_night_asks_once, one_loudness_for_all, a_report, behind_a_crossfade, two_nights_over_one_cache, parts_are_joined_where_they_lie, refused_behind_the_replacing)
+RUNS = (lists_that_share, a_length_that_is_told_too_long, the_same_night_once_more, clocks_that_are_changed, a_day_of_another_script,
+        what_cannot_be_read, a_single_that_is_gone, a_script_that_is_refused, what_was_next_is_gone, a_list_that_loses_most, places_that_are_none, a_cache_of_zeros, a_name_with_a_tab, an_entry_that_goes,
+        what_is_damaged_is_told, a_night_asks_for_heads, a_night_asks_once, one_loudness_for_all, a_report, behind_a_crossfade,
+        two_nights_over_one_cache,
+        parts_are_joined_where_they_lie, refused_behind_the_replacing)

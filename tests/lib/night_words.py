@@ -3,6 +3,7 @@ import ast
 import datetime
 import glob
 import os
+import shlex
 import shutil
 import subprocess
 import sys
@@ -22,6 +23,7 @@ from liq.nights.station import Station  # noqa: E402
 from liq.reading import patience  # noqa: E402
 from liq.reading.companion import companion_of  # noqa: E402
 
+UNITS = os.path.join(TOP, "share", "liq", "systemd")
 FRIDAY = datetime.datetime(2026, 12, 4, 15, 30, 10)
 TIMES = (("5:20:00:00", 4, 20, "2026-12-04"), ("4:20:00:00", 3, 20, "2026-12-10"),
          ("now", 4, 15.5 + 10 / 3600, "2026-12-04"), ("today:20:00", 4, 20, "2026-12-04"),
@@ -240,13 +242,16 @@ def settings_of_any_form(place):
 
 
 def units_are_right(place):
-    """systemd takes the units of share/liq/systemd."""
+    """systemd takes the units of share/liq/systemd. Each wants its disk, and those of the air are begun again."""
     if not shutil.which("systemd-analyze"):
         raise Skipped("systemd-analyze is missing")
-    for path in glob.glob(os.path.join(TOP, "share", "liq", "systemd", "*")):
+    for path in glob.glob(os.path.join(UNITS, "*")):
         text = content(path).decode().replace("/usr/bin/liq-", os.path.join(TOP, "bin", "liq-"))
         write_file(place.folder, os.path.basename(path), text)
         place.wants(f"a disk that is not mounted is no failure by {os.path.basename(path)}", "ConditionPath" in text, False)
+    for name, is_kept in (("liq-night@", False), ("liq-prepare@", False), ("liq-air@", True), ("liq-station@", True)):
+        place.wants(f"the mounts of {name}", called_by(f"{name}.service", "RequiresMountsFor") != [], True)
+        place.wants(f"whether {name} is begun again", called_by(f"{name}.service", "Restart"), ["always"] * is_kept)
     names = sorted(name.replace("@.", "@f.") for name in os.listdir(place.folder)
                    if name.endswith((".service", ".timer")))
     for name in names:
@@ -256,6 +261,35 @@ def units_are_right(place):
                           text=True, check=False, env={**os.environ, "SYSTEMD_UNIT_PATH": place.folder + ":"})
     mine = [line for line in done.stderr.split("\n") if "liq-night" in line]
     place.wants("what it says", (done.returncode, mine), (0, []))
+
+
+def called_by(unit, key="ExecStart"):
+    """The values of a key of a unit, of the station `station`."""
+    text = content(os.path.join(UNITS, unit)).decode().replace("%i", "station")
+    return [line.partition("=")[2] for line in text.split("\n") if line.startswith(key + "=")]
+
+
+def a_finding_reaches_the_mail(place):
+    """By the units of systemd root has a mail on a night in which something is found, which ends with 0, and none on another one."""
+    mailer = "liq-night-mail@station.service"
+    for end in ("OnFailure", "OnSuccess"):
+        place.wants(f"{end} of a night", called_by("liq-night@.service", end), [mailer])
+    os.rename(place.path("f"), place.path("station.liq"))
+    os.mkdir(place.path("bin"))
+    for name, text in (("journalctl", "cat lines"), ("mail", 'printf "%s\\n" "$*" > sent; cat >> sent')):
+        write_file(place.folder, f"bin/{name}", f"#!/bin/sh\n{text}\n")
+        os.chmod(place.path("bin", name), 0o755)
+    command, *words = shlex.split(called_by("liq-night@.service")[0])
+    place.wants("the command", (os.path.basename(command), words[-2:]), ("liq-night", ["station.liq", "12"]))
+    for lists, wanted in (("t0.wav\n", ""), ("t0.wav\ngone.wav\n", "-s station: success root\n")):
+        write_file(place.folder, "m.m3u", lists)
+        status, lines, said = place.run(*words[:-1], "0.01")
+        write_file(place.folder, "lines", "".join(line + "\n" for line in lines))
+        place.wants("the night", (status, said, os.path.exists(place.path("sent"))), (0, "", False))
+        subprocess.run(shlex.split(called_by("liq-night-mail@.service")[0].replace("$$", "$")), cwd=place.folder, check=True,
+                       env={"PATH": place.path("bin") + ":/usr/bin:/bin", "MONITOR_SERVICE_RESULT": "success", "MONITOR_INVOCATION_ID": "x"})
+        sent = content(place.path("sent")).decode() if os.path.exists(place.path("sent")) else ""
+        place.wants("the mail", (sent[:len(wanted)] if wanted else sent, "list m.m3u skips gone.wav" in sent), (wanted, bool(wanted)))
 
 
 def an_older_python(place):
@@ -354,5 +388,5 @@ def windows_of_a_night(place):
 
 
 RUNS = (starts_and_words, a_calendar, lists_go_on, windows_of_a_night, what_stops_and_what_is_told, parts_by_memory, a_reader_that_is_slow,
-        a_part_that_is_refused_memory, entries_are_decoded, settings_of_any_form, units_are_right, an_older_python,
+        a_part_that_is_refused_memory, entries_are_decoded, settings_of_any_form, units_are_right, a_finding_reaches_the_mail, an_older_python,
         unused_and_unknown_names, types_that_differ)

@@ -11,6 +11,7 @@ from liq.pages.forms import HEAD, one_line
 from liq.pages.titles import Told
 
 LEAST = 0.05           # seconds of a track that are told
+LAST = 1 << 16         # bytes of the log in which a track is sought that was on the air when a run was killed
 
 
 class Log:
@@ -41,10 +42,22 @@ class Log:
         return {"track": row and [*row, round(self.seconds, 1)]}
 
     def resume(self, state: Dict[str, Any]) -> None:
-        """Adds the track that was on the air when the run before was killed."""
+        """Adds the track that was on the air when the run before was killed, unless it was over and is there."""
         track = state.get("track")
         if isinstance(track, list) and len(track) == len(HEAD) and isinstance(track[-1], (int, float)):
-            self.add(list(map(str, track[:-1])), float(track[-1]))
+            row = list(map(str, track[:-1]))
+            if [*row[:2], row[-1]] not in self.last():
+                self.add(row, float(track[-1]))
+
+    def last(self) -> List[List[str]]:
+        """Date, time and file of the last lines."""
+        try:
+            with open(self.path, "rb") as file:
+                file.seek(max(0, os.path.getsize(self.path) - LAST))
+                rows = list(csv.reader(file.read().decode("utf-8", "replace").split("\n")))
+        except (OSError, csv.Error):
+            return []
+        return [[*row[:2], row[-1]] for row in rows if len(row) == len(HEAD)]
 
     def add(self, row: List[str], seconds: float) -> None:
         """Adds a line, with the head before the first one."""

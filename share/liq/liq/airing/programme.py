@@ -1,4 +1,5 @@
 """What is due at a moment: the rendering whose time it is, the next one that has no time, or the last ones once more."""
+from datetime import datetime, timedelta
 from typing import Dict, Iterable, List, NamedTuple, Optional
 
 from liq.airing.played import Played
@@ -16,6 +17,11 @@ class Due(NamedTuple):
     rendering: Rendering
     begin: Optional[float] = None
     is_repeated: bool = False
+
+
+def days_later(moment: float, days: int) -> float:
+    """The same time of the day so many days later, by the clock of the wall, of which a day may have 23 or 25 hours."""
+    return (datetime.fromtimestamp(moment) + timedelta(days)).timestamp()
 
 
 class Programme:
@@ -71,7 +77,7 @@ class Programme:
         past = [one for one in self.timed(now) if one.end <= now + LEAST]
         for days in range(1, DAYS + 1):
             for one in sorted(past, key=lambda one: -one.end):
-                begin = (one.start or 0.0) + days * DAY
+                begin = days_later(one.start or 0.0, days)
                 if begin <= now + NEAR and begin + one.seconds > now + LEAST:
                     return Due(one, begin, True)
         latest = max((one.end for one in past), default=0.0)

@@ -15,6 +15,8 @@ ADDRESS = "is an address, and nothing is fetched"
 ANNOTATED = "has annotate: before its name; liq-prepare reads such a list, and writes one of names alone"
 LINE_OF_PLS = "is a line of a PLS list; liq-prepare reads it, and writes a list of names alone"
 ADDRESSED = re.compile(r"\w+://")
+MARK = b"\xef\xbb\xbf"
+LONGEST = 1 << 26      # bytes of a list of which lines are counted
 LOOKED = 256           # files of one ending, in a row and of one form, after which no more of them are opened
 
 
@@ -85,7 +87,36 @@ class Entries:
         for why, entries in self.skipped.items():
             yield Told(f"list {name} skips {some_of(entries)}: {why}")
         if lines:
-            yield Told(f"list {name} skips {counted(lines, 'line', 'lines')}: no UTF-8; save the list as UTF-8")
+            yield Told(f"list {name} skips {lines_told(self.listed.name, lines)}: no UTF-8; save the list as UTF-8")
+
+
+def lines_told(name: str, count: int) -> str:
+    """So many lines of a list that are no UTF-8: the numbers of the first ones, where these are as many."""
+    numbers = numbers_of(name)
+    if len(numbers) != count:
+        return counted(count, "line", "lines")
+    more = f" and {count - SHOWN} more" if count > SHOWN else ""
+    return f"line{'s' * (count > 1)} {', '.join(map(str, numbers[:SHOWN]))}{more}"
+
+
+def numbers_of(name: str) -> "list[int]":
+    """The lines of a list that are no UTF-8, counted from 1 on; none where it cannot be read."""
+    try:
+        with open(name, "rb") as file:
+            data = file.read(LONGEST)
+    except (OSError, ValueError):
+        return []
+    lines = enumerate(data.removeprefix(MARK).split(b"\n"), 1)
+    return [number for number, line in lines if not line.startswith(b"#") and not is_text(line)]
+
+
+def is_text(data: bytes) -> bool:
+    """Whether bytes are UTF-8."""
+    try:
+        data.decode()
+        return True
+    except UnicodeDecodeError:
+        return False
 
 
 def is_address(entry: str) -> bool:

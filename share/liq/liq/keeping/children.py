@@ -11,6 +11,7 @@ from liq.watching.runs import starter
 
 LOG, MOST = "station.log", 1 << 20             # bytes after which a file is put aside, in place of the one before
 LOOK = 0.5             # seconds between looks at a command that runs
+PATIENCE = 60          # seconds that `mail` may take
 LEAST, LONGEST, GOOD = 5.0, 60.0, 300.0        # seconds between starts of a command that ends, and how long a good one runs
 
 
@@ -41,6 +42,18 @@ def stop(process: "subprocess.Popen[bytes]") -> None:
     if process.poll() is None:
         process.terminate()
         process.wait()
+
+
+def why_not_mailed(to: str, subject: str, text: str) -> str:
+    """Mails a text by the command `mail`; why that was not possible, or nothing."""
+    try:
+        done = subprocess.run(["mail", "-s", subject, to], input=text.encode(errors="surrogateescape"), check=False,
+                              stdout=subprocess.DEVNULL, stderr=subprocess.DEVNULL, timeout=PATIENCE)
+        return f"mail ends with {done.returncode}" if done.returncode else ""
+    except subprocess.TimeoutExpired:
+        return "mail does not end"
+    except OSError as error:
+        return f"mail: {error.strerror}"
 
 
 class Kept:

@@ -5,14 +5,14 @@ import os
 import re
 import signal
 import sys
-from typing import List, Optional, Tuple
+from typing import List, NamedTuple, Optional
 
 from liq.command import Stopped, tell
 from liq.failed import Failed, Usage
 from liq.keeping.keeper import Keeper
 from liq.watching.names import shown
 
-USAGE = "usage: liq station [--once | --nights=N] FOLDER"
+USAGE = "usage: liq station [--once | --nights=N] [--quiet] FOLDER"
 LOCK = ".station.lock"
 
 
@@ -41,13 +41,23 @@ def show(text: str) -> None:
         os.dup2(os.open(os.devnull, os.O_WRONLY), sys.stdout.fileno())
 
 
-def words_of(words: List[str]) -> Tuple[bool, Optional[int], str]:
-    """Whether it is done once, for how many nights, and the folder."""
-    is_once, nights, rest = False, None, []
+class Call(NamedTuple):
+    """A call: the folder, whether it is done once, for how many nights, and whether only what is found is printed."""
+    folder: str
+    is_once: bool
+    nights: Optional[int]
+    is_quiet: bool
+
+
+def words_of(words: List[str]) -> Call:
+    """The call."""
+    is_once, is_quiet, nights, rest = False, False, None, []
     for word in words:
         count = re.fullmatch(r"--nights=([1-9][0-9]{0,5})", word)
         if word == "--once":
             is_once = True
+        elif word == "--quiet":
+            is_quiet = True
         elif count:
             nights = int(count[1])
         elif word.startswith("--"):
@@ -56,21 +66,21 @@ def words_of(words: List[str]) -> Tuple[bool, Optional[int], str]:
             rest.append(word)
     if len(rest) != 1 or not rest[0] or is_once and nights:
         raise Usage(USAGE)
-    return is_once, nights, rest[0]
+    return Call(rest[0], is_once, nights, is_quiet)
 
 
 def main(words: List[str]) -> int:
     """Keeps a station; the exit status."""
-    is_once, nights, folder = words_of(words)
-    if not os.path.isdir(folder):
-        raise Failed(f"{shown(folder)}: is no folder", 3)
-    locked(folder)
-    os.chdir(folder)
-    keeper = Keeper(say, show)
+    call = words_of(words)
+    if not os.path.isdir(call.folder):
+        raise Failed(f"{shown(call.folder)}: is no folder", 3)
+    locked(call.folder)
+    os.chdir(call.folder)
+    keeper = Keeper(say, show, call.is_quiet)
     try:
-        if is_once:
+        if call.is_once:
             return 0 if keeper.once() else 1
-        keeper.run(nights)
+        keeper.run(call.nights)
         return 0
     except Stopped as error:
         return 0 if error.args[0] == signal.SIGTERM else 128 + int(error.args[0])

@@ -3,11 +3,12 @@ import datetime
 import json
 import os
 import time
-from typing import Any, Callable, Dict, List, Optional
+from typing import Any, Callable, Dict, List, Optional, Sequence
 
 from liq.failed import Failed
 from liq.keeping import children, settings, shelf
 from liq.nights.rooms import numbered
+from liq.watching.names import shown
 
 REPORT = "nights.jsonl"
 TICK = 1.0             # seconds between looks
@@ -18,8 +19,9 @@ DAY = datetime.timedelta(days=1)
 class Keeper:
     """A station in the folder in which this process is."""
 
-    def __init__(self, say: Callable[[str], None], tell: Callable[[str], None]):
-        self.say, self.tell = say, tell        # prints a line on what is wrong, and one on what is done
+    def __init__(self, say: Callable[[str], None], tell: Callable[[str], None], is_quiet: bool = False):
+        self.say, self.show = say, tell        # prints a line on what is wrong, and one on what is done
+        self.is_quiet, self.mailed = is_quiet, ""
         self.settings = settings.read(".")
         self.trouble = ""
         self.air = children.Kept("liq-air", say)
@@ -62,10 +64,24 @@ class Keeper:
         report = last_of(REPORT)
         if status == 0:
             shelf.take(start, self.aired(report))
+        found = [*report.get("found", []), *said]
         removed = shelf.prune(datetime.datetime.now(), self.settings.keep)
         said += [f"{removed} old night{'s' * (removed != 1)} removed"] if removed else []
-        self.tell(f"{start:%Y-%m-%d %H:%M}: {told_of(report, status)}" + "".join(f"; {text}" for text in said))
+        line = f"{start:%Y-%m-%d %H:%M}: {told_of(report, status)}" + "".join(f"; {text}" for text in said)
+        self.tell(line, found, status != 0)
         return status == 0
+
+    def tell(self, line: str, found: Sequence[str] = (), is_bad: bool = False) -> None:
+        """Prints a line on what was done, and mails it where there is no night or something was found."""
+        if found or is_bad or not self.is_quiet:
+            self.show(line)
+        if self.settings.mail and (found or is_bad) and line != self.mailed:
+            self.mailed = line
+            text = "".join(shown(one) + "\n" for one in [line, *found])
+            subject = f"{self.settings.name}: {'no night' if is_bad else 'a night'}"
+            why = children.why_not_mailed(self.settings.mail, subject, text)
+            if why:
+                self.say(why)
 
     def aired(self, report: Dict[str, Any]) -> List[str]:
         """The files of a night that go on the air: those of one output."""

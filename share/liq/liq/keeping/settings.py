@@ -39,6 +39,7 @@ class Settings:
     repeat: bool = True
     name: str = "liq"
     call: str = ""
+    mail: str = ""
 
 
 def read_time(text: str) -> Optional[datetime.time]:
@@ -68,6 +69,11 @@ def read_choice(text: str) -> Optional[bool]:
     return {"yes": True, "no": False}.get(text)
 
 
+def read_mail(text: str) -> Optional[str]:
+    """To whom mails go: a user of this machine or an address."""
+    return text if re.fullmatch(r"[A-Za-z0-9_][!-~]*", text) else None
+
+
 def read_text(text: str) -> Optional[str]:
     """A text that can be printed."""
     return text if text.isprintable() else None
@@ -82,7 +88,8 @@ READERS: Dict[str, Tuple[Reader, str]] = {
     "rate": (read_whole(*RATES), f"a number of samples from {RATES[0]} to {RATES[1]}"), "prune": (read_choice, "yes or no"),
     "bitrate": (read_whole(32, 320), "a number of kilobits, as 128"), "repeat": (read_choice, "yes or no"),
     "address": (read_address, "an address as http://127.0.0.1:8000/air.mp3"),
-    "call": (read_address, "an address as https://example.org/x")}
+    "call": (read_address, "an address as https://example.org/x"),
+    "mail": (read_mail, "a user or an address as radio@example.org")}
 NEEDED = ("script", "start", "hours")
 
 

@@ -1,6 +1,7 @@
 """The folder of the nights that are played: each by its start, so that a new one takes the place of none."""
 import contextlib
 import datetime
+import json
 import os
 import re
 import shutil
@@ -10,7 +11,7 @@ from liq.nights import starts
 from liq.pages import titles
 from liq.preparing import disk
 
-FOLDER = "air"
+FOLDER, LIST, NEW = "air", "all.json", ".new"
 BESIDE = (".cue", starts.ENDING, titles.ENDING)            # what stands beside a rendering
 FORM = "%Y-%m-%dT%H%M"
 NAME = re.compile(r"([0-9]{4}-[0-9]{2}-[0-9]{2}T[0-9]{4})-.*", re.S)
@@ -28,25 +29,37 @@ def names() -> List[str]:
         return []
 
 
+def list_of(start: datetime.datetime) -> str:
+    """The list of the renderings of a night, which is there when all of them are."""
+    return os.path.join(FOLDER, front_of(start) + LIST)
+
+
 def has(start: datetime.datetime) -> bool:
-    """Whether the night of a start is there."""
-    return any(name.startswith(front_of(start)) and name.endswith(".wav") for name in names())
+    """Whether the night of a start is there, with all its renderings."""
+    try:
+        with open(list_of(start), "rb") as file:
+            told = json.loads(file.read())
+        return all(os.path.exists(os.path.join(FOLDER, str(name))) for name in told)
+    except (OSError, ValueError, TypeError):
+        return False
 
 
 def take(start: datetime.datetime, files: List[str]) -> None:
-    """Takes the renderings of a night. The last one comes last, so that the night is there when all are."""
+    """Takes the renderings of a night. Where that breaks off, the night is not there."""
     os.makedirs(FOLDER, exist_ok=True)
-    for file in reversed(files):
-        target = os.path.join(FOLDER, front_of(start) + os.path.basename(file))
+    found = [front_of(start) + os.path.basename(file) for file in files]
+    for file, name in zip(files, found):
         for ending in (*BESIDE, ""):
             if os.path.exists(file + ending):
-                place(file + ending, target + ending)
+                place(file + ending, os.path.join(FOLDER, name + ending))
     disk.synced(FOLDER)
+    disk.write(os.path.join(FOLDER, NEW), [json.dumps(found).encode() + b"\n"])
+    disk.replace(os.path.join(FOLDER, NEW), list_of(start))
 
 
 def place(file: str, target: str) -> None:
     """Gives a file another name too; a copy where the disk has no links."""
-    part = os.path.join(FOLDER, ".new")
+    part = os.path.join(FOLDER, NEW)
     with contextlib.suppress(FileNotFoundError):
         os.remove(part)
     try:

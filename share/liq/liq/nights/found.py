@@ -5,7 +5,7 @@ from datetime import datetime
 from typing import Any, Dict, List, Optional
 
 from liq.doctoring.findings import STOPS, TOLD
-from liq.nights.failed import Failed
+from liq.nights.failed import KEPT, Failed
 from liq.nights.words import Call
 from liq.reading.facts import Facts
 from liq.watching.names import shown
@@ -20,8 +20,8 @@ class Found:
 
     def tell(self, text: str, weight: str = TOLD) -> None:
         """Prints a line that was found."""
-        print(shown(text), flush=True)
         (self.stops if weight == STOPS else self.told).append(text)
+        print(shown(text), flush=True)
 
     def take(self, other: "Found") -> None:
         """Takes what was found elsewhere, and printed there."""
@@ -49,6 +49,7 @@ class Report:
 
     def __init__(self, call: Call):
         self.path, self.begin = call.report, datetime.now().astimezone()
+        self.put: List[str] = []               # the names that an earlier night had decided to put, and this one put
         self.told: Dict[str, Any] = {"script": call.file, "hours": round(call.seconds / 3600, 4)}
         if call.when.is_given:
             self.told["start"] = call.when.moment.astimezone().isoformat(timespec="seconds")
@@ -56,6 +57,11 @@ class Report:
     def add(self, **more: Any) -> None:
         """Notes more of the night."""
         self.told.update(more)
+
+    def kept(self, text: str) -> str:
+        """Why there is no night. Where this one ended what a killed one had begun, outputs are new by that."""
+        told = f"new, as of the night that was killed: {', '.join(map(shown, self.put))}"
+        return text.replace(KEPT, told) if self.put else text
 
     def write(self, status: int, error: str = "") -> Optional[str]:
         """Adds the line to the file, where there is one; why that cannot be."""

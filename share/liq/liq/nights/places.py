@@ -1,8 +1,9 @@
 """Where a night left its lists: NAME.next, put in place together with the outputs.
 
-It has the places of the lists behind the night, those before it, and when it began. So the same night once more begins
-where it began before. The places of lists that another script plays are kept. A place has the entries behind it, too, so
-that a list from which the next one was taken away goes on with the one that comes then.
+It has the places of the lists behind the night, those before it, and when it began; the same of some nights that were
+made before it. So the same night once more begins where it began before, and the nights behind it stay as they are. The
+places of lists that another script plays are kept. A place has the entries behind it, too, so that a list from which the
+next one was taken away goes on with the one that comes then.
 """
 import json
 import os
@@ -13,7 +14,8 @@ from liq.watching.names import shown
 
 KIND = "lists of a night"
 MOST = 1000            # lists of which the places are kept
-THEN = 20              # entries behind a place that are kept
+THEN, FEW = 50000, 20  # entries behind the places of all lists that are kept, and of one where a file would be too large
+NIGHTS = 14            # nights of which the places are kept
 LARGEST = 1 << 24      # bytes of such a file
 
 
@@ -45,13 +47,40 @@ def places_in(told: Any) -> Dict[str, Place]:
     return {name: Place(str(left["entry"]), int(left["place"]), tuple(map(str, left.get("then", ())))) for name, left in told.items()}
 
 
+class Night(NamedTuple):
+    """When a night began, if that is known, and where the lists were before and behind it."""
+    start: Optional[str]
+    before: Dict[str, Place]
+    behind: Dict[str, Place]
+
+    @staticmethod
+    def told_by(told: Any) -> "Night":
+        """The night that a file tells."""
+        start = told.get("start")
+        return Night(None if start is None else str(start), places_in(told.get("before", {})), places_in(told["next"]))
+
+    def told(self, most: int) -> Dict[str, object]:
+        """The night as a file tells it, with so many entries behind its places at most."""
+        behind, before = ({name: place._replace(then=place.then[:most]).told() for name, place in one.items()}
+                          for one in (self.behind, self.before))
+        return {"start": self.start, "next": behind, "before": before}
+
+
+def text_of(nights: List[Night], most: int) -> str:
+    """What a file tells of these nights, the last one first. Of that one alone entries behind its places are kept."""
+    told: Dict[str, object] = {"is": KIND, **nights[0].told(most)}
+    return json.dumps({**told, "earlier": [night.told(0) for night in nights[1:]]}, indent=1) + "\n"
+
+
 class Places:
     """The places that the night before left, from which one goes on that begins at `start`, where that is known."""
 
     def __init__(self, path: str, start: Optional[str] = None):
         self.path, self.start = path, start
         self.before: Dict[str, Place] = {}
-        self.trouble, self.is_again = "", False
+        self.nights: List[Night] = []          # the ones that were made before, the last first
+        self.again: Optional[int] = None       # which of them this one is once more
+        self.trouble = ""
         try:
             self.read()
         except FileNotFoundError:
@@ -67,8 +96,10 @@ class Places:
             told = json.loads(file.read(LARGEST))
         if told["is"] != KIND:
             raise ValueError
-        self.is_again = self.start is not None and told.get("start") == self.start
-        self.before = places_in(told.get("before", {}) if self.is_again else told["next"])
+        self.nights = [Night.told_by(one) for one in [told, *told.get("earlier", ())]]
+        starts = [night.start for night in self.nights]
+        self.again = starts.index(self.start) if self.start is not None and self.start in starts else None
+        self.before = self.nights[0].behind if self.again is None else self.nights[self.again].before
 
     def go_on(self, lists: Dict[str, Turns]) -> List[str]:
         """Brings the lists to their places; lines on what is not as it was."""
@@ -85,16 +116,15 @@ class Places:
 
     def text_of(self, lists: Dict[str, Turns]) -> str:
         """What the next night has to know."""
-        left = {name: Place(turns.next, turns.at, turns.behind(THEN)) for name, turns in lists.items() if turns.next is not None}
+        most = max(FEW, THEN // max(1, len(lists)))
+        left = {name: Place(turns.next, turns.at, turns.behind(most)) for name, turns in lists.items() if turns.next is not None}
         others = {name: place for name, place in self.before.items() if name not in left}
-        behind = dict([*others.items(), *left.items()][-MOST:])
-
-        def told(keeps_more: bool) -> str:
-            places = [{name: (place if keeps_more else place._replace(then=())).told() for name, place in one.items()}
-                      for one in (behind, self.before)]
-            return json.dumps({"is": KIND, "start": self.start, "next": places[0], "before": places[1]}, indent=1) + "\n"
-        text = told(True)
-        return text if len(text) <= LARGEST else told(False)
+        this = Night(self.start, self.before, dict([*others.items(), *left.items()][-MOST:]))
+        nights = [this, *(night for night in self.nights if night.start is not None)]
+        if self.again is not None:
+            nights = [*self.nights[:self.again], this, *self.nights[self.again + 1:]]
+        texts = (text_of(nights[:count], kept) for count, kept in ((NIGHTS, most), (NIGHTS, FEW), (NIGHTS, 0), (1, 0)))
+        return next((text for text in texts if len(text) <= LARGEST), text_of([this], 0))
 
     def kept_path(self) -> str:
         """Where a file is kept that no night made."""

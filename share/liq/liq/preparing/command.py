@@ -86,8 +86,9 @@ def gone_text(work: Work, found: Found, prunes: bool) -> str:
         return f"{removed} file{'s' * (removed != 1)} removed, of sounds that are gone" if removed else ""
     if not gone:
         return ""
-    return (f"{gone} sound{'s are' if gone > 1 else ' is'} no more there; what was made is left, in no list; "
-            "--prune removes it")
+    place = "in old lists" if work.old_lists() else "in no list"
+    are = "s are" if gone > 1 else " is"
+    return f"{gone} sound{are} no more there; what was made is left, {place}; --prune removes it"
 
 
 def prepared(source: str, out: str, options: Options, companion: Companion, limits: Facts) -> Tuple[List[str], int]:
@@ -104,6 +105,8 @@ def prepared(source: str, out: str, options: Options, companion: Companion, limi
         work.examine(found, options["all_gone"])
         work.run(found, options["jobs"])
         lines, size = work.write_lists(found, options["shuffle"], given.whole, os.path.isdir(source), limits)
+        if os.path.isdir(source) and not options["prune"]:
+            work.tell_old_lists()
         long_ones, gone = work.long_ones(found), gone_text(work, found, options["prune"])
     finally:
         work.end()

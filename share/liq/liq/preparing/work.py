@@ -287,6 +287,17 @@ class Work:
         """The sources that are no more there."""
         return sorted(source for source in self.record.sources.keys() - dict(found).keys() if not self.is_unread(source))
 
+    def old_lists(self) -> List[str]:
+        """The lists that were made before, and are written no more."""
+        return sorted(name for name in self.record.made
+                      if name.endswith(".m3u") and name not in self.written and self.record.is_own(name))
+
+    def tell_old_lists(self) -> None:
+        """Tells the lists of folders that are gone, or have another name now. A script may still play them."""
+        for name in self.old_lists():
+            self.tell(self.record.at(name),
+                      "is the list of a folder that is gone, and lists what was there; --prune removes it")
+
     def prune(self, found: Found) -> int:
         """Removes what was made of sources that are no more there, and lists that are no more written, as far as nobody
         changed them; how many files."""
