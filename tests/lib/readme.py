@@ -1,7 +1,9 @@
 """The terminal that the README shows, the script of docs/station.md, and the help of each command. tests/run calls each of `checks`."""
 import os
 import re
+import shutil
 import subprocess
+import tempfile
 from types import SimpleNamespace
 
 from lib.common import TOP, companion_path, content
@@ -42,4 +44,27 @@ def helps_that_are_missing(_program):
     return found
 
 
-checks = {"readme/help": helps_that_are_missing, "readme/station": station_that_differs, "readme/recorded": recording_that_differs}
+def needs_that_are_not_told(_program):
+    """The README names what its commands need beside the repository, `git` before it calls it. Where `dot` is not installed, its
+    line for a picture says so and leaves no file."""
+    text, found = text_of("README.md"), []
+    needs = text.partition("    $ git clone")[0]
+    found += [f"README.md does not say that it needs {name}" for name in ("`git`", "`xz`", "Python 3.9") if name not in needs]
+    found += [f"README.md does not say that it needs {name}" for name in ("ffmpeg", "graphviz") if name not in text]
+    pictures = re.findall(r"^ +\$ (liq picture .*\| dot .*)$", text, flags=re.M)
+    with tempfile.TemporaryDirectory(prefix="liq-readme-") as place:
+        for name in ("sh", "env", "python3", "readlink", "dirname"):
+            os.symlink(shutil.which(name), os.path.join(place, name))
+        work = os.path.join(place, "work")
+        shutil.copytree(os.path.join(TOP, "examples"), work)
+        before = set(os.listdir(work))
+        for line in pictures:
+            done = subprocess.run(["sh", "-c", line], cwd=work, stdin=subprocess.DEVNULL, capture_output=True, text=True, check=False,
+                                  timeout=SECONDS, env={"PATH": f"{os.path.join(TOP, 'bin')}:{place}", "HOME": place})
+            if done.returncode == 0 or "dot" not in done.stderr or set(os.listdir(work)) != before:
+                found.append(f"without dot {line} ends with {done.returncode}, {done.stderr!r}, and leaves {set(os.listdir(work)) - before}")
+    return found if pictures else [*found, "README.md has no line for a picture"]
+
+
+checks = {"readme/needs": needs_that_are_not_told, "readme/help": helps_that_are_missing, "readme/station": station_that_differs,
+          "readme/recorded": recording_that_differs}
