@@ -194,7 +194,7 @@ def theorem_picture(place):
             file.write(marked(data, text))
     with open(PICTURE, "rb") as file:
         if b"Comment\0" + text.encode() not in [held for _, name, held in chunks(file.read()) if name == b"tEXt"]:
-            wrong.append(f"docs/figures/theorem.png shows another page: --draw draws it anew")
+            wrong.append("docs/figures/theorem.png shows another page: --draw draws it anew")
     yield from wrong
 
 

@@ -99,8 +99,8 @@ def input_lines() -> Iterator[str]:
 
 
 def write_line(line: str) -> None:
-    """Writes a line with its end on standard output, at once. At a terminal what drives one stands in it as numbers; into a
-    pipe or a file it goes as it is."""
+    """Writes a line with its end on standard output, at once. At a terminal what drives one stands in it as numbers;
+    into a pipe or a file it goes as it is."""
     sys.stdout.write(AT_TERMINAL.line(line) if sys.stdout.isatty() else line)
     sys.stdout.flush()
 

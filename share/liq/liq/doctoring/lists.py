@@ -15,7 +15,7 @@ ADDRESS = "is an address, and nothing is fetched"
 ANNOTATED = "has annotate: before its name; liq prepare reads such a list, and writes one of names alone"
 LINE_OF_PLS = "is a line of a PLS list; liq prepare reads it, and writes a list of names alone"
 ADDRESSED = re.compile(r"\w+://")
-CODED = re.compile(r"is an? (MP3|Ogg|FLAC|AIFF|MP4|AAC|Matroska) file;")     # what liq prepare makes WAV files of
+CODED = re.compile(r"is an? (MP3|Ogg|FLAC|AIFF|MP4|AAC|Matroska) file;")   # liq prepare makes WAV files of it
 LOOKED = 256           # files of one ending, in a row and of one form, after which no more of them are opened
 
 
