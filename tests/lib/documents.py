@@ -508,12 +508,18 @@ def copy_examples(folder):
 
 
 def versions_that_differ(_program):
-    """The README, the list of changes and the pages of the manual have the version of the file VERSION."""
+    """The README, the list of changes and the pages of the manual have the version of the file VERSION. Each version has a date, and
+    what one has to do stands first in the newest."""
     version = text_of("VERSION").strip()
     wanted = {"README.md": f"This is version {version} ", **{page: f'"Dizhuppan {version}"' for page in manuals()}}
     found = [f"{page} has not the version {version}" for page, text in wanted.items() if text not in text_of(page)]
-    first = re.search(r"^## ([^\s,]+), 20\d\d-\d\d-\d\d$", text_of("CHANGELOG.md"), flags=re.M)[1]
-    return found + ([f"the list of changes begins with {first}"] if first != version else [])
+    changes = text_of("CHANGELOG.md")
+    heads, dated = re.findall(r"^## (.*)$", changes, flags=re.M), re.findall(r"^## (\d+\.\d+\.\d+), (20\d\d-\d\d-\d\d)$", changes, flags=re.M)
+    order = [(list(map(int, name.split("."))), date) for name, date in dated]
+    if len(heads) != len(dated) or order != sorted(order, reverse=True) or dated[:1] and dated[0][0] != version:
+        found.append(f"the list of changes has {heads}: each has a version and a date, the newest first, and that is {version}")
+    newest = changes.partition("\n## ")[2].partition("\n## ")[0]
+    return found if newest.partition("\n\n")[2].startswith("**You have to do this") else [*found, "what is to be done does not stand first"]
 
 
 def counts_that_differ(_program):

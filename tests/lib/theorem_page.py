@@ -1,12 +1,22 @@
 """What tests/browser looks at on the page of tools/theorem: links, search, widths and colours."""
+import base64
+import hashlib
 import os
+import struct
 import subprocess
 import time
+import zlib
 
 from lib.chromium import CONTRAST
 from lib.common import TOP
 
 PAGE = "theorem.html"
+PICTURE = os.path.join(TOP, "docs", "figures", "theorem.png")
+# What the picture of the page shows: the counts, a fault of a script, and what one of its names stands for.
+SHOWN = """
+const texts = ['nav > p', 'article:target', '#side article'].map(it => document.querySelector(it)?.innerText ?? '');
+return [...document.querySelectorAll('nav a')].map(a => a.parentElement.innerText).concat(texts).join('\\n');
+"""
 TEXTS = "nav a,nav small,section > p,h2,h3,article p,article pre,article pre a,summary"
 # The marks that no link of the page may miss, and how many stand there twice.
 LOOSE = """
@@ -149,4 +159,43 @@ def theorem_looks(place):
                 yield f"{look}: the ground is {ground}"
 
 
-RUNS = [theorem_links, theorem_panel, theorem_words, theorem_finger, theorem_search, theorem_looks]
+def chunks(data):
+    """The chunks of a PNG: where each begins, its name and what it holds."""
+    at = 8
+    while at < len(data):
+        length, name = struct.unpack_from(">I4s", data, at)
+        yield at, name, data[at + 8:at + 8 + length]
+        at += 12 + length
+
+
+def marked(data, text):
+    """The bytes of a PNG with a remark before its picture."""
+    body = b"tEXt" + b"Comment\0" + text.encode()
+    first = next(at for at, name, _ in chunks(data) if name == b"IDAT")
+    return data[:first] + struct.pack(">I", len(body) - 4) + body + struct.pack(">I", zlib.crc32(body)) + data[first:]
+
+
+def theorem_picture(place):
+    """The picture of docs/figures shows this page: its remark is the digest of the texts that stand there. `tests/browser --draw
+    theorem_picture` draws it anew."""
+    page = place.open(page=PAGE)
+    page.look(1280, 640)
+    page.run("location.hash = '#station_jobs.Verdicts.IsScriptFault'")
+    wrong = list(stands_at(page, "#station_jobs.Verdicts.IsScriptFault", "IsScriptFault"))
+    x, y = page.run("""const r = [...document.querySelectorAll('article:target pre a')].find(a => a.textContent === 'HasClash').getClientRects()[0];
+                       return [r.left + r.width / 2, r.top + r.height / 2];""")
+    page.move(x - 200, y)
+    page.move(x, y)
+    wrong += list(shown(page, "HasClash"))
+    text = f"tests/browser {hashlib.sha256(page.run(SHOWN).encode()).hexdigest()}"
+    if place.is_drawn and not wrong:
+        data = base64.b64decode(page.command("Page.captureScreenshot")["data"])
+        with open(PICTURE, "wb") as file:
+            file.write(marked(data, text))
+    with open(PICTURE, "rb") as file:
+        if b"Comment\0" + text.encode() not in [held for _, name, held in chunks(file.read()) if name == b"tEXt"]:
+            wrong.append("docs/figures/theorem.png shows another page: --draw draws it anew")
+    yield from wrong
+
+
+RUNS = [theorem_links, theorem_panel, theorem_words, theorem_finger, theorem_search, theorem_looks, theorem_picture]

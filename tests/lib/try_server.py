@@ -90,8 +90,8 @@ def a_live_script_is_brought_over(page):
     switch = state["week"]["switches"][0]
     if (switch["line"], [each["name"] for each in switch["cases"]], switch["none"]["count"]) != (4, ["music.m3u", "jingle.wav"], 0):
         yield f"the switch is {switch['line']}, {switch['cases'][0]['name']}"
-    lines = sorted(box["line"] for box in state["picture"]["boxes"])
-    if lines != [2, 3, 4, 5, 5]:
+    lines = sorted(box["line"] for box in state["picture"].get("boxes", ()))
+    if lines != [2, 3, 4, 5, 5] and shutil.which("dot"):
         yield f"the sources of the picture are in the lines {lines}"
     told = page.told(f"hear?at={FRIDAY}&for=30")
     if [track["name"] for track in told["outputs"][0]["tracks"]] != ["one.wav", "two.wav", "one.wav"]:

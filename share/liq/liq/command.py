@@ -19,11 +19,12 @@ if sys.version_info < (3, 9):       # before the modules are read that are writt
     sys.exit(127)
 
 from liq.failed import Failed, Usage  # noqa: E402
-from liq.watching.names import shown  # noqa: E402
+from liq.watching.names import Terminal, shown  # noqa: E402
 
 Main = Callable[[List[str]], int]
 HEARD = (signal.SIGINT, signal.SIGTERM, signal.SIGHUP)
 REFUSED, NOT_READ, NOT_WRITTEN, NO_MEMORY, FAULTY = 1, 3, 4, 5, 126
+AT_TERMINAL = Terminal()
 STREAMS = (("stdin", "r", os.O_WRONLY), ("stdout", "w", os.O_RDONLY), ("stderr", "w", os.O_WRONLY))
 
 
@@ -98,8 +99,9 @@ def input_lines() -> Iterator[str]:
 
 
 def write_line(line: str) -> None:
-    """Writes a line with its end on standard output, at once."""
-    sys.stdout.write(line)
+    """Writes a line with its end on standard output, at once. At a terminal what drives one stands in it as numbers;
+    into a pipe or a file it goes as it is."""
+    sys.stdout.write(AT_TERMINAL.line(line) if sys.stdout.isatty() else line)
     sys.stdout.flush()
 
 

@@ -58,7 +58,7 @@ def lists_told(facts: Facts) -> Iterator[str]:
             is_prepared = is_prepared or "is skipped" in line or "are skipped" in line or " skips " in line
             yield f"lists: {line}"
     if is_prepared:
-        yield ("lists: `liq-prepare LIST OUT` makes WAV files of the sounds that a list names, also behind `annotate:..:`, "
+        yield ("lists: `liq prepare LIST OUT` makes WAV files of the sounds that a list names, also behind `annotate:..:`, "
                "and the list `OUT/all.m3u`")
 
 

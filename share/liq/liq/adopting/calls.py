@@ -236,14 +236,14 @@ def written_out(writer: "Rewriter", value: Node, name: str) -> str:
 def listed(writer: "Rewriter", value: Node, name: str) -> Optional[str]:
     """The name of a list; nothing where it is none that is read here."""
     if name.lower().endswith(OTHER_LISTS):
-        way = f"`liq-prepare {name} OUT` makes WAV files of its sounds, and the list `OUT/all.m3u`" \
+        way = f"`liq prepare {name} OUT` makes WAV files of its sounds, and the list `OUT/all.m3u`" \
             if name.lower().endswith(".pls") else "write the names of its files into a list `NAME.m3u`, a line each"
         writer.lost(value, "source", f"is a list of another form: {way}")
         return None
     if re.search(r"\.\w+$", name) and not os.path.isdir(name):
         return name
     made = f"{name.rstrip('/')}/all.m3u"
-    writer.note(LESS, value, f"`{name}` is a folder there, and here the list `{made}` is played: `liq-prepare FOLDER OUT` "
+    writer.note(LESS, value, f"`{name}` is a folder there, and here the list `{made}` is played: `liq prepare FOLDER OUT` "
                 "makes WAV files of its sounds, and a list of them")
     return made
 

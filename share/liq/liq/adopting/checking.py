@@ -115,7 +115,7 @@ class Check:
                 self.refused(path, done.stderr.rstrip("\n"))
             elif done.returncode:
                 self.verdict.is_refused = True
-                self.add(FAULT, 0, f"liq check ends with status {done.returncode}, which prints no line: see liq-doctor")
+                self.add(FAULT, 0, f"liq check ends with status {done.returncode}, which prints no line: see liq doctor")
             else:
                 self.outputs(done.stdout)
                 self.lists(path)

@@ -115,7 +115,7 @@ def once_through(writer: "Rewriter", node: Node) -> Optional[Made]:
         return Made("fail()", LESS, "`playlist.once(..)` becomes `fail()`")
     if is_flag(writer, node, "random", "true"):
         writer.note(LESS, node, "`random=true`: the list is played in its order: mix the lines of the list before, as "
-                    "`liq-prepare --shuffle=SEED` or `shuf` does")
+                    "`liq prepare --shuffle=SEED` or `shuf` does")
     return Made(f"playlist(loop=false, {name})", SAME, "`playlist.once(..)` is `playlist(loop=false, ..)`")
 
 

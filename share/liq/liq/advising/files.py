@@ -112,14 +112,14 @@ def bad(name: str, number: str) -> Optional[str]:
     if wav != name and (front_of(wav) or b"").startswith(b"RIFF"):
         return f"`{wav}` lies beside it: play that"
     if front and front.startswith(LARGE):
-        return "it is a WAV file of the large form: cut it into parts of less than 256 MiB, or let `liq-prepare` do so"
+        return "it is a WAV file of the large form: cut it into parts of less than 256 MiB, or let `liq prepare` do so"
     if front and front.lower().startswith((b"<!doctype", b"<html", b"<?xml")):
         return "it is a page, as HTML, and no sound: save the sound itself"
     what = form_of(front)
     if what is None:
         return None
     return (f"it is {what}, and no WAV file: `ffmpeg -i {quoted(name)} -c:a pcm_s16le {quoted(new_name(name))}`, or "
-            "`liq-prepare` for a folder")
+            "`liq prepare` for a folder")
 
 
 def form_of(front: Optional[bytes]) -> Optional[str]:
@@ -143,7 +143,7 @@ def too_large(name: str, plan: Facts) -> Optional[str]:
     if how == "playlist":
         return f"a list has at most {plan.list_most} bytes: make several lists, and a `sequence` of their playlists"
     if how == "single" and size > plan.file_most:
-        return f"an audio file has at most {plan.file_most} bytes: cut it, and play the parts by a list; `liq-prepare` does so"
+        return f"an audio file has at most {plan.file_most} bytes: cut it, and play the parts by a list; `liq prepare` does so"
     if how == "single":
         return (f"at the rate of the script it has more than {plan.file_most} bytes: set a lower `frame.audio.samplerate`, "
                 "or cut it")
@@ -169,7 +169,7 @@ def all_too_large(facts: Facts, way: str) -> str:
     if not most:
         return way
     return (f"the files of a script have at most {facts.most / 1e9:.2f} GB together, each once; those of {', '.join(most)}: "
-            f"{way}, or render it by `liq-night`")
+            f"{way}, or render it by `liq night`")
 
 
 def weights(facts: Facts) -> "Iterator[tuple[int, str]]":

@@ -10,7 +10,7 @@ FORMS = (
     (b"\x1aE\xdf\xa3", "is a Matroska file"))
 TAGS = {2: "ADPCM", 3: "floating-point samples", 6: "A-law", 7: "mu-law", 17: "ADPCM", 80: "MPEG sound", 85: "MP3 sound",
         0xFFFE: "samples of a form of its own"}
-CONVERT = "make a WAV file of 16 bits of it, as by ffmpeg -i OLD -c:a pcm_s16le NEW.wav"
+CONVERT = "make a WAV file of 16 bits of it by liq prepare, or ffmpeg -i OLD -c:a pcm_s16le NEW.wav"
 CONVERT_SIDES = "make a WAV file of one or two sides of it, as by ffmpeg -i OLD -ac 2 -c:a pcm_s16le NEW.wav"
 AGAIN = "it was cut, so copy it again"
 LISTED = "play it by playlist(..) in place of single(..)"

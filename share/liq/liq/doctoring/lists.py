@@ -10,13 +10,14 @@ from liq.doctoring.sounds import trouble_of_sound
 from liq.reading.facts import Facts, Listed, Sound
 from liq.watching.names import shown
 
-SILENCE = "; where the list is to be played there is silence, or what stands behind it"
+NOTHING, SILENCE = "nothing of it can be played", "; you hear silence or the fallback"
 ADDRESS = "is an address, and nothing is fetched"
-ANNOTATED = "has annotate: before its name; liq-prepare reads such a list, and writes one of names alone"
-LINE_OF_PLS = "is a line of a PLS list; liq-prepare reads it, and writes a list of names alone"
+ANNOTATED = "has annotate: before its name; liq prepare reads such a list, and writes one of names alone"
+LINE_OF_PLS = "is a line of a PLS list; liq prepare reads it, and writes a list of names alone"
 ADDRESSED = re.compile(r"\w+://")
 MARK = b"\xef\xbb\xbf"
 LONGEST = 1 << 26      # bytes of a list of which lines are counted
+CODED = re.compile(r"is an? (MP3|Ogg|FLAC|AIFF|MP4|AAC|Matroska) file;")   # liq prepare makes WAV files of it
 LOOKED = 256           # files of one ending, in a row and of one form, after which no more of them are opened
 
 
@@ -72,13 +73,23 @@ class Entries:
             return f"is not there, but beside the list; names count from the folder of the call, so write {folder}/ before it"
         return trouble
 
+    def coded(self) -> str:
+        """How many of the skipped entries are of which other form, and what makes WAV files of them."""
+        counts: Dict[str, int] = collections.defaultdict(int)
+        for why, entries in self.skipped.items():
+            form = CODED.match(why)
+            if form:
+                counts[form[1]] += len(entries)
+        told = ", ".join(counted(count, f"{form} file", f"{form} files") for form, count in counts.items())
+        return f" ({told}: see liq prepare)" if told else ""
+
     def lines(self) -> Iterator[str]:
         """What is told of the list: that it has no entry that is played stops a run, as what cannot be read does."""
         name, lines = shown(self.listed.name), self.listed.skipped
         skipped = sum(map(len, self.skipped.values())) + lines
         ending = sum(map(len, self.ending.values()))
-        told = ", ".join([counted(self.played, "entry is", "entries are") + " played"]
-                         + ([counted(skipped, "is", "are") + " skipped"] if skipped else [])
+        told = ", ".join([counted(self.played, "entry is", "entries are") + " played" if self.played else NOTHING]
+                         + ([counted(skipped, "is", "are") + " skipped" + self.coded()] if skipped else [])
                          + ([counted(ending, "ends", "end") + " a call with status 3"] if ending else []))
         line = f"list {name}: {told}{'' if self.played else SILENCE}"
         yield weighed(line, bool(self.played and not ending)) if skipped or ending or not self.played else line

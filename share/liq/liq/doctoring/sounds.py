@@ -13,7 +13,7 @@ HEADER = 4096       # bytes that are left for what stands before the samples
 def parts_of(facts: Facts, rate: int, sides: int) -> str:
     """What to do about a file that is too long."""
     return (f"cut it into files of at most {(facts.file_most - HEADER) // (2 * sides * rate) // 60} minutes, "
-            "or let liq-prepare do so")
+            "or let liq prepare do so")
 
 
 def trouble_of_size(sound: Sound, facts: Facts) -> str:

@@ -85,7 +85,7 @@ def hours_of(companion: Companion, script: str) -> Hours:
     try:
         week = told(companion, script)
     except NoPlan:
-        tell(f"page: {script}: the week of this script cannot be told; liq-week says why")
+        tell(f"page: {script}: the week of this script cannot be told; liq week says why")
         return Hours([])
     except NoAnswer as error:
         tell(f"page: the week cannot be told: {error}")

@@ -1,5 +1,6 @@
 """The command liq-where: the places that lines of `liq check` name."""
 import os
+import sys
 from typing import Callable, Iterator, List
 
 from liq.command import input_lines, write_line
@@ -11,6 +12,13 @@ from liq.serving.looking import Look
 
 USAGE = "usage: liq where [--lines|--json] [--text] FILE"
 FORMS = {"--lines": as_line, "--json": as_json}
+
+
+def at_terminal(file: str) -> Iterator[str]:
+    """The lines of standard input with the places, as a terminal may show them."""
+    said = "".join(input_lines())
+    printed = Companion(program_of(COMPANION)).where(file, said)
+    yield from (f"{line}\n" for line in printed.removesuffix("\n").split("\n") if printed)
 
 
 def told(file: str, form: Callable[..., str], is_text: bool) -> Iterator[str]:
@@ -27,7 +35,7 @@ def told(file: str, form: Callable[..., str], is_text: bool) -> Iterator[str]:
 
 
 def become(file: str) -> None:
-    """Becomes the companion, which passes the lines on."""
+    """Becomes the companion, which passes the lines on as they are."""
     path = program_of(COMPANION)
     try:
         os.execv(path, [path, "where", file])
@@ -38,10 +46,11 @@ def become(file: str) -> None:
 def main(words: List[str]) -> int:
     """Prints standard input, and the places behind its lines."""
     is_text = len(words) == 3 and words[1] == "--text"
-    if len(words) == 1 and not words[0].startswith("--"):
+    is_plain = len(words) == 1 and not words[0].startswith("--")
+    if is_plain and not sys.stdout.isatty():
         become(words[0])
-    if len(words) != 2 + is_text or words[0] not in FORMS or words[-1].startswith("--"):
+    if not is_plain and (len(words) != 2 + is_text or words[0] not in FORMS or words[-1].startswith("--")):
         raise Usage(USAGE)
-    for line in told(words[-1], FORMS[words[0]], is_text):
+    for line in at_terminal(words[0]) if is_plain else told(words[-1], FORMS[words[0]], is_text):
         write_line(line)
     return 0

@@ -70,7 +70,7 @@ def explain(said: bytes, words: List[str], companion: Companion, program: str, l
     lines = shown_lines("\n".join([text.removesuffix("\n"), *further(said, words[1], companion, program)]))
     say_lines(drawn(lines))
     if words[0] == "check" and re.match(r"E2[5-8] ", text):
-        say_lines(f"to see it: {liq} picture {typed(words[1])} | dot -Tsvg > picture.svg")
+        say_lines(f"to see it: {liq} picture {typed(words[1])} | dot -Tsvg -o picture.svg")
 
 
 def ask_doctor(program: str, words: List[str]) -> List[str]:

@@ -12,7 +12,7 @@ SECONDS = 10               # for which graphviz may draw
 MOST = 1 << 20             # bytes of a picture's text that graphviz is given
 BOXES = 600                # sources that can be clicked
 PAD = 4.0                  # points round a picture
-TOO_LARGE = "the picture is too large to be drawn here; liq-picture prints it"
+TOO_LARGE = "the picture is too large to be drawn here; liq picture prints it"
 MISSING = "graphviz is missing: install the package graphviz, and the picture of the station stands here"
 NODE = re.compile(r"node n(\d+) ([\d.]+) ([\d.]+) ([\d.]+) ([\d.]+) ")
 
@@ -40,7 +40,7 @@ def picture_of(companion: Companion, file: str, week: Week) -> "tuple[Optional[P
     try:
         done = subprocess.run(["dot", "-Tsvg", "-Tplain"], input=text, capture_output=True, check=False, timeout=SECONDS)
     except subprocess.TimeoutExpired:
-        return None, f"graphviz takes more than {SECONDS} seconds for this picture; liq-picture prints its text"
+        return None, f"graphviz takes more than {SECONDS} seconds for this picture; liq picture prints its text"
     except OSError as error:
         return None, f"dot: {error.strerror}"
     return drawn(done.stdout) if done.returncode == 0 else (None, f"graphviz ends with status {done.returncode}")

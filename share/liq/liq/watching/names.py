@@ -49,3 +49,17 @@ def shown_lines(text: str) -> str:
             lines.append(as_line(line))
         before = line
     return "\n".join(lines)
+
+
+class Terminal:
+    """Lines as a terminal shows them, one after another. A caret moves with the line before it."""
+
+    def __init__(self) -> None:
+        self.before = ""
+
+    def line(self, line: str) -> str:
+        """The next line, with its end if it has one."""
+        body = line.removesuffix("\n")
+        found = shown_lines(f"{self.before}\n{body}").rpartition("\n")[2]
+        self.before = body
+        return found + line[len(body):]
