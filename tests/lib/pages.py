@@ -20,7 +20,7 @@ MOST_WORDS = 300
 MOST_OF_A_FIGURE = 60 * 1024
 
 # The most words of a sentence, of a sentence of a page on average, of the README, and of all pages together.
-MOST_OF_SENTENCE, MOST_ON_AVERAGE, MOST_OF_README, MOST_OF_ALL = 45, 22, 1500, 82000
+MOST_OF_SENTENCE, MOST_ON_AVERAGE, MOST_OF_README, MOST_OF_ALL = 45, 22, 1500, 82500
 
 # Operators of a plan, of several kinds: where all of them stand, operators are gone through one by one.
 OPERATORS = ("Mean", "Rotate", "Crossfade", "Blank")
