@@ -150,7 +150,8 @@ def ended(work: Night, groups: List[List[str]], found: Found, report: Report) ->
                 if name not in group and os.path.exists(name):
                     print(f"{shown(name)}: is left from an earlier night")
     for line in work.library.told():
-        found.tell(line)
+        with contextlib.suppress(OSError):      # the outputs are there, also where nobody reads that
+            found.tell(line)
     told = found.stops + found.told
     try:
         made = page.page_of(work, groups, told)
@@ -174,7 +175,8 @@ def night(call: words.Call, found: Found, report: Report) -> str:
         rooms.examine(station.outputs, not parts.fits([int(call.seconds * station.rate) * 2 * station.width]))
         made = rooms.Rooms(station.outputs)
         try:
-            for name in putting.end_begun(made):
+            report.put = putting.end_begun(made)
+            for name in report.put:
                 print(f"{shown(name)}: is put in its place now, as a night was killed while it did so", flush=True)
             moment = call.when.moment if call.when.is_given else None
             work = Night(station, program, call.when.second, call.seconds, made, library, moment)
@@ -198,7 +200,7 @@ def tell(line: str) -> None:
     try:
         print(line, flush=True)
     except OSError as error:
-        print(f"night: standard output: {error.strerror}; {line}", file=sys.stderr)
+        tell_error(f"night: standard output: {error.strerror}; {line}")
         os.dup2(os.open(os.devnull, os.O_WRONLY), sys.stdout.fileno())
 
 
@@ -211,11 +213,11 @@ def end_of(call: words.Call, report: Report) -> Dict[int, str]:
             tell(line)
         return {0: ""}
     except Failed as error:
-        return {error.status: str(error)}
+        return {error.status: report.kept(str(error))}
     except OSError as error:
-        return {4: f"{shown(str(error.filename or 'standard output'))}: {error.strerror}; {KEPT}"}
+        return {4: report.kept(f"{shown(str(error.filename or 'standard output'))}: {error.strerror}; {KEPT}")}
     except KeyboardInterrupt as error:
-        return {128 + int(error.args[0]): f"broken off; {KEPT}"}
+        return {128 + int(error.args[0]): report.kept(f"broken off; {KEPT}")}
     finally:
         report.add(**({} if "found" in report.told else {"found": found.stops + found.told}))
 
