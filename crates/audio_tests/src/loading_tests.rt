@@ -116,7 +116,7 @@ fn count_tracks(
     Ok(library.tracks(0))
 }
 
-/// The word for a fault in these tables.
+/// What is asked of a fault here.
 fn fault_name(fault: &LoadFault) -> &'static str {
     match fault {
         LoadFault::Missing(_) => "missing",
@@ -127,7 +127,7 @@ fn fault_name(fault: &LoadFault) -> &'static str {
     }
 }
 
-/// The rate of a plan in samples a second, by whether it is slow.
+/// The rate of a plan.
 fn rate_of(slow: bool) -> u32
     ensures least { 8000 ≤ result }
     ensures most { result ≤ 192000 }
@@ -198,8 +198,7 @@ const HEADS: &[(usize, u64, Option<Result<(u64, u64), WavFault>>)] = &[
     (36, 36, Some(Err(WavFault::NoData))),
 ];
 
-/// What the front of a file of `size` bytes tells: the place of the first block and the bytes of all, a fault, or
-/// nothing.
+/// What a front tells.
 fn told_by(front: &[u8], size: u64) -> Option<Result<(u64, u64), WavFault>> {
     match read_head(front, size) {
         Some(Ok(head)) => Some(Ok((head.at, head.size))),

@@ -13,7 +13,7 @@ use plan_core::{Items, Op};
 use script_values::{Given, Machine, Stop, Value};
 use std::alloc::Global;
 
-/// `single(file)`: adds a node that repeats an audio file.
+/// `single(file)`.
 #[tactic(auto, unfolding(crate::specs::Builtins::single))]
 pub(crate) fn single(
     alloc: Global,
@@ -29,8 +29,7 @@ pub(crate) fn single(
     add(machine, Op::Single(file), kind, Items::new(alloc))
 }
 
-/// `playlist(loop=true, mode="normal", file)`, whose name stands at token `at`: adds a node that plays the files of a
-/// list.
+/// `playlist(loop=true, mode="normal", file)`.
 #[tactic(auto, unfolding(crate::specs::Builtins::playlist))]
 pub(crate) fn playlist(
     alloc: Global,
@@ -56,7 +55,7 @@ pub(crate) fn playlist(
     )
 }
 
-/// `blank(duration=0.)`, whose name stands at token `at`: adds a node of zeros, in tracks of this duration.
+/// `blank(duration=0.)`.
 #[tactic(auto, unfolding(crate::specs::Builtins::blank))]
 pub(crate) fn blank(
     alloc: Global,
@@ -74,7 +73,7 @@ pub(crate) fn blank(
     add(machine, Op::Blank { track }, kind, Items::new(alloc))
 }
 
-/// `square(f)`, whose name stands at token `at`: adds a node that plays a square wave of this pitch in hertz.
+/// `square(f)`.
 #[tactic(auto, unfolding(crate::specs::Builtins::square))]
 pub(crate) fn square(
     alloc: Global,
@@ -92,7 +91,7 @@ pub(crate) fn square(
     add(machine, Op::Square { pitch }, kind, Items::new(alloc))
 }
 
-/// `fail()`: adds a node that has nothing to play.
+/// `fail()`.
 #[tactic(auto, unfolding(crate::specs::Builtins::fail))]
 pub(crate) fn fail(alloc: Global, kinds: &[Kind], machine: &mut Machine) -> Result<Value, Stop>
     ensures { Gives (λ v. (view_value v, machine.new)) result (fail kinds.now machine.old) }
@@ -101,7 +100,7 @@ pub(crate) fn fail(alloc: Global, kinds: &[Kind], machine: &mut Machine) -> Resu
     add(machine, Op::Fail, kind, Items::new(alloc))
 }
 
-// The one mode of a playlist, "normal"; any other is a bad value at token `at`.
+// The one mode of a playlist.
 fn is_normal(at: u32, mode: &str) -> Result<(), Stop>
     ensures { Gives (λ _. tt) result (is_normal at mode.now) }
 {

@@ -10,7 +10,6 @@ use Rattle.clock_threads.specs.TaskRuns.{CanRun, WasRun}
 abbrev pub with_taps : {S T : Type 0} → T → ClockEngine S → Task S T
 with_taps taps engine = record { engine = engine; taps = taps }
 
--- taps of no buffer: how many buffers they have, for which calls they stand, and which of them are the same
 abbrev pub no_buffers : ⊤ → ℕ
 no_buffers taps = 0
 
@@ -20,11 +19,11 @@ any_calls taps calls = ⊤
 abbrev pub any_taps : ⊤ → ⊤ → Type 0
 any_taps old new = ⊤
 
--- an engine of a plan without buffers may make `count` ticks more
+-- it may make so many ticks
 abbrev pub CanRunUnbuffered : {S : Type 0} → (told : S → SinkTold) → (count : ℕ) → ClockEngine S → Type 0
 CanRunUnbuffered told count engine = CanRun told no_buffers count (with_taps tt engine)
 
--- what is known of an engine of a plan without buffers that was run for `count` ticks
+-- what it did
 abbrev pub WasRunUnbuffered : {S : Type 0} → (told : S → SinkTold) → (count : ℕ) → (old new : ClockEngine S) → Type 0
 WasRunUnbuffered told count old new = WasRun told any_calls no_buffers any_taps count (with_taps tt old)
     (with_taps tt new)

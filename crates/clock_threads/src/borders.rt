@@ -11,14 +11,14 @@ use buffer_ends::{BufferLog, TakeEnd, ThreadTaps, WindowLog};
 use liq_base::Memory;
 use std::alloc::Global;
 
-// Takes out of a task the ends at which it takes.
+// Takes the ends out that take.
 fn lent<'a, O, R>(alloc: Global, task: &mut Task<'_, O, ThreadTaps<'a, R>>) -> Vec<TakeEnd<'a>>
     ensures { WasLent task.old task.new result.items }
 {
     task.taps.lend_takes(alloc)
 }
 
-// Puts back into a task the ends at which it takes.
+// Puts them back.
 fn put_back<'a, O, R>(task: &mut Task<'_, O, ThreadTaps<'a, R>>, takes: Vec<TakeEnd<'a>>)
     requires { Falling takes.items }
     ensures { WasPutBack task.old task.new takes.entry.items }
@@ -26,8 +26,7 @@ fn put_back<'a, O, R>(task: &mut Task<'_, O, ThreadTaps<'a, R>>, takes: Vec<Take
     task.taps.put_back(takes);
 }
 
-// Closes the window of a buffer at the task that puts, with the ends at which the other clock's task takes. Returns the
-// window's answers.
+// Closes the window of a buffer, with the ends that take of another clock.
 fn close_giver<O, R>(
     alloc: Global,
     task: &mut Task<'_, O, ThreadTaps<'_, R>>,
@@ -41,7 +40,7 @@ fn close_giver<O, R>(
     task.taps.close_with(alloc, takes, buffer)
 }
 
-// Closes the window of a buffer between the clocks `from` and `to`. Returns the window's answers.
+// Closes the window of a buffer between two clocks.
 fn close_join<O, R>(
     alloc: Global,
     tasks: &mut [Task<'_, O, ThreadTaps<'_, R>>],
@@ -61,7 +60,7 @@ fn close_join<O, R>(
     log
 }
 
-// Adds the answers of a window to a buffer's log, unless memory was refused before, by `kept`.
+// Adds the answers of a window to a buffer's log, unless those of another one could not be added.
 fn add_window(
     kept: Result<(), Memory>,
     log: &mut BufferLog,

@@ -11,7 +11,6 @@ use buffer_queue::{BufferQueue, PutPass, TakePass};
 use liq_base::Memory;
 use std::alloc::Global;
 
-// Adds to a clock's task an end at which it puts. Its buffer has a lower number than those of the ends before.
 fn add_put<'q, O, R>(
     task: &mut Task<'_, O, ThreadTaps<'q, R>>,
     end: PutEnd<'q>,
@@ -24,7 +23,6 @@ fn add_put<'q, O, R>(
     task.taps.add_put(end)
 }
 
-// Adds to a clock's task an end at which it takes.
 fn add_take<'q, O, R>(
     task: &mut Task<'_, O, ThreadTaps<'q, R>>,
     end: TakeEnd<'q>,
@@ -37,7 +35,7 @@ fn add_take<'q, O, R>(
     task.taps.add_take(end)
 }
 
-// Hands the ends of a buffer to two clocks: `put` to clock `from`, and `take` to clock `to`.
+// Hands both ends of a buffer to two clocks.
 fn join_one<'q, O, R>(
     tasks: &mut [Task<'_, O, ThreadTaps<'q, R>>],
     from: usize,
@@ -58,7 +56,7 @@ fn join_one<'q, O, R>(
     Ok(())
 }
 
-// Hands both ends of each buffer that joins two clocks to their tasks.
+// Hands both ends of each buffer that joins two clocks to these.
 pub(crate) fn join_all<'q, O, R>(
     wires: &[Wire],
     queues: &'q Vec<BufferQueue>,

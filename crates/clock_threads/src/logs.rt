@@ -8,7 +8,7 @@ use liq_base::Memory;
 use std::alloc::Global;
 use std::mem;
 
-// `count` logs without a window.
+// So many logs of no window.
 pub(crate) fn no_logs(alloc: Global, count: usize) -> Result<Vec<BufferLog>, Memory>
     ensures { IfOk result (λ logs. AreNoLogs count logs.items) }
 {
@@ -21,7 +21,7 @@ pub(crate) fn no_logs(alloc: Global, count: usize) -> Result<Vec<BufferLog>, Mem
     Ok(logs)
 }
 
-// Moves the logs of a clock's lists to `logs`, for the buffers with both ends in this clock.
+// Puts the logs of the lists of a clock where the buffers with both ends in it have theirs.
 pub(crate) fn take_logs(wires: &[Wire], clock: usize, lists: Vec<BufferLog>, logs: &mut [BufferLog])
     ensures { TookLogs wires.now clock lists.items logs.old logs.new }
 {
@@ -44,7 +44,7 @@ pub(crate) fn take_logs(wires: &[Wire], clock: usize, lists: Vec<BufferLog>, log
     }
 }
 
-// Exchanges a buffer's log for another one.
+// Exchanges a buffer's log for another.
 fn exchange(log: &mut BufferLog, other: &mut BufferLog)
     ensures { log.new ≡ other.old }
 {

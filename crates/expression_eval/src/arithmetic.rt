@@ -1,6 +1,4 @@
 // Comparisons, sums and products.
-// `left` says how many levels deeper evaluation may go; where it is used up, memory counts as wanting. The place `out`
-// gets a value or the first fault.
 ghost use Rattle.std.specs.Prelude.{map};
 ghost use Rattle.script_grammar.specs.View.{listed, view_compare, view_sum, view_added, view_product, view_multiplied};
 ghost use Rattle.script_values.specs.Gives.{Gives};
@@ -18,8 +16,6 @@ use script_values::{Machine, Stop, Value};
 use std::alloc::Global;
 
 /// comparison: sum ((`==` | `!=` | `<` | `<=` | `>` | `>=`) sum)?
-///
-/// Puts the truth of a comparison into `out`, or the value of a sum alone.
 #[cycle(value)]
 pub fn compare(
     alloc: Global,
@@ -42,9 +38,7 @@ pub fn compare(
     }
 }
 
-/// (`==` | `!=` | `<` | `<=` | `>` | `>=`) sum
-///
-/// Compares the value in `out`, if it is no fault, with the sum to its right.
+/// (`==` | `!=` | `<` | `<=` | `>` | `>=`) sum, behind the value in the place
 #[cycle(value)]
 #[inline(never)]
 fn compare_with(
@@ -65,8 +59,6 @@ fn compare_with(
 }
 
 /// sum: product ((`+` | `-`) product)*
-///
-/// Puts the value of a sum into `out`.
 #[cycle(value)]
 fn sum(
     alloc: Global,
@@ -83,9 +75,7 @@ fn sum(
     addends(alloc, scope, left, machine, &node.rest, out);
 }
 
-/// ((`+` | `-`) product)*
-///
-/// Adds these products to the value in `out`, or takes them from it, one after another.
+/// ((`+` | `-`) product)*, behind the value in the place
 #[cycle(value)]
 fn addends(
     alloc: Global,
@@ -106,9 +96,7 @@ fn addends(
     }
 }
 
-/// (`+` | `-`) product
-///
-/// Adds this product to the value in `out`, or takes it from it.
+/// (`+` | `-`) product, behind the value in the place
 #[cycle(value)]
 #[inline(never)]
 fn added(
@@ -131,8 +119,6 @@ fn added(
 }
 
 /// product: operand ((`*` | `/`) operand)*
-///
-/// Puts the value of a product into `out`.
 #[cycle(value)]
 fn product(
     alloc: Global,
@@ -149,9 +135,7 @@ fn product(
     factors(alloc, scope, left, machine, &node.rest, out);
 }
 
-/// ((`*` | `/`) operand)*
-///
-/// Multiplies the value in `out` by these operands, or divides it by them, one after another.
+/// ((`*` | `/`) operand)*, behind the value in the place
 #[cycle(value)]
 fn factors(
     alloc: Global,
@@ -172,9 +156,7 @@ fn factors(
     }
 }
 
-/// (`*` | `/`) operand
-///
-/// Multiplies the value in `out` by this operand, or divides it by it.
+/// (`*` | `/`) operand, behind the value in the place
 #[cycle(value)]
 #[inline(never)]
 fn multiplied(

@@ -1,5 +1,4 @@
 // The bodies of defs: their parameters, their inner bindings and their results.
-// `left` says how many levels deeper evaluation may go; where it is used up, memory counts as wanting.
 ghost use Rattle.std.specs.Prelude.{[], None, map};
 ghost use Rattle.script_grammar.specs.View.{listed, view_def, view_param, view_inner};
 ghost use Rattle.script_values.specs.Gives.{Gives};
@@ -19,7 +18,7 @@ use std::alloc::Global;
 
 /// def: `def` NameOpen (param (`,` param)*)? `)` `=`? inner* expression `end`
 ///
-/// The result of a def for a call with these arguments.
+/// Its result, for a call with these arguments. Where `left` is used up, memory is wanting.
 #[cycle(value)]
 #[tactic(auto, unfolding(eval_meaning::specs::Meaning::body))]
 pub fn body(
@@ -53,7 +52,7 @@ pub fn body(
 
 /// param (`,` param)*
 ///
-/// The bindings of the parameters of a def, by the arguments that they take.
+/// The bindings of the parameters, by the arguments that they take.
 #[cycle(value)]
 fn parameters(
     alloc: Global,
@@ -73,7 +72,7 @@ fn parameters(
 
 /// param (`,` param)*
 ///
-/// The bindings of parameters, of which each takes the value in `taken` at its place, or else its default.
+/// The same of parameters that take these, in order.
 #[cycle(value)]
 fn filled_parameters(
     alloc: Global,
@@ -101,7 +100,7 @@ fn filled_parameters(
 
 /// param: Name | `~` Name | `~` Name `=` value
 ///
-/// The binding of a parameter by the argument that it takes, or else by its default.
+/// Its binding, by the argument that it takes, if it takes one, or else by its default.
 #[cycle(value)]
 #[tactic(auto, unfolding(crate::specs::Parameters::filled))]
 fn parameter(
@@ -163,7 +162,7 @@ fn missing_parameter(
 
 /// inner*
 ///
-/// Adds the inner bindings of a def to `slots`, each evaluated behind the ones before it.
+/// The inner bindings of a def, each behind the ones before it.
 #[cycle(value)]
 fn inners(
     alloc: Global,
@@ -186,7 +185,7 @@ fn inners(
 
 /// inner: binding `;`?
 ///
-/// The binding that an inner binding of a def makes, behind the parameters and the inner bindings in `slots`.
+/// Its binding, in the scope of the parameters and of the inner bindings before it.
 #[cycle(value)]
 #[tactic(auto, unfolding(eval_meaning::specs::Meaning::inner))]
 fn inner(

@@ -1,6 +1,4 @@
 // Calls, their arguments, and what they call.
-// `left` says how many levels deeper evaluation may go; where it is used up, memory counts as wanting. The place `out`
-// gets a value or the first fault.
 ghost use Rattle.std.specs.Prelude.{[], map};
 ghost use Rattle.typing_rules.specs.Kinds.{kinds_of};
 ghost use Rattle.typing_rules.specs.Uses.{use_at};
@@ -25,7 +23,7 @@ use typing_rules::{Target, Use};
 
 /// call: NameOpen (argument (`,` argument)*)? `)`
 ///
-/// The value of a call, or its first fault.
+/// Its value, or its first fault.
 pub fn call(
     alloc: Global,
     scope: &Scope<'_>,
@@ -43,8 +41,7 @@ pub fn call(
 
 /// call: NameOpen (argument (`,` argument)*)? `)`
 ///
-/// Puts the value of a call into `out`. Its arguments are evaluated as they are written, and then what the name stands
-/// for is called.
+/// The arguments are evaluated as they are written, and then what the name stands for is called.
 #[cycle(value)]
 #[inline(never)]
 pub fn put_call(
@@ -66,7 +63,7 @@ pub fn put_call(
 
 /// argument (`,` argument)*
 ///
-/// The values of arguments in order, each with its label. `None` at the first fault, which is then in `out`.
+/// The values one after another, each with its label. `None` at the first fault, which is in the place then.
 #[cycle(value)]
 fn arguments(
     alloc: Global,
@@ -89,7 +86,7 @@ fn arguments(
     Some(given)
 }
 
-/// Calls what the name at token `at` stands for, and notes the sources that the call makes as its own.
+/// A call, at this token, of what the name there stands for. The sources that it makes are noted as its own.
 #[cycle(value)]
 #[inline(never)]
 #[tactic(auto, unfolding(eval_meaning::specs::Meaning::applied))]
@@ -116,7 +113,7 @@ fn applied(
     }
 }
 
-/// Calls the def or builtin that a use says, whose name stands at token `at`, and notes no source.
+/// The same of what a use says: a def or a builtin. No source is noted yet.
 #[cycle(value)]
 fn applied_to(
     alloc: Global,
@@ -141,7 +138,7 @@ fn applied_to(
     }
 }
 
-/// Calls the def at token `at`, with these open kinds and arguments. Where no more calls may run within each other, it
+/// A call of the def at this token, with these kinds and arguments. Where no more calls may run within each other, it
 /// is refused.
 #[cycle(value)]
 fn call_def(

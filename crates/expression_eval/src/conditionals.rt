@@ -1,6 +1,4 @@
 // Conditionals: one of two values.
-// `left` says how many levels deeper evaluation may go; where it is used up, memory counts as wanting. The place `out`
-// gets a value or the first fault.
 ghost use Rattle.script_grammar.specs.View.{view_if};
 ghost use Rattle.script_values.specs.Gives.{Gives};
 ghost use Rattle.eval_meaning.specs.Meaning.{choice};
@@ -16,7 +14,7 @@ use std::alloc::Global;
 
 /// if: `if` value `then` value `else` value `end`
 ///
-/// The value of an `if`, or its first fault.
+/// Its value, or its first fault.
 pub fn choice(
     alloc: Global,
     scope: &Scope<'_>,
@@ -34,7 +32,7 @@ pub fn choice(
 
 /// if: `if` value `then` value `else` value `end`
 ///
-/// Puts the value of an `if` into `out`. Of the two branches only the chosen one is evaluated.
+/// Of the two branches only the chosen one is evaluated.
 #[cycle(value)]
 #[inline(never)]
 pub fn put_choice(

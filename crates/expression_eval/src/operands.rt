@@ -1,6 +1,4 @@
 // Operands that hold values: calls, `if`, and values in round and square brackets.
-// `left` says how many levels deeper evaluation may go; where it is used up, memory counts as wanting. The place `out`
-// gets a value or the first fault.
 ghost use Rattle.std.specs.Prelude.{◌≤◌, length, map};
 ghost use Rattle.script_grammar.specs.View.{listed, view_full, view_operand};
 ghost use Rattle.script_values.specs.Gives.{Gives};
@@ -20,8 +18,7 @@ use std::alloc::Global;
 
 /// operand: call | if | `(` .. `)` | `[` .. `]` | one that holds no value
 ///
-/// Puts the value of an operand into `out`. Each arm that goes down ends in its call, so that nothing of this function
-/// is on the stack behind it.
+/// Each arm that goes down ends in its call, so that nothing of this function is on the stack behind it.
 #[cycle(value)]
 pub fn operand(
     alloc: Global,
@@ -64,10 +61,9 @@ pub fn operand(
     }
 }
 
-/// `(` (value (`,` value)*)? `)`
+/// `(` (value (`,` value)*)? `)`, behind its count
 ///
-/// Puts what stands in parentheses into `out`, once 1 is counted: no value is the one of `()`, one is itself, and
-/// several are a tuple.
+/// No value is the one of `()`, one is itself, and several are a tuple.
 #[cycle(value)]
 #[inline(never)]
 fn grouped(
@@ -88,9 +84,7 @@ fn grouped(
     }
 }
 
-/// `(` value (`,` value)+ `)`
-///
-/// Puts a tuple of two or more values into `out`, once 1 is counted.
+/// `(` value (`,` value)+ `)`, behind its count
 #[cycle(value)]
 fn pair(
     alloc: Global,
@@ -110,9 +104,7 @@ fn pair(
     }
 }
 
-/// `[` (value (`,` value)*)? `]`
-///
-/// Puts a list of values into `out`, once 1 is counted.
+/// `[` (value (`,` value)*)? `]`, behind its count
 #[cycle(value)]
 #[inline(never)]
 fn list(

@@ -15,8 +15,7 @@ use std::alloc::Global;
 use type_steps::{is_truth, is_truth_of_many, same};
 use type_terms::Subst;
 
-/// The number of the type variable of an expression; `None` where it has no type. It fails only where memory is
-/// refused.
+/// The variable that is the type of an expression; `None` where it has no type. It fails only where memory is refused.
 ///
 /// Where it has a type, one use for each name of its text was added, in the order of the tokens.
 #[cycle(value)]
@@ -48,7 +47,7 @@ pub fn type_expr(
     }
 }
 
-/// Makes one part of an `or` have type variable `n`, the type of the first; false where that cannot be.
+/// Makes one part of an `or` have the type of another.
 #[cycle(value)]
 fn join_and(
     alloc: Global,
@@ -76,7 +75,7 @@ fn join_and(
     }
 }
 
-/// Makes the other parts of an `or` have type variable `n`, the type of the first; false where that cannot be.
+/// Makes the parts of an `or` have the type of the first.
 #[cycle(value)]
 fn join_ands(
     alloc: Global,
@@ -104,7 +103,7 @@ fn join_ands(
     Ok(true)
 }
 
-/// The type of parts joined by `and`: the number of its type variable, or `None` where the parts have no type.
+/// The type of parts joined by `and`.
 #[cycle(value)]
 fn type_and(
     alloc: Global,
@@ -134,7 +133,7 @@ fn type_and(
     }
 }
 
-/// Makes one part of an `and` have type variable `n`, the type of the first; false where that cannot be.
+/// Makes one part of an `and` have the type of another.
 #[cycle(value)]
 fn join_not(
     alloc: Global,
@@ -162,7 +161,7 @@ fn join_not(
     }
 }
 
-/// Makes the other parts of an `and` have type variable `n`, the type of the first; false where that cannot be.
+/// Makes the parts of an `and` have the type of the first.
 #[cycle(value)]
 fn join_nots(
     alloc: Global,
@@ -190,7 +189,7 @@ fn join_nots(
     Ok(true)
 }
 
-/// The type of a comparison, perhaps behind `not`: the number of its type variable, or `None` where there is no type.
+/// The type of a comparison, perhaps behind `not`.
 #[cycle(value)]
 fn type_not(
     alloc: Global,

@@ -3,25 +3,25 @@ use Rattle.std.specs.Prelude.{◌≡◌, ◌<◌, Bool, false, not, ◌&&◌, �
 use Rattle.frame_core.specs.declared.cell.CellMark.{CellMark}
 use Rattle.frame_core.specs.declared.cell.MarkRun.{MarkRun}
 
--- `count` marks of a title, the first of which may begin a track
+-- so many marks of a title, the first of which may begin a track
 abbrev pub run_marks : (first : Bool) → (title count : ℕ) → List CellMark
 run_marks first title zero = []
 run_marks first title (suc n) = record { first = first; title = title } ∷ replicate n (record { first = false; title = title })
 
--- the marks that these runs stand for, in order
+-- the marks of these runs
 abbrev pub marks_in : List MarkRun → List CellMark
 marks_in [] = []
 marks_in (run ∷ runs) = run_marks run.first run.title run.count ++ marks_in runs
 
--- mark `at` of a run, counted from 0
+-- the mark of a run at a place
 abbrev pub mark_at : MarkRun → ℕ → CellMark
 mark_at run at = record { first = run.first && nat_eq at 0; title = run.title }
 
--- a run goes on with the one before it: it begins no track and has the same title
+-- a run that goes on with another one
 abbrev pub joins : MarkRun → MarkRun → Bool
 joins last run = not run.first && nat_eq last.title run.title
 
--- the first of these runs, if there is one, does not go on with `last`
+-- the first of some runs does not go on with this one
 abbrev pub IsApart : MarkRun → List MarkRun → Type 0
 IsApart last [] = Unit {0}
 IsApart last (run ∷ runs) = joins last run ≡ false

@@ -43,7 +43,7 @@ pub fn resolve_statement<'a>(
     Ok(())
 }
 
-/// A fault of names as that of statement `number`.
+/// A fault of names as that of a statement.
 fn in_statement(number: u32, fault: NameFault) -> TypeFault
     ensures same { result ≡ the_fault_in number fault }
 {
@@ -59,7 +59,7 @@ fn in_statement(number: u32, fault: NameFault) -> TypeFault
     }
 }
 
-/// Refuses statement `number` for the fault that was noted, if there is one.
+/// The fault that was told, if there is one, as that of a statement.
 fn check_fault(notes: &mut Notes, number: u32) -> Result<(), TypeFault>
     ensures kept { OnOk result (found_in notes.new ≡ found_in notes.old) }
     ensures faultless { OnOk result (notes.old.fault ≡ None) }

@@ -81,7 +81,6 @@ pub fn note_choice(
     Ok(())
 }
 
-// The names that parts joined by `or` use.
 #[cycle(value)]
 fn note_ands(
     alloc: Global,
@@ -98,7 +97,6 @@ fn note_ands(
     Ok(())
 }
 
-// The names that parts joined by `and` use.
 #[cycle(value)]
 fn note_and(
     alloc: Global,
@@ -114,7 +112,6 @@ fn note_and(
     Ok(())
 }
 
-// The names that the parts behind an `and` use.
 #[cycle(value)]
 fn note_nots(
     alloc: Global,
@@ -131,7 +128,6 @@ fn note_nots(
     Ok(())
 }
 
-// The names that a comparison uses, perhaps behind `not`.
 #[cycle(value)]
 fn note_not(
     alloc: Global,
@@ -145,7 +141,6 @@ fn note_not(
     note_compare(alloc, scopes, notes, &not.inner)
 }
 
-// The names that a sum uses, and the one that it is compared with.
 #[cycle(value)]
 fn note_compare(
     alloc: Global,
@@ -166,7 +161,6 @@ fn note_compare(
     }
 }
 
-// The names that products joined by `+` and `-` use.
 #[cycle(value)]
 fn note_sum(
     alloc: Global,
@@ -182,7 +176,6 @@ fn note_sum(
     Ok(())
 }
 
-// The names that the products behind a `+` or `-` use.
 #[cycle(value)]
 fn note_addends(
     alloc: Global,
@@ -199,7 +192,6 @@ fn note_addends(
     Ok(())
 }
 
-// The names that a product behind a `+` or `-` uses.
 #[cycle(value)]
 fn note_added(
     alloc: Global,
@@ -213,7 +205,6 @@ fn note_added(
     note_product(alloc, scopes, notes, &added.product)
 }
 
-// The names that operands joined by `*` and `/` use.
 #[cycle(value)]
 fn note_product(
     alloc: Global,
@@ -229,7 +220,6 @@ fn note_product(
     Ok(())
 }
 
-// The names that the operands behind a `*` or `/` use.
 #[cycle(value)]
 fn note_factors(
     alloc: Global,
@@ -246,7 +236,6 @@ fn note_factors(
     Ok(())
 }
 
-// The names that an operand behind a `*` or `/` uses.
 #[cycle(value)]
 fn note_multiplied(
     alloc: Global,
@@ -260,7 +249,6 @@ fn note_multiplied(
     note_operand(alloc, scopes, notes, &multiplied.operand)
 }
 
-// The names that an operand uses.
 #[cycle(value)]
 fn note_operand(
     alloc: Global,
@@ -287,7 +275,6 @@ fn note_operand(
     }
 }
 
-// The names that values use, one after another.
 #[cycle(value)]
 fn note_fulls(
     alloc: Global,
@@ -304,7 +291,6 @@ fn note_fulls(
     Ok(())
 }
 
-// The names that the arguments of a call use.
 #[cycle(value)]
 fn note_args(
     alloc: Global,
@@ -321,7 +307,6 @@ fn note_args(
     Ok(())
 }
 
-// The names that an argument uses.
 #[cycle(value)]
 fn note_arg(
     alloc: Global,

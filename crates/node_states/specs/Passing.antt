@@ -23,25 +23,23 @@ passes (Cross state) = crossing_passes state
 passes (Read reader) = false
 passes Idle = false
 
--- how many slots of its child a crossfade takes for the first items of a stretch, up to item j, counted from 0: one for
--- each where cells pass, and otherwise none
+-- how many slots more than it was filled item j of a run asks for: where cells pass one for each item, else none
 abbrev pub asked : (through : Bool) → (j : ℕ) → ℕ
 asked true j = suc j
 asked false j = 0
 
--- the part of node i at an instant if it gave there, and otherwise silence
+-- what node i gave at an instant
 abbrev pub given_part : Moment → ℕ → Part
 given_part moment i = if gives moment i then part_at moment.parts i else silent
 
--- after the first n slots of a crossfade's child come `count` cells with this title and these samples
+-- behind the first n slots of a crossfade's child come the cells of this lane and of this title
 pub record LaneFills (slots_of : ℕ → List Slot) (n count title : ℕ) (left right : List ℤ) : Type 0 where
   pub slots : ℕ → Slot
   pub lane : IsLane slots count left right
   pub titled : AreTitled slots count title
   pub filled : (m : ℕ) → m < count → slots_of (suc (n + m)) ≡ slots_of (n + m) ++ slots m ∷ []
 
--- after the first n slots of a crossfade's child come `count` cells with this title and the samples that the lanes have
--- of that child
+-- they are the cells of the lane of its child
 pub record ChildFills (slots_of : ℕ
     → List Slot) (n count title : ℕ) (children : List ℕ) (lefts rights : Lanes) : Type 0 where
   pub child : ℕ

@@ -26,8 +26,8 @@ pub fn predicate(alloc: Global, tokens: &[Token]) -> Result<(POr, &[Token]), Fau
     por(alloc, tokens.len() + 1, tokens)
 }
 
-// A predicate of at most `levels` levels: one for itself, and one for each that it nests. More levels than tokens are
-// enough.
+// The same with so many levels at most: one for the predicate itself, and one for each that it nests. More
+// levels than tokens are enough.
 #[cycle(predicate)]
 fn por(alloc: Global, levels: usize, tokens: &[Token]) -> Result<(POr, &[Token]), Fault>
     ensures { Reads view_por IsWholePOr (por_by levels) tokens.now result }
@@ -39,7 +39,6 @@ fn por(alloc: Global, levels: usize, tokens: &[Token]) -> Result<(POr, &[Token])
     }
 }
 
-// predicate: and (`or` and)*, where others nest in at most `levels` levels.
 #[cycle(predicate)]
 #[tactic(auto, unfolding(script_grammar::specs::ReadPredicate::por_step, script_grammar::specs::Read::chain))]
 fn por_step(alloc: Global, levels: usize, tokens: &[Token]) -> Result<(POr, &[Token]), Fault>
@@ -50,7 +49,6 @@ fn por_step(alloc: Global, levels: usize, tokens: &[Token]) -> Result<(POr, &[To
     Ok((make::predicate(first, others)?, rest))
 }
 
-// (`or` and)*
 #[cycle(predicate)]
 fn pands(alloc: Global, levels: usize, tokens: &[Token]) -> Result<(Vec<PAnd>, &[Token]), Fault>
     ensures shorter { IfOk result (λ x. length x.1.now ≤ length tokens.now) }
@@ -68,7 +66,6 @@ fn pands(alloc: Global, levels: usize, tokens: &[Token]) -> Result<(Vec<PAnd>, &
     Ok((items, rest))
 }
 
-// `or` and
 #[cycle(predicate)]
 #[tactic(auto, unfolding(script_grammar::specs::Read::behind))]
 fn or_pand(alloc: Global, levels: usize, tokens: &[Token]) -> Result<(PAnd, &[Token]), Fault>
@@ -78,7 +75,6 @@ fn or_pand(alloc: Global, levels: usize, tokens: &[Token]) -> Result<(PAnd, &[To
     pand(alloc, levels, rest)
 }
 
-// and: not (`and` not)*
 #[cycle(predicate)]
 #[tactic(auto, unfolding(script_grammar::specs::ReadPredicate::pand, script_grammar::specs::Read::chain))]
 fn pand(alloc: Global, levels: usize, tokens: &[Token]) -> Result<(PAnd, &[Token]), Fault>
@@ -89,7 +85,6 @@ fn pand(alloc: Global, levels: usize, tokens: &[Token]) -> Result<(PAnd, &[Token
     Ok((make::predicate_term(first, others)?, rest))
 }
 
-// (`and` not)*
 #[cycle(predicate)]
 fn pnots(alloc: Global, levels: usize, tokens: &[Token]) -> Result<(Vec<PNot>, &[Token]), Fault>
     ensures shorter { IfOk result (λ x. length x.1.now ≤ length tokens.now) }
@@ -107,7 +102,6 @@ fn pnots(alloc: Global, levels: usize, tokens: &[Token]) -> Result<(Vec<PNot>, &
     Ok((items, rest))
 }
 
-// `and` not
 #[cycle(predicate)]
 #[tactic(auto, unfolding(script_grammar::specs::Read::behind))]
 fn and_pnot(alloc: Global, levels: usize, tokens: &[Token]) -> Result<(PNot, &[Token]), Fault>
@@ -117,7 +111,6 @@ fn and_pnot(alloc: Global, levels: usize, tokens: &[Token]) -> Result<(PNot, &[T
     pnot(alloc, levels, rest)
 }
 
-// not: `not`? atom
 #[cycle(predicate)]
 #[tactic(auto, unfolding(script_grammar::specs::ReadPredicate::pnot))]
 fn pnot(alloc: Global, levels: usize, tokens: &[Token]) -> Result<(PNot, &[Token]), Fault>
@@ -128,7 +121,6 @@ fn pnot(alloc: Global, levels: usize, tokens: &[Token]) -> Result<(PNot, &[Token
     Ok((PNot { negated, atom }, rest))
 }
 
-// atom: `true` | `false` | time | time `-` time | `(` predicate `)`
 #[cycle(predicate)]
 #[tactic(auto, unfolding(script_grammar::specs::ReadPredicate::patom))]
 fn patom(alloc: Global, levels: usize, tokens: &[Token]) -> Result<(PAtom, &[Token]), Fault>
@@ -150,7 +142,7 @@ fn patom(alloc: Global, levels: usize, tokens: &[Token]) -> Result<(PAtom, &[Tok
     }
 }
 
-// time | time `-` time, behind the first time, which is `from`.
+// A time mark, or two with a `-` between: the tokens behind the first.
 #[tactic(auto, unfolding(script_grammar::specs::ReadPredicate::interval))]
 fn interval(from: TimeMark, tokens: &[Token]) -> Result<(PAtom, &[Token]), Fault>
     ensures shorter { IfOk result (λ x. length x.1.now ≤ length tokens.now) }

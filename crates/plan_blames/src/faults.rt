@@ -9,8 +9,7 @@ use clock_infer::{ClockFault, ClockName};
 use liq_base::Memory;
 use plan_core::Node;
 
-/// Appends what is told of a fault of clocks: nothing if the plan is refused for a silence (`silent`). `groups` has the
-/// group of each source.
+/// Appends what is told of a fault of clocks: nothing where a silence is told.
 pub fn push_fault(
     into: &mut Vec<u8>,
     silent: bool,
@@ -28,7 +27,6 @@ pub fn push_fault(
     push_region(into, nodes, fault, groups)
 }
 
-// Appends the heading of a picture for a fault of clocks.
 fn push_told(into: &mut Vec<u8>, fault: &ClockFault) -> Result<(), Memory>
     ensures { OnOk result (into.new.items ≡ into.old.items ++ told_text fault.now) }
 {
@@ -37,7 +35,6 @@ fn push_told(into: &mut Vec<u8>, fault: &ClockFault) -> Result<(), Memory>
     push_plain(into, b"\";\n")
 }
 
-// Appends the line over a picture for a fault of clocks.
 fn push_heading(into: &mut Vec<u8>, fault: &ClockFault) -> Result<(), Memory>
     ensures { OnOk result (into.new.items ≡ into.old.items ++ heading fault.now) }
 {
@@ -51,7 +48,7 @@ fn push_heading(into: &mut Vec<u8>, fault: &ClockFault) -> Result<(), Memory>
     }
 }
 
-// Appends the region round the sources that would share a clock, if the fault is of such.
+// Appends the region round the sources of the group of the fault.
 fn push_region(
     into: &mut Vec<u8>,
     nodes: &[Node],
@@ -73,7 +70,6 @@ fn push_region(
     }
 }
 
-// Appends the region round the group of this source, which two clocks would drive.
 fn push_shared_region(
     into: &mut Vec<u8>,
     nodes: &[Node],
@@ -91,7 +87,6 @@ fn push_shared_region(
     Ok(())
 }
 
-// Appends the label of a group for which both of these clocks are wanted.
 fn push_shared_label(
     into: &mut Vec<u8>,
     first: &ClockName,
@@ -104,7 +99,6 @@ fn push_shared_label(
     push_plain(into, b" are wanted")
 }
 
-// Appends the region round what lies in the own clock of this crossfade.
 fn push_own_region(
     into: &mut Vec<u8>,
     nodes: &[Node],
@@ -120,14 +114,12 @@ fn push_own_region(
     Ok(())
 }
 
-// Appends the label of what lies in the own clock of crossfade k.
 fn push_own_label(into: &mut Vec<u8>, k: u64) -> Result<(), Memory>
     ensures { OnOk result (into.new.items ≡ into.old.items ++ own_label k) }
 {
     push_number(into, b"own clock of crossfade ", k)
 }
 
-// Appends the rest of a region, after its label, round the groups of the children of this crossfade.
 fn push_own_rest(
     into: &mut Vec<u8>,
     nodes: &[Node],
@@ -143,7 +135,6 @@ fn push_own_rest(
     }
 }
 
-// Appends the rest of a region, after its label: how it looks, and the sources in the groups of `these`.
 fn push_red_rest(
     into: &mut Vec<u8>,
     groups: &[u32],
@@ -162,7 +153,6 @@ fn push_red_rest(
     Ok(())
 }
 
-// Appends the names of the sources in the groups of `these`.
 fn push_red_members(
     into: &mut Vec<u8>,
     groups: &[u32],
@@ -178,7 +168,6 @@ fn push_red_members(
     Ok(())
 }
 
-// Appends the name of source k, if it is in the region.
 fn push_red_member(into: &mut Vec<u8>, is_in: bool, k: u64) -> Result<(), Memory>
     ensures { OnOk result (into.new.items ≡ into.old.items ++ red_member is_in k) }
 {
@@ -189,7 +178,7 @@ fn push_red_member(into: &mut Vec<u8>, is_in: bool, k: u64) -> Result<(), Memory
     }
 }
 
-// Whether source k is in the group of one of `these`.
+// Whether source k is in the group of one of these.
 fn shares(groups: &[u32], these: &[u32], k: u64) -> bool
     ensures { result ≡ shares (λ source. slice_index groups.now source) these.now k }
 {

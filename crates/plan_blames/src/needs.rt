@@ -8,8 +8,7 @@ ghost use Rattle.plan_blames.specs.Needs.{HasOther, IsAlone, IsOnly, is_last, ne
 use plan_core::Op;
 use time_pred::SharedPred;
 
-/// Whether a source of this operator over these children, if it may offer nothing, needs this one: it would always
-/// offer something if this one did.
+/// Whether a source of this operator over these children, where it may offer nothing, does so for this one.
 pub fn needs(op: &Op, children: &[u32], child: u64) -> bool
     ensures { result ≡ needs op.now children.now child }
 {
@@ -33,7 +32,6 @@ fn is_sure(preds: &[SharedPred], children: &[u32], child: u64) -> bool
     false
 }
 
-// Whether a child is the last one.
 fn is_last(children: &[u32], child: u64) -> bool
     ensures { result ≡ is_last children.now child }
 {
@@ -43,7 +41,6 @@ fn is_last(children: &[u32], child: u64) -> bool
     }
 }
 
-// Whether a child is one of these.
 fn contains(children: &[u32], child: u64) -> bool
     ensures { result ≡ some_child children.now child }
 {
@@ -91,7 +88,7 @@ fn first_sure(preds: &[SharedPred], children: &[u32]) -> Option<u32>
     None
 }
 
-// `first`, if no predicate of another child is always true by its form, and otherwise nothing.
+// This one, where no predicate of another child is always true by its form.
 fn lone_sure(preds: &[SharedPred], children: &[u32], first: u32) -> Option<u32>
     requires { some_case (map view_shared preds.now) children.now first ≡ true }
     ensures { IsOnly (some_case (map view_shared preds.now) children.now) result }
@@ -102,7 +99,7 @@ fn lone_sure(preds: &[SharedPred], children: &[u32], first: u32) -> Option<u32>
     Some(first)
 }
 
-// Whether a predicate of another child than `first` is always true by its form.
+// Whether a predicate of another child is always true by its form.
 fn other_sure(preds: &[SharedPred], children: &[u32], first: u32) -> bool
     ensures yes { result ≡ true → HasOther (some_case (map view_shared preds.now) children.now) first }
     ensures no { result ≡ false → IsAlone (some_case (map view_shared preds.now) children.now) first }
@@ -116,7 +113,7 @@ fn other_sure(preds: &[SharedPred], children: &[u32], first: u32) -> bool
     false
 }
 
-// Whether a predicate is always true by its form, and its child is another one than `first`.
+// Whether a predicate is always true by its form, of another child than this one.
 fn is_other_case(pred: &SharedPred, child: u32, first: u32) -> bool
     ensures yes { result ≡ true → (is_always (view_shared pred.now) ≡ true) × (child ≢ first) }
     ensures no { result ≡ false → is_always (view_shared pred.now) ≡ true → child ≡ first }
@@ -124,21 +121,20 @@ fn is_other_case(pred: &SharedPred, child: u32, first: u32) -> bool
     if pred.always() { child != first } else { false }
 }
 
-// The last child, which alone is needed; nothing where there is none.
+// The last child.
 fn only_last(children: &[u32]) -> Option<u32>
     ensures { IsOnly (is_last children.now) result }
 {
     last_of(children)
 }
 
-// The last child; nothing where there is none.
 fn last_of(children: &[u32]) -> Option<u32>
     ensures { result ≡ last_of children.now }
 {
     children.last().copied()
 }
 
-// The one child that all children are; nothing where there is none, or another.
+// The child that all children are.
 fn only_child(children: &[u32]) -> Option<u32>
     ensures { IsOnly (some_child children.now) result }
 {
@@ -148,14 +144,13 @@ fn only_child(children: &[u32]) -> Option<u32>
     }
 }
 
-// The first child; nothing where there is none.
 fn first_of(children: &[u32]) -> Option<u32>
     ensures { result ≡ slice_get children.now 0 }
 {
     children.first().copied()
 }
 
-// `first`, if there is no other child, and otherwise nothing.
+// This one, where there is no other.
 fn lone_child(children: &[u32], first: u32) -> Option<u32>
     requires { some_child children.now first ≡ true }
     ensures { IsOnly (some_child children.now) result }
@@ -166,7 +161,7 @@ fn lone_child(children: &[u32], first: u32) -> Option<u32>
     Some(first)
 }
 
-// Whether there is another child than `first`.
+// Whether there is another child.
 fn other_child(children: &[u32], first: u32) -> bool
     ensures yes { result ≡ true → HasOther (some_child children.now) first }
     ensures no { result ≡ false → IsAlone (some_child children.now) first }

@@ -43,7 +43,7 @@ const OLD: &[u8] = b"what was there";
 /// The report of two outputs, which begins with that of the first one.
 const REPORT: &[u8; 54] = b"output A samples 16 gaps 0\noutput C samples 16 gaps 0\n";
 
-/// Words of a rendering of two ticks: by threads, in windows of two lengths, and on one thread.
+/// By threads, in windows of any length, and on one thread.
 const LINES: &[&str] = &[
     "render f 2",
     "render f 2 --window=1",
@@ -58,17 +58,16 @@ enum Left {
     Front(usize, usize),
 }
 
-/// What is left: the front of an output, of so many bytes.
+/// The front of so many bytes.
 fn front(length: usize) -> Left {
     Left::Front(length, length)
 }
 
-/// What is left: the whole output.
+/// The whole output.
 fn whole() -> Left {
     front(ALL)
 }
 
-// Whether this is what is left under a name, by what was found there and what stood there before.
 fn is_left(left: Left, found: Option<&[u8]>, before: Option<&[u8]>) -> bool {
     match left {
         Left::Before => found == before,
@@ -90,7 +89,7 @@ struct Ending {
     told: usize,
 }
 
-/// The end of a call of which a write failed: nothing is told.
+/// A write failed, and nothing was told.
 fn failed(first: Left, second: Left) -> Ending {
     Ending {
         status: 4,
@@ -119,7 +118,7 @@ fn report_sink(alloc: Global, failing: Failing) -> Result<MemSink, Fail> {
     }
 }
 
-// The outputs and the report are left so.
+// What is left of the outputs and of the report.
 fn check_left(rt: &impl Abort, shelf: &MemShelf, told: &[u8], ending: Ending, is_old: bool) {
     let before = if is_old { Some(OLD) } else { None };
     assert!(rt; is_left(ending.first, shelf.get("A"), before));
@@ -127,7 +126,7 @@ fn check_left(rt: &impl Abort, shelf: &MemShelf, told: &[u8], ending: Ending, is
     assert!(rt; told.len() == ending.told && REPORT.starts_with(told));
 }
 
-// A call of these words on a shelf ends so, where this call of a device fails.
+// What a call of these words leaves on a shelf.
 fn check_shelf<R: Abort + Threads + Wait + Sync>(
     rt: &R,
     alloc: Global,
@@ -145,8 +144,7 @@ fn check_shelf<R: Abort + Threads + Wait + Sync>(
     Ok(())
 }
 
-// Over old outputs or none, a call of these words has this end, where this call of a device fails. `run` is a script
-// and the words.
+// What a call of these words leaves, over old outputs or none.
 fn check_over<R: Abort + Threads + Wait + Sync>(
     rt: &R,
     alloc: Global,
@@ -160,8 +158,7 @@ fn check_over<R: Abort + Threads + Wait + Sync>(
     check_shelf(rt, alloc, line, &mut shelf, failing, ending, is_old)
 }
 
-// A call of these words ends so, where this call of a device fails, over old outputs and over none. `run` is a script
-// and the words.
+// What a call of these words leaves.
 fn check<R: Abort + Threads + Wait + Sync>(
     rt: &R,
     alloc: Global,
@@ -189,8 +186,7 @@ fn check_reads<R: Abort + Threads + Wait + Sync>(
     check(rt, alloc, run, Failing::Read(1), ending)
 }
 
-// The report, of `length` bytes, breaks off at each byte, with all outputs whole. `second` is what is left of the
-// second output, which may not be there.
+// The report breaks off at each byte, with all outputs whole.
 fn check_reports<R: Abort + Threads + Wait + Sync>(
     rt: &R,
     alloc: Global,
@@ -210,7 +206,7 @@ fn check_reports<R: Abort + Threads + Wait + Sync>(
     Ok(())
 }
 
-// Where this call of a device is told to fail, none does: there are no more. `told` is how long the report is.
+// Where this call is told to fail, none does: there are no more.
 fn check_no_more<R: Abort + Threads + Wait + Sync>(
     rt: &R,
     alloc: Global,
@@ -228,7 +224,7 @@ fn check_no_more<R: Abort + Threads + Wait + Sync>(
     check(rt, alloc, run, failing, ending)
 }
 
-// A piece of the one output, of `size` bytes, breaks off at each byte: `before` bytes are written before it.
+// The header or a tick of the one output breaks off at each byte: so many bytes stand before it.
 fn check_one_piece<R: Abort + Threads + Wait + Sync>(
     rt: &R,
     alloc: Global,
@@ -276,9 +272,8 @@ fn each_call_of_one_output_fails(rt: HostRuntime) -> Result<(), Fail> {
     Ok(())
 }
 
-// A piece of one of two outputs breaks off after each number of bytes, up to those of a tick: `before` bytes of the
-// output are written before it. `piece` is the number of the output and of its piece, and `other` what is left of the
-// other output.
+// A piece of one of two outputs breaks off at each byte: so many bytes of it stand before. What is left of the other
+// one.
 fn check_piece_of_two<R: Abort + Threads + Wait + Sync>(
     rt: &R,
     alloc: Global,
@@ -404,7 +399,7 @@ fn one_clock_stops_and_the_other_ends_its_window(rt: HostRuntime) -> Result<(), 
     Ok(())
 }
 
-// A call of these words tells `taken` bytes of its line, and changes no file.
+// A call of these words tells this much of its line; no file is changed.
 fn check_front<R: Abort + Threads + Wait + Sync>(
     rt: &R,
     alloc: Global,

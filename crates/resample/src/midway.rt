@@ -3,11 +3,11 @@ ghost use Rattle.std.specs.Prelude.{◌≡◌, ◌<◌, ◌≤◌, ◌*◌, ◌*
 ghost use Rattle.resample.specs.Reciprocals.{inverse_of, signed_as};
 ghost use Rattle.resample.specs.Resampled.{interpolated};
 
-// Up to this many parts, a product takes the place of the division.
+// Up to so many parts a product takes the place of the division.
 const MOST: u32 = 92_681;
 
-/// The number that lies `part` of `whole` parts behind the sample `before` on the way to `behind`, rounded toward zero.
-/// `inverse` is `inverse_of(whole)`.
+/// The number that lies `part` of `whole` parts behind one sample on the way to another, rounded toward zero. `inverse`
+/// is that of `whole`.
 pub fn number_between(inverse: u64, before: i16, behind: i16, part: u32, whole: u32) -> i16
     requires within { part < whole }
     requires inverse { inverse ≡ inverse_of whole }
@@ -20,8 +20,7 @@ pub fn number_between(inverse: u64, before: i16, behind: i16, part: u32, whole: 
     }
 }
 
-/// 2^48 divided by the number of parts `whole`, and up to 1 more; its product with a number takes the place of a
-/// division by `whole`.
+/// 2^48 divided by a number of parts, and up to 1 more.
 pub fn inverse_of(whole: u32) -> u64
     requires { 0 < whole }
     ensures { result ≡ inverse_of whole }
@@ -29,7 +28,7 @@ pub fn inverse_of(whole: u32) -> u64
     281_474_976_710_656 / u64::from(whole) + 1
 }
 
-// The number `part` of `whole` parts behind one sample on the way to another, by a product with `inverse`.
+// By a product with 2^48 / whole.
 fn between_by(inverse: u64, before: i16, behind: i16, part: u32, whole: u32) -> i16
     requires within { part < whole }
     requires short { whole ≤ 92681 }
@@ -40,7 +39,7 @@ fn between_by(inverse: u64, before: i16, behind: i16, part: u32, whole: u32) -> 
     quotient(sum, inverse, whole) as i16
 }
 
-// The number `part` of `whole` parts behind one sample on the way to another, by a division.
+// By a division.
 fn between(before: i16, behind: i16, part: u32, whole: u32) -> i16
     requires { part < whole }
     ensures { result ≡ interpolated before behind part whole }
@@ -50,7 +49,7 @@ fn between(before: i16, behind: i16, part: u32, whole: u32) -> i16
     (sum / parts) as i16
 }
 
-// A sum divided by `whole`, a number of parts, rounded toward zero, by a product with `inverse`.
+// A sum divided by a number of parts.
 fn quotient(sum: i64, inverse: u64, whole: u32) -> i32
     requires short { (0 < whole) × (whole ≤ 92681) }
     requires inverse { inverse ≡ inverse_of whole }
@@ -61,7 +60,7 @@ fn quotient(sum: i64, inverse: u64, whole: u32) -> i32
     signed_as(sum, size)
 }
 
-// The number of this size that has the sign of `number`.
+// A size with the sign of a number.
 fn signed_as(number: i64, size: u64) -> i32
     requires { size ≤ 32768 }
     ensures { result ≡ signed_as number size }
@@ -73,7 +72,7 @@ fn signed_as(number: i64, size: u64) -> i32
     }
 }
 
-// A sample times its number of parts.
+// A sample, so many times.
 fn weighted(sample: i16, times: u32) -> i64
     ensures { result ≡ sample *ℤ pos times }
 {

@@ -7,8 +7,7 @@ ghost use Rattle.resample.specs.Resampled.{AreRates};
 use crate::midway::inverse_of;
 use liq_base::limits::MAX_RATE;
 
-/// A place in the file. The way from a block to the next one has as many parts as a second has samples at the other
-/// rate.
+/// A place in the file. The way from a block to the next one has as many parts as a second has samples at the new rate.
 #[derive(Clone, Copy)]
 pub struct Place {
     /// The block before it, counted from 0.
@@ -18,21 +17,19 @@ pub struct Place {
     pub part: u32,
 }
 
-/// What is needed to read a file of rate `from` at rate `to`, in samples a second. `step` is how far a sample at rate
-/// `to` lies behind the one before it, in the file.
+/// A rate, another, and what stands for the way from one sample of that to the next.
 #[derive(Clone, Copy)]
 pub struct Way {
     pub from: u32,
     pub to: u32,
     pub step: Place,
 
-    /// What takes the place of a division by `to`: a product with this number.
+    /// What takes the place of a division by `to`, and of eight at once.
     pub inverse: u64,
-    /// What takes the place of a division of eight numbers at once by `to`.
     pub by_lanes: u64,
 }
 
-/// What is needed to read a file of rate `from` at rate `to`, in samples a second.
+/// The way from a rate to another.
 pub fn way_of(from: u32, to: u32) -> Way
     requires { AreRates from to }
     ensures way { IsWay result }
@@ -48,7 +45,7 @@ pub fn way_of(from: u32, to: u32) -> Way
     }
 }
 
-/// The place in the file of sample `number` at the other rate, counted from 0.
+/// The place of a sample, by its number.
 pub fn place_of(way: &Way, number: u64) -> Place
     requires some { 0 < way.now.to }
     requires room { number * way.now.from < 2 ^ 64 }
@@ -63,7 +60,7 @@ pub fn place_of(way: &Way, number: u64) -> Place
     }
 }
 
-/// How far a sample at rate `to` lies behind the one before it, in a file of rate `from`.
+/// How far it is from one sample to the next.
 pub fn step_of(from: u32, to: u32) -> Place
     requires { 0 < to }
     ensures whole { reached to result ≡ from }
@@ -76,7 +73,7 @@ pub fn step_of(from: u32, to: u32) -> Place
     }
 }
 
-/// The place one `step` behind `place`, where a block has `to` parts.
+/// The place of the next sample.
 pub fn moved(place: Place, step: Place, to: u32) -> Place
     requires part { place.part < to }
     requires step { step.part < to }

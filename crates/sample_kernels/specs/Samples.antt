@@ -6,19 +6,19 @@ use Rattle.std.specs.Int.{int_max, int_min}
 abbrev pub clamped : ℤ → ℤ
 clamped number = int_max (negsuc 32767) (int_min number (pos 32767))
 
--- a number that may be the sum of this many samples
+-- where the sum of so many samples lies
 pub record IsSumOf (parts : ℕ) (sum : ℤ) : Type 0 where
   pub low : neg_ℤ (pos (32768 * parts)) ≤ℤ sum
   pub high : sum ≤ℤ pos (32767 * parts)
 
--- the mean of `parts` samples by their sum, rounded toward zero
+-- the mean of so many samples, by their sum
 abbrev pub mean_of : ℤ → ℕ → ℤ
 mean_of sum parts = int_div sum (pos parts)
 
--- a sample times a factor in millionths, rounded toward zero and cut to the range of a sample
+-- a sample times a factor in millionths
 abbrev pub scaled : ℤ → ℤ → ℤ
 scaled millionths sample = clamped (int_div (sample *ℤ millionths) (pos 1000000))
 
--- half the sum of two samples, rounded toward zero
+-- half the sum of two samples
 abbrev pub half_of : ℤ → ℤ → ℤ
 half_of left right = int_div (left +ℤ right) (pos 2)

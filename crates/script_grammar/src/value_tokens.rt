@@ -66,7 +66,6 @@ pub fn put_choice(alloc: Global, out: &mut Vec<TokenKind>, choice: &If) -> Resul
     put(out, TokenKind::Keyword(Keyword::End))
 }
 
-// The token of a number.
 fn literal_token(number: Literal) -> TokenKind
     ensures { result ≡ literal_token number }
 {
@@ -76,7 +75,6 @@ fn literal_token(number: Literal) -> TokenKind
     }
 }
 
-// The token of a truth value.
 fn truth_token(value: bool) -> TokenKind
     ensures { result ≡ truth_token value }
 {
@@ -87,7 +85,6 @@ fn truth_token(value: bool) -> TokenKind
     }
 }
 
-// The token of a comparing operator.
 fn op_token(op: CompareOp) -> TokenKind
     ensures { result ≡ op_token op }
 {
@@ -101,7 +98,6 @@ fn op_token(op: CompareOp) -> TokenKind
     }
 }
 
-// The token of an operator of a sum: `-` or `+`.
 fn added_token(minus: bool) -> TokenKind
     ensures { result ≡ added_token minus }
 {
@@ -112,7 +108,6 @@ fn added_token(minus: bool) -> TokenKind
     }
 }
 
-// The token of an operator of a product: `/` or `*`.
 fn multiplied_token(divide: bool) -> TokenKind
     ensures { result ≡ multiplied_token divide }
 {
@@ -123,7 +118,6 @@ fn multiplied_token(divide: bool) -> TokenKind
     }
 }
 
-// Appends the tokens of parts, each behind `or`.
 #[cycle(value)]
 fn put_ands(alloc: Global, out: &mut Vec<TokenKind>, ands: &[And]) -> Result<(), Memory>
     ensures { OnOk result (out.new.items ≡ out.old.items ++ each_behind (a_keyword word.Or) (map view_and ands.now)) }
@@ -135,7 +129,6 @@ fn put_ands(alloc: Global, out: &mut Vec<TokenKind>, ands: &[And]) -> Result<(),
     Ok(())
 }
 
-// Appends the tokens of parts with `and` between.
 #[cycle(value)]
 fn put_and(alloc: Global, out: &mut Vec<TokenKind>, and: &And) -> Result<(), Memory>
     ensures { OnOk result (out.new.items ≡ out.old.items ++ spell (view_and and.now)) }
@@ -144,7 +137,6 @@ fn put_and(alloc: Global, out: &mut Vec<TokenKind>, and: &And) -> Result<(), Mem
     put_nots(alloc, out, &and.rest)
 }
 
-// Appends the tokens of parts, each behind `and`.
 #[cycle(value)]
 fn put_nots(alloc: Global, out: &mut Vec<TokenKind>, nots: &[Not]) -> Result<(), Memory>
     ensures { OnOk result (out.new.items ≡ out.old.items ++ each_behind (a_keyword word.And) (map view_not nots.now)) }
@@ -156,7 +148,6 @@ fn put_nots(alloc: Global, out: &mut Vec<TokenKind>, nots: &[Not]) -> Result<(),
     Ok(())
 }
 
-// Appends the tokens of a comparison, perhaps behind `not`.
 #[cycle(value)]
 fn put_not(alloc: Global, out: &mut Vec<TokenKind>, not: &Not) -> Result<(), Memory>
     ensures { OnOk result (out.new.items ≡ out.old.items ++ spell (view_not not.now)) }
@@ -165,7 +156,6 @@ fn put_not(alloc: Global, out: &mut Vec<TokenKind>, not: &Not) -> Result<(), Mem
     put_compare(alloc, out, &not.inner)
 }
 
-// Appends the tokens of a sum, perhaps compared with another.
 #[cycle(value)]
 fn put_compare(alloc: Global, out: &mut Vec<TokenKind>, compare: &Compare) -> Result<(), Memory>
     ensures { OnOk result (out.new.items ≡ out.old.items ++ spell (view_compare compare.now)) }
@@ -180,7 +170,6 @@ fn put_compare(alloc: Global, out: &mut Vec<TokenKind>, compare: &Compare) -> Re
     }
 }
 
-// Appends the tokens of products with `+` and `-` between.
 #[cycle(value)]
 fn put_sum(alloc: Global, out: &mut Vec<TokenKind>, sum: &Sum) -> Result<(), Memory>
     ensures { OnOk result (out.new.items ≡ out.old.items ++ spell (view_sum sum.now)) }
@@ -189,7 +178,6 @@ fn put_sum(alloc: Global, out: &mut Vec<TokenKind>, sum: &Sum) -> Result<(), Mem
     put_addends(alloc, out, &sum.rest)
 }
 
-// Appends the tokens of products, each behind its `+` or `-`.
 #[cycle(value)]
 fn put_addends(alloc: Global, out: &mut Vec<TokenKind>, addends: &[Added]) -> Result<(), Memory>
     ensures { OnOk result (out.new.items ≡ out.old.items ++ each (map view_added addends.now)) }
@@ -200,7 +188,6 @@ fn put_addends(alloc: Global, out: &mut Vec<TokenKind>, addends: &[Added]) -> Re
     Ok(())
 }
 
-// Appends the tokens of a product behind its `+` or `-`.
 #[cycle(value)]
 fn put_added(alloc: Global, out: &mut Vec<TokenKind>, added: &Added) -> Result<(), Memory>
     ensures { OnOk result (out.new.items ≡ out.old.items ++ spell (view_added added.now)) }
@@ -209,7 +196,6 @@ fn put_added(alloc: Global, out: &mut Vec<TokenKind>, added: &Added) -> Result<(
     put_product(alloc, out, &added.product)
 }
 
-// Appends the tokens of operands with `*` and `/` between.
 #[cycle(value)]
 fn put_product(alloc: Global, out: &mut Vec<TokenKind>, product: &Product) -> Result<(), Memory>
     ensures { OnOk result (out.new.items ≡ out.old.items ++ spell (view_product product.now)) }
@@ -218,7 +204,6 @@ fn put_product(alloc: Global, out: &mut Vec<TokenKind>, product: &Product) -> Re
     put_factors(alloc, out, &product.rest)
 }
 
-// Appends the tokens of operands, each behind its `*` or `/`.
 #[cycle(value)]
 fn put_factors(
     alloc: Global,
@@ -233,7 +218,6 @@ fn put_factors(
     Ok(())
 }
 
-// Appends the tokens of an operand behind its `*` or `/`.
 #[cycle(value)]
 fn put_multiplied(
     alloc: Global,
@@ -246,7 +230,6 @@ fn put_multiplied(
     put_operand(alloc, out, &multiplied.operand)
 }
 
-// Appends the tokens of an operand.
 #[cycle(value)]
 fn put_operand(
     alloc: Global,
@@ -282,7 +265,6 @@ fn put_operand(
     }
 }
 
-// Appends the tokens of `%wav`, with the option `samplesize` if it has one.
 fn put_wav(alloc: Global, out: &mut Vec<TokenKind>, size: Option<i64>) -> Result<(), Memory>
     ensures { OnOk result (out.new.items ≡ out.old.items ++ wav_tokens size) }
 {
@@ -301,7 +283,6 @@ fn put_wav(alloc: Global, out: &mut Vec<TokenKind>, size: Option<i64>) -> Result
     }
 }
 
-// Appends the tokens of values in parentheses.
 #[cycle(value)]
 fn put_tuple(alloc: Global, out: &mut Vec<TokenKind>, parts: &[Full]) -> Result<(), Memory>
     ensures { OnOk result (out.new.items ≡ out.old.items
@@ -312,7 +293,6 @@ fn put_tuple(alloc: Global, out: &mut Vec<TokenKind>, parts: &[Full]) -> Result<
     put(out, TokenKind::Symbol(Symbol::CloseRound))
 }
 
-// Appends the tokens of values in square brackets.
 #[cycle(value)]
 fn put_list(alloc: Global, out: &mut Vec<TokenKind>, parts: &[Full]) -> Result<(), Memory>
     ensures { OnOk result (out.new.items ≡ out.old.items
@@ -323,7 +303,7 @@ fn put_list(alloc: Global, out: &mut Vec<TokenKind>, parts: &[Full]) -> Result<(
     put(out, TokenKind::Symbol(Symbol::CloseSquare))
 }
 
-// Appends the tokens of values with commas between.
+// Values with commas between.
 #[cycle(value)]
 fn put_fulls(alloc: Global, out: &mut Vec<TokenKind>, parts: &[Full]) -> Result<(), Memory>
     ensures { OnOk result (out.new.items ≡ out.old.items ++ between_commas (map view_full parts.now)) }
@@ -341,7 +321,7 @@ fn put_fulls(alloc: Global, out: &mut Vec<TokenKind>, parts: &[Full]) -> Result<
     }
 }
 
-// Appends the tokens of arguments with commas between.
+// Arguments with commas between.
 #[cycle(value)]
 fn put_args(alloc: Global, out: &mut Vec<TokenKind>, args: &[Arg]) -> Result<(), Memory>
     ensures { OnOk result (out.new.items ≡ out.old.items ++ between_commas (map view_arg args.now)) }
@@ -359,7 +339,6 @@ fn put_args(alloc: Global, out: &mut Vec<TokenKind>, args: &[Arg]) -> Result<(),
     }
 }
 
-// Appends the tokens of an argument, with its label if it has one.
 #[cycle(value)]
 fn put_arg(alloc: Global, out: &mut Vec<TokenKind>, arg: &Arg) -> Result<(), Memory>
     ensures { OnOk result (out.new.items ≡ out.old.items ++ spell (view_arg arg.now)) }
@@ -368,7 +347,6 @@ fn put_arg(alloc: Global, out: &mut Vec<TokenKind>, arg: &Arg) -> Result<(), Mem
     put_full(alloc, out, &arg.value)
 }
 
-// Appends the tokens of an argument's label, if it has one.
 fn put_label(alloc: Global, out: &mut Vec<TokenKind>, name: &Option<Text>) -> Result<(), Memory>
     ensures { OnOk result (out.new.items ≡ out.old.items ++ label name.now) }
 {

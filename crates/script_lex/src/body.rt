@@ -9,15 +9,15 @@ use std::alloc::Global;
 /// Why the bytes of a text stop.
 #[derive(Clone, Copy)]
 pub enum BodyEnd {
-    /// At the closing quote.
+    /// The quote stands there.
     Closed,
-    /// At a byte that may not stand in a text.
+    /// A byte that may not stand in a text.
     Broken,
-    /// At the end of the script.
+    /// The end of the script.
     Cut,
 }
 
-/// Why the bytes of a text with this quote stop, and the bytes from there on. `bytes` begins behind the opening quote.
+/// Where the bytes of a text stop, and why.
 pub fn body_end(quote: u8, bytes: &[u8]) -> (BodyEnd, &[u8])
     ensures stop { (result.0, result.1.now) ≡ body_end quote bytes.now }
     ensures shorter { length result.1.now ≤ length bytes.now }
@@ -46,7 +46,7 @@ pub fn body_end(quote: u8, bytes: &[u8]) -> (BodyEnd, &[u8])
     (BodyEnd::Cut, rest)
 }
 
-/// The characters that the bytes of a text stand for: each escape is the character behind its backslash.
+/// The characters that the bytes of a text stand for.
 pub fn unescaped(alloc: Global, body: &[u8]) -> Result<Vec<u8>, Memory>
     ensures { IfOk result (λ v. v.items ≡ unescaped body.now) }
 {

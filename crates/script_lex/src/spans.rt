@@ -11,7 +11,6 @@ pub fn is_letter(b: u8) -> bool
     b.is_ascii_alphabetic() || b == b'_'
 }
 
-/// A byte of a part of a name: a letter, `_` or a digit.
 pub fn is_word(b: u8) -> bool
     ensures { result ≡ is_word b }
 {
@@ -31,7 +30,6 @@ pub fn is_unit(b: u8) -> bool
     b == b'w' || b == b'h' || b == b'm' || b == b's'
 }
 
-/// A byte that may stand behind a backslash in a text.
 pub fn is_escapable(b: u8) -> bool
     ensures { result ≡ is_escapable b }
 {
@@ -54,7 +52,7 @@ pub fn starts_digit(bytes: &[u8]) -> bool
     }
 }
 
-/// The bytes behind the blanks and comments at the front.
+/// What stands behind blanks and comments.
 pub fn after_blanks(bytes: &[u8]) -> &[u8]
     ensures rest { result.now ≡ between false bytes.now }
     ensures shorter { length result.now ≤ length bytes.now }
@@ -74,7 +72,7 @@ pub fn after_blanks(bytes: &[u8]) -> &[u8]
     rest
 }
 
-/// The bytes behind the digits at the front.
+/// What stands behind the digits at the front.
 pub fn after_digits(bytes: &[u8]) -> &[u8]
     ensures rest { result.now ≡ after_digits bytes.now }
     ensures shorter { length result.now ≤ length bytes.now }
@@ -89,7 +87,7 @@ pub fn after_digits(bytes: &[u8]) -> &[u8]
     rest
 }
 
-/// The bytes behind the name at the front, whose first letter was seen.
+/// What stands behind the name at the front, whose first letter was seen.
 pub fn after_name(bytes: &[u8]) -> &[u8]
     ensures rest { result.now ≡ after_name bytes.now }
     ensures shorter { length result.now ≤ length bytes.now }
@@ -105,7 +103,7 @@ pub fn after_name(bytes: &[u8]) -> &[u8]
     rest
 }
 
-/// The bytes before `rest`, which is the end of `bytes`.
+/// What stands before the rest.
 pub fn front<'a>(bytes: &'a [u8], rest: &[u8]) -> &'a [u8]
     requires { length rest.now ≤ length bytes.now }
     ensures { result.now ≡ front bytes.now rest.now }
@@ -113,7 +111,7 @@ pub fn front<'a>(bytes: &'a [u8], rest: &[u8]) -> &'a [u8]
     &bytes[..bytes.len() - rest.len()]
 }
 
-/// The bytes behind the first one.
+/// What stands behind the first byte.
 pub fn tail(bytes: &[u8]) -> &[u8]
     ensures tail { result.now ≡ tail bytes.now }
     ensures shorter { length result.now ≤ length bytes.now }
@@ -130,7 +128,6 @@ fn is_blank(b: u8) -> bool
     b == b' ' || b == b'\t' || b == b'\r' || b == b'\n'
 }
 
-// Whether a part of a name begins at the front.
 fn starts_part(bytes: &[u8]) -> bool
     ensures { result ≡ starts_part bytes.now }
 {

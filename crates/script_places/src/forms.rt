@@ -54,14 +54,12 @@ pub fn form_of(line: &[u8]) -> Form
     }
 }
 
-// Whether a line begins like one that names a byte.
 fn begins_byte(line: &[u8]) -> bool
     ensures { result ≡ begins_byte line.now }
 {
     begins(line, b"E02 ") || begins(line, b"E03 ") || begins(line, b"E04 ")
 }
 
-// Whether a line begins like one that names a token.
 fn begins_token(line: &[u8]) -> bool
     ensures { result ≡ begins_token line.now }
 {
@@ -74,14 +72,12 @@ fn begins_token(line: &[u8]) -> bool
         || begins(line, b"E14 ")
 }
 
-// Whether a line begins like one that names a statement.
 fn begins_statement(line: &[u8]) -> bool
     ensures { result ≡ begins_statement line.now }
 {
     begins(line, b"E13 statement ") || begins(line, b"E15 statement ")
 }
 
-// The form of a line that begins like none that names a byte, a token or a statement.
 fn source_form(line: &[u8]) -> Form
     ensures { result ≡ source_form line.now }
 {
@@ -96,7 +92,6 @@ fn source_form(line: &[u8]) -> Form
     }
 }
 
-// The form of a line that names a text of the script, or an output that may be silent, or nothing.
 fn text_form(line: &[u8]) -> Form
     ensures { result ≡ text_form line.now }
 {

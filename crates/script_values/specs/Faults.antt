@@ -5,8 +5,7 @@ use Rattle.script_values.specs.declared.fault.Stop.TheVariants as inside
 use Rattle.script_values.specs.declared.fault.EvalFault.{EvalFault}
 use Rattle.script_values.specs.declared.fault.EvalFault.TheVariants as fault
 
--- the fault of a script whose statement of this number ends with this stop; nothing for a value of a wrong type, which
--- no typed script comes to
+-- nothing for a value of a wrong type, which no typed script comes to
 abbrev pub fault_in : ℕ → Stop → Option EvalFault
 fault_in stmt inside.Memory = Some fault.Memory
 fault_in stmt inside.BadSetting = Some (fault.BadSetting stmt)

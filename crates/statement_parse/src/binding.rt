@@ -1,6 +1,5 @@
 // Bindings in the body of a def, each function reading as `script_grammar`'s reading functions do; the production that
-// it reads stands at its head, in the notation of `docs/grammar.md`. The tokens are the last of `total`, by which a
-// field `at` is an index.
+// it reads stands at its head, in the notation of `docs/grammar.md`.
 ghost use Rattle.std.specs.Prelude.{◌<◌, ◌≤◌, ◌^◌, true, IfOk, length, map};
 ghost use Rattle.std.specs.List.{All};
 ghost use Rattle.script_grammar.specs.Read.{many};
@@ -69,7 +68,7 @@ fn bind(alloc: Global, total: usize, tokens: &[Token]) -> Result<(Bind, &[Token]
     bind_of(alloc, total, at, name, after)
 }
 
-// `=` value, behind the name, whose index is `at`.
+// `=` value, behind the name.
 fn bind_of<'a>(
     alloc: Global,
     total: usize,

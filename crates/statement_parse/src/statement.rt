@@ -73,7 +73,7 @@ fn statement<'a>(
     }
 }
 
-// binding `;`? It is pushed.
+// binding `;`?
 #[tactic(auto, using(crate::proofs::Arms::bind_is))]
 fn bind_stmt<'a>(
     alloc: Global,
@@ -94,7 +94,7 @@ fn bind_stmt<'a>(
     bind_stmt_of(alloc, total, items, at, name, after)
 }
 
-// `=` value `;`?, behind the name of a binding, whose index is `at`. The binding is pushed.
+// `=` value `;`?, behind the name of a binding.
 fn bind_stmt_of<'a>(
     alloc: Global,
     total: usize,
@@ -116,8 +116,7 @@ fn bind_stmt_of<'a>(
     keep_bind(items, at, name, value(alloc, total, false, rest))
 }
 
-// Pushes the binding of the value that was read, with the `;` that may stand behind it, and answers the tokens behind
-// both. `at` is the index of its name.
+// The same, once the value is read.
 fn keep_bind<'a>(
     items: &mut Vec<Stmt>,
     at: u32,
@@ -136,7 +135,7 @@ fn keep_bind<'a>(
     Ok(keep(items, StmtPart::Bind(Bind { at, name, value }), rest))
 }
 
-// Pushes the def that was read, with the `;` that may stand behind it, and answers the tokens behind both.
+// The statement that a def makes, and the `;` that may stand behind it.
 fn keep_def<'a>(
     items: &mut Vec<Stmt>,
     read: Result<(Def, &'a [Token]), Fault>,
@@ -153,7 +152,7 @@ fn keep_def<'a>(
     Ok(keep(items, StmtPart::Def(def), rest))
 }
 
-// Pushes the call that was read, with the `;` that may stand behind it, and answers the tokens behind both.
+// That of a call.
 fn keep_call<'a>(
     items: &mut Vec<Stmt>,
     read: Result<(Call, &'a [Token]), Fault>,
@@ -170,7 +169,7 @@ fn keep_call<'a>(
     Ok(keep(items, StmtPart::Call(call), rest))
 }
 
-// Pushes the `if` that was read, with the `;` that may stand behind it, and answers the tokens behind both.
+// That of an `if`.
 fn keep_if<'a>(
     items: &mut Vec<Stmt>,
     read: Result<(If, &'a [Token]), Fault>,

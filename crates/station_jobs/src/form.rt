@@ -27,7 +27,6 @@ pub enum Form<'a> {
 
     /// `make SEED SIZE`
     Make {
-        /// The number from which the workload is made.
         seed: u64,
         size: Size,
     },
@@ -48,7 +47,7 @@ pub enum Form<'a> {
     },
 }
 
-/// A rendering, but for how its ticks are made.
+/// A rendering, but for its way.
 #[derive(Clone, Copy)]
 pub struct Rendering<'a> {
     /// The name of the script.

@@ -1,3 +1,4 @@
+pub mod Copies
 pub mod Stopping
 pub mod Rendering
 pub mod Recalling

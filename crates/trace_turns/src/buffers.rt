@@ -78,7 +78,7 @@ pub fn told_buffers(
     Ok((buffers, ends))
 }
 
-// The main clocks of these nodes, in their order.
+// The main clocks of nodes.
 fn mains_of(
     alloc: Global,
     plan: &Plan,
@@ -97,7 +97,7 @@ fn mains_of(
     Ok(mains)
 }
 
-// The overlap of a crossfade, in cells; 0 of any other node.
+// The overlap of a crossfade.
 fn overlap_of(plan: &Plan, node: u32) -> u64 {
     let Some(node) = plan.nodes.as_slice().get(node as usize) else {
         return 0;
@@ -132,8 +132,7 @@ fn reach_of(plan: &Plan, clocks: &ClockMap, node: u32) -> u64 {
         .saturating_add(frame.saturating_mul(3))
 }
 
-// By a buffer's number: how many cells its reader takes in a tick at most, and its prefill, in all. `nodes` has the
-// readers.
+// The same of the reader of each buffer, with what it wants before it begins to play.
 fn reaches_of(
     alloc: Global,
     plan: &Plan,
@@ -151,8 +150,7 @@ fn reaches_of(
     Ok(reaches)
 }
 
-/// The sides of a plan's buffers: the main clocks of feeds and readers, the readers' nodes, and how many cells readers
-/// take in a tick at most.
+/// The main clocks of each buffer's feed and reader.
 pub fn sides_of(alloc: Global, plan: &Plan, clocks: &ClockMap) -> Result<Sides, Memory>
     requires { IsWellFormed plan.now }
     ensures { IfOk result (λ sides. (setting : Setting) → setting.plan ≡ plan.now → setting.clocks ≡ clocks.now.of
@@ -197,7 +195,7 @@ fn is_legal_log(capacity: u32, log: &BufferLog) -> bool
     are_legal(capacity, &log.windows)
 }
 
-/// Whether nothing is told of takes of a buffer whose reader's clock does not run; the clocks below `running` do.
+/// Whether nothing is told of takes of a buffer whose reader's clock does not run.
 pub fn unread_stay(buffers: &[ToldBuffer], readers: &[u32], running: u32) -> bool
     requires { length readers.now ≡ length buffers.now }
     ensures yes { result ≡ true → (b : ℕ) (d : BufferState) → b < length buffers.now
@@ -213,7 +211,7 @@ pub fn unread_stay(buffers: &[ToldBuffer], readers: &[u32], running: u32) -> boo
     true
 }
 
-// Whether some take of a buffer is told.
+// Whether some take of it is told.
 fn has_takes(buffer: &ToldBuffer) -> bool
     ensures yes { result ≡ true → buffer.now.takes ≡ [] → ⊥ }
     ensures no { result ≡ false → buffer.now.takes ≡ [] }

@@ -12,21 +12,20 @@ use Rattle.track_library.specs.declared.audio.AudioFiles.{AudioFiles}
 use Rattle.track_library.specs.declared.read_lists.ReadLists.{ReadLists}
 use Rattle.track_library.specs.declared.fault.Unusable.{Unusable}
 
--- the rate and the most bytes of one file are such as a walk may go by
+-- what the rules of a walk have to meet
 pub record AreRules (rules : Rules) : Type 0 where
   pub least : 8000 ≤ rules.rate
   pub most : rules.rate ≤ 192000
   pub file : rules.file ≤ 268435456
 
--- the values of a map under the bytes of their names, in the map's order
+-- values under names, in the order of a map
 abbrev pub named : {V : Type 0} → List (String Global × V) → List (List ℕ × V)
 named entries = map (λ e. (string_bytes e.0, e.1)) entries
 
--- the lists of a map under the bytes of their names, in the map's order
+-- lists under names
 abbrev pub listed : List (String Global × Vec (List ℕ) Global) → List (List ℕ × List (List ℕ))
 listed entries = map (λ e. (string_bytes e.0, e.1.items)) entries
 
--- what was met, as the definitions have it: what each name is, the files that are used, and their bytes
 abbrev pub heard_of : AudioFiles → Heard
 heard_of audio = record {
   names = named audio.names.entries;
@@ -34,7 +33,6 @@ heard_of audio = record {
   bytes = audio.bytes;
 }
 
--- the lists that were read, each under its name
 abbrev pub lists_of : ReadLists → List (List ℕ × List (List ℕ))
 lists_of read = listed read.lists.entries
 
@@ -42,17 +40,17 @@ lists_of read = listed read.lists.entries
 abbrev pub names_at : List (List ℕ × List (List ℕ)) → ℕ → List (List ℕ)
 names_at lists at = (slice_index_or lists at ([], [])).1
 
--- each number that a name was found to have is that of a file that is used, and there are fewer than 2^32 files
+-- each number that a name has is that of a file that is used, and there are fewer than 2^32
 pub record IsHeard (heard : Heard) : Type 0 where
   pub numbers : All (λ e. IfOk e.1 (λ number. number < length heard.titles)) heard.names
   pub many : length heard.titles < 2 ^ 32
 
--- these sounds, and one more if there is one
+-- one sound more, if there is one
 abbrev pub one_kept : List Sound → Option Sound → List Sound
 one_kept sounds None = sounds
 one_kept sounds (Some sound) = sounds ++ sound ∷ []
 
--- there is a sound, and it is that of the audio file of this name, where the shelf tells its files
+-- this is the sound of the audio file of this name
 abbrev pub IsHeld : Rules → (told : Option Files) → (name : List ℕ) → Option Sound → Type 0
 IsHeld rules told name None = ⊥
 IsHeld rules told name (Some sound) = IsSound sound
@@ -67,34 +65,32 @@ pub record AreKept (rules : Rules) (told : Option Files) (keeps : Bool) (titles 
   pub sound : keeps ≡ true → All IsSound sounds
   pub many : keeps ≡ true → length sounds ≡ length titles
 
--- what is kept of the audio files that were met is what the shelf's files hold, where it tells them
 abbrev pub IsKept : Rules → (told : Option Files) → AudioFiles → Type 0
 IsKept rules told audio = AreKept rules told audio.keeps audio.titles.items audio.files.items
 
--- between two states of the audio files that were met, whether they are kept did not change, and what was kept rightly
--- still is
+-- what is kept, between two states
 pub record Keeps (rules : Rules) (told : Option Files) (old new : AudioFiles) : Type 0 where
   pub same : new.keeps ≡ old.keeps
   pub kept : IsKept rules told old → IsKept rules told new
 
--- between two states, files were added alone; what was found is a fault, or the number of a file that is used
+-- what a name was found to be, between two states: files were added alone, and its number is that of a file
 pub record Finds (old new : Heard) (found : Result ℕ Unusable) : Type 0 where
   pub heard : IsHeard new
   pub grew : length old.titles ≤ length new.titles
   pub number : IfOk found (λ number. number < length new.titles)
 
--- between two states, files were added alone; the numbers of the leaf, fewer than 2^32, are those of files
+-- what a leaf plays, between two states: files were added alone, and its numbers, fewer than 2^32, are those of files
 pub record Plays (old new : Heard) (leaf : List ℕ) : Type 0 where
   pub heard : IsHeard new
   pub grew : length old.titles ≤ length new.titles
   pub below : All (λ number. number < length new.titles) leaf
   pub few : length leaf < 2 ^ 32
 
--- a leaf with the number of one more file, if that can be used
+-- a leaf and what an entry was found to be
 abbrev pub with_found : List ℕ → Result ℕ Unusable → List ℕ
 with_found leaf (Ok number) = leaf ++ number ∷ []
 with_found leaf (Err fault) = leaf
 
--- what a walk has read, as the definitions have it
+-- what was read on the walk so far
 abbrev pub walked_of : Walk → Walked
 walked_of walk = record { lists = lists_of walk.lists; heard = heard_of walk.audio }

@@ -21,13 +21,13 @@ use liq_base::{Fetched, Looked, Memory, Shelf, ShelfFault, Text};
 use std::alloc::Global;
 use wav_io::{Head, head_of, read_head};
 
-/// How many bytes come before the blocks of a file with nothing else in it.
+/// The bytes that stand before the blocks of a file with nothing else in it.
 const HEADER_BYTES: u64 = 44;
 
-/// How many of a file's first bytes are looked at.
+/// The first bytes of a file that are looked at.
 const FRONT_BYTES: u64 = 16_384;
 
-/// The bytes of the file of this name, if it is there and has at most `most`.
+/// The bytes of a file that is there and has at most so many.
 pub fn fetch<S: Shelf>(
     alloc: Global,
     shelf: &mut S,
@@ -50,7 +50,7 @@ pub fn fetch<S: Shelf>(
     }
 }
 
-/// The fault of a load for which the file of this name could not be read; want of memory may come in its place.
+/// Why a read of the file of this name that failed ends a load; want of memory may come in its place.
 fn read_fault(alloc: Global, name: &str) -> LoadFault
     ensures { (old new : ShelfTold) → Rose old.reads new.reads → IsReading name.now old new result }
 {
@@ -60,8 +60,8 @@ fn read_fault(alloc: Global, name: &str) -> LoadFault
     }
 }
 
-/// The head of the audio file of this name, and how many bytes it has, at most `most`, if it is there and is a WAV
-/// file. Where its first bytes tell its head, no more of it is asked for.
+/// The head of the audio file of this name, and how many bytes it has, if it is there and is a WAV file. Where its
+/// first bytes tell its head, no more of it is asked for.
 pub fn find_head<S: Shelf>(
     alloc: Global,
     shelf: &mut S,
@@ -84,8 +84,7 @@ pub fn find_head<S: Shelf>(
     }
 }
 
-/// Adds the first bytes of the file of this name to an empty list, and answers how many bytes the file has, at most
-/// `most`.
+/// Adds the first bytes of the file of this name to an empty list, and answers how many bytes it has.
 fn look_at_front<S: Shelf>(
     alloc: Global,
     shelf: &mut S,
@@ -107,7 +106,7 @@ fn look_at_front<S: Shelf>(
     }
 }
 
-/// The head of the audio file of this name, which is read whole, and how many bytes it has, at most `most`.
+/// The head of the audio file of this name, which is read whole, and how many bytes it has.
 fn find_whole_head<S: Shelf>(
     alloc: Global,
     shelf: &mut S,
@@ -134,7 +133,7 @@ fn head_in(bytes: &[u8]) -> Result<(Head, u64), Unusable>
     }
 }
 
-/// How many bytes an audio file of these bytes and this head counts for, if one file may have so many.
+/// How many bytes an audio file of these bytes and this head counts for, if they are at most as many as one may.
 fn count_bytes(bytes: &[u8], head: Head, rules: Rules) -> Result<u64, Unusable>
     requires rules { AreRules rules }
     requires few { length bytes.now ≤ rules.file }
@@ -146,7 +145,7 @@ fn count_bytes(bytes: &[u8], head: Head, rules: Rules) -> Result<u64, Unusable>
     count_head(head, bytes.len() as u64, rules)
 }
 
-/// How many bytes a file with this head and of `size` bytes counts for, if one file may have so many.
+/// How many bytes a file of this head and of so many bytes counts for, if these are at most as many as one may.
 fn count_head(head: Head, size: u64, rules: Rules) -> Result<u64, Unusable>
     requires rules { AreRules rules }
     requires rate { 0 < head.rate }
@@ -161,7 +160,7 @@ fn count_head(head: Head, size: u64, rules: Rules) -> Result<u64, Unusable>
     Ok(counted)
 }
 
-/// The audio file of these bytes, and how many bytes it counts for, if it can be used.
+/// The audio file of these bytes, and how many it counts for, if it can be used.
 fn use_bytes(bytes: Vec<u8>, rules: Rules) -> Result<(Undecoded, u64), Unusable>
     requires rules { AreRules rules }
     requires few { length bytes.items ≤ rules.file }
@@ -178,7 +177,7 @@ fn use_bytes(bytes: Vec<u8>, rules: Rules) -> Result<(Undecoded, u64), Unusable>
     }
 }
 
-/// How many bytes a WAV file of 16 bits has that holds the sound of a file of this head at `to` samples a second.
+/// How many bytes a file of this head has at another rate, with samples of 16 bits.
 pub fn written_bytes(head: Head, to: u32) -> u64
     requires blocks { AreWhole head.wide head.kind head.size }
     requires few { head.size ≤ 268435456 }
@@ -200,7 +199,7 @@ pub fn block_count(head: Head) -> u64
     sample_count(head.wide, head.size) / u64::from(head.kind.channels())
 }
 
-/// How many samples stand in `size` bytes of blocks: of three bytes each where they are wide, and else of two.
+/// How many samples stand in so many bytes of blocks.
 fn sample_count(wide: bool, size: u64) -> u64
     ensures { result ≡ samples_in wide size }
 {
@@ -247,7 +246,7 @@ fn count_audio<S: Shelf>(
     }
 }
 
-/// The audio file of this name, if it is kept, and how many bytes it counts for, if it can be used.
+/// What the audio file of this name counts for, if it can be used, and the file, if files are kept.
 pub fn find_audio<S: Shelf>(
     alloc: Global,
     shelf: &mut S,

@@ -24,7 +24,7 @@ use liq_base::{Memory, Shelf, Text};
 use plan_core::{Op, Plan};
 use std::alloc::Global;
 
-/// What the walk over a plan's nodes has read: the lists and the audio files.
+/// What was read on the walk so far.
 #[derive(Drop)]
 pub struct Walk {
     pub lists: ReadLists,
@@ -32,7 +32,7 @@ pub struct Walk {
 }
 
 impl Walk {
-    /// A walk that has read nothing; `keeps` says whether it keeps the files that are used.
+    /// A walk that has read nothing, and is to keep the files that are used, or none.
     fn new(alloc: Global, keeps: bool) -> Walk
         ensures unread { walked_of result ≡ nothing_met }
         ensures keeps { result.audio.keeps ≡ keeps }
@@ -52,7 +52,7 @@ impl Walk {
         }
     }
 
-    /// The files that a node of this operator plays, by their numbers; none where it plays no files.
+    /// The files that a node plays.
     fn find_leaf<S: Shelf>(
         &mut self,
         alloc: Global,
@@ -83,7 +83,7 @@ impl Walk {
         }
     }
 
-    /// The files that were used and kept, with the files that each node plays.
+    /// The files that were used, which were kept.
     fn into_files(self, leaves: LeafLists) -> PlanFiles
         requires { IsLibrary (record {
           files = self.audio.files.items;
@@ -177,7 +177,7 @@ pub fn try_files<S: Shelf>(
     Ok(())
 }
 
-/// Walks over the nodes of a plan: adds to the walk what is read, and to `leaves` the list of each node.
+/// Walks over the nodes of a plan, and adds what is read and the list of each node.
 fn walk_nodes<S: Shelf>(
     alloc: Global,
     plan: &Plan,
@@ -201,7 +201,7 @@ fn walk_nodes<S: Shelf>(
     Ok(())
 }
 
-/// The file that a `single` of this name plays, by its number, alone in a list.
+/// The files that a `single` plays.
 fn find_single<S: Shelf>(
     alloc: Global,
     shelf: &mut S,
@@ -233,7 +233,7 @@ fn find_single<S: Shelf>(
     }
 }
 
-/// Adds the number of a file that can be used; one that cannot is left out.
+/// Adds the number of a file that can be used.
 fn push_found(leaf: &mut Vec<u32>, found: Result<u32, Unusable>) -> Result<(), Memory>
     ensures { OnOk result (leaf.new.items ≡ with_found leaf.old.items found) }
 {
@@ -243,7 +243,7 @@ fn push_found(leaf: &mut Vec<u32>, found: Result<u32, Unusable>) -> Result<(), M
     Ok(())
 }
 
-/// The files of a list's entries that can be used, by their numbers, in the order of the entries.
+/// The files of a list's entries that can be used.
 fn play_entries<S: Shelf>(
     alloc: Global,
     shelf: &mut S,

@@ -49,8 +49,7 @@ pub fn type_def<'a>(
     type_def_with(alloc, subst, seen, held, &mut uses, def)
 }
 
-/// The general type of a def and the uses in its text; `None` where it has no typing. `uses` is empty at first and
-/// takes the uses as they are found.
+/// The same with a list for the uses of the text, empty at first.
 fn type_def_with<'a>(
     alloc: Global,
     subst: &mut Subst,
@@ -80,15 +79,15 @@ fn type_def_with<'a>(
     }
 }
 
-/// The type of a def's result, which is a type variable.
+/// A type variable as a type.
 fn answer_of(parts: &TypedParts) -> Ty
     ensures { term_of result ≡ variable parts.now.result }
 {
     Ty::Var(parts.result)
 }
 
-/// The def with its general type and the uses of its text, once its parts have types. What is held is brought up to the
-/// substitution, without the def.
+/// The general type of a def whose parts were typed, and the uses of its text. What is held is as it was before the
+/// def.
 fn general_def<'a>(
     alloc: Global,
     subst: &Subst,
@@ -130,8 +129,7 @@ fn general_type(
     general_type_with(alloc, subst, held, parts, uses, &mut params, &mut kinds)
 }
 
-/// The general type of a def whose parts were typed, with the kinds at the uses of its text. The lists for the
-/// parameters' types and the text's kinds are empty at first.
+/// The same with lists for the types of the parameters and for the kinds of the text, both empty at first.
 fn general_type_with(
     alloc: Global,
     subst: &Subst,

@@ -64,7 +64,9 @@ pub fn spend(left: &mut u64, ty: &Ty) -> Result<(), Memory> {
     Ok(())
 }
 
-/// A copy of the type. A type of more than a thousand levels is given up as if memory had run out.
+/// The same type once more.
+///
+/// A type of more than a thousand levels is given up as if memory had run out.
 pub fn copy(alloc: Global, ty: &Ty) -> Result<Ty, Memory>
     ensures { IfOk result (λ u. term_of u ≡ term_of ty.now) }
 {
@@ -102,7 +104,7 @@ fn push_variables(
     }
 }
 
-/// The new number of a variable: the entry of the list under its number, or that number where there is none.
+/// A variable's new number.
 fn renumbered(news: &[u64], number: u64) -> u64
     ensures { result ≡ new_number news.now number }
 {
@@ -112,7 +114,7 @@ fn renumbered(news: &[u64], number: u64) -> u64
     }
 }
 
-/// A kind in which the variable has its new number.
+/// A kind with its variable's new number.
 fn renumbered_kind(news: &[u64], kind: KindTerm) -> KindTerm
     ensures { result ≡ kind_instance news.now kind }
 {
@@ -122,7 +124,7 @@ fn renumbered_kind(news: &[u64], kind: KindTerm) -> KindTerm
     }
 }
 
-/// The type in which each variable has its new number, if it has at most so many levels.
+/// The type with the new numbers, if it has at most so many levels.
 fn renamed_within(
     alloc: Global,
     types: &[u64],

@@ -3,4 +3,3 @@ mod Players
 mod Telling
 mod Chains
 mod Counting
-mod Kept

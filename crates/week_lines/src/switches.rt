@@ -1,5 +1,5 @@
 // What is told of the switches of a plan.
-ghost use Rattle.std.specs.Prelude.{◌≡◌, ◌↔◌, ◌++◌, [], ◌&&◌, ◌||◌, ℕ, All, Bool, List, Some, true, false, not, length};
+ghost use Rattle.std.specs.Prelude.{◌≡◌, ◌↔◌, ◌++◌, [], ◌&&◌, ◌||◌, ℕ, Bool, List, Some, true, false, not, length};
 ghost use Rattle.std.specs.Prelude.{get_or, map, slice_get, IfOk, OnOk};
 ghost use Rattle.fallible_infer.specs.Infallible.{mark_at};
 ghost use Rattle.plan_core.specs.Plans.{IsWellFormed};
@@ -20,7 +20,7 @@ use liq_base::Memory;
 use plan_core::{Node, Op, Plan};
 use std::alloc::Global;
 use time_pred::SharedPred;
-use week_plan::{Looked, Seen, Span, Way, is_daily, join, look_kept, spans_of};
+use week_plan::{Looked, Seen, Span, Way, is_daily, join, look_again, spans_of, unlooked};
 
 /// A switch: its number, what plays in its place, whether a track that runs ends first, and whether it follows the
 /// clock of a crossfade.
@@ -48,13 +48,12 @@ pub fn push_switches(
     ensures lines { OnOk result (AreLines plan.now (mark_at marks.now) into.new.items) }
     ensures silent { OnOk result (IsTableOf (some_silent plan.now (length plan.now.nodes)) silent.new) }
 {
-    let mut kept = Vec::new(alloc);
-    push_each(alloc, into, silent, plan, marks, below, &mut kept)?;
+    let mut looked = unlooked(alloc)?;
+    push_each(alloc, into, silent, plan, marks, below, &mut looked)?;
     Ok(())
 }
 
-// Appends what is told of each source, and adds the seconds at which one is silent. What was told of switches is kept
-// in `looked`, since a later one may have the same cases.
+// The same; what was told of the switch before is kept, since the next one may have the same cases.
 fn push_each<'a>(
     alloc: Global,
     into: &mut Vec<u8>,
@@ -62,13 +61,13 @@ fn push_each<'a>(
     plan: &'a Plan,
     marks: &[bool],
     below: &[bool],
-    kept: &mut Vec<Looked<'a>>,
+    looked: &mut Looked<'a>,
 ) -> Result<(), Memory>
     requires plan { IsWellFormed plan.now }
     requires empty { into.old.items ≡ [] }
     requires none { IsTableOf (λ at. false) silent.old }
     requires below { (number : ℕ) → (get_or below.now number false ≡ true) ↔ IsBelow plan.now.nodes number }
-    requires kept { All IsLooked kept.old.items }
+    requires looked { IsLooked looked.old }
     ensures lines { OnOk result (AreLines plan.now (mark_at marks.now) into.new.items) }
     ensures silent { OnOk result (IsTableOf (some_silent plan.now (length plan.now.nodes)) silent.new) }
 {
@@ -83,7 +82,7 @@ fn push_each<'a>(
             marks,
             below,
             number,
-            kept,
+            looked,
         )?;
     }
     Ok(())
@@ -98,19 +97,19 @@ fn push_node<'a>(
     marks: &[bool],
     below: &[bool],
     number: usize,
-    kept: &mut Vec<Looked<'a>>,
+    looked: &mut Looked<'a>,
 ) -> Result<(), Memory>
     requires plan { IsWellFormed plan.now }
     requires node { slice_get plan.now.nodes number ≡ Some node.now }
     requires table { IsTable silent.old }
     requires below { (get_or below.now number false ≡ true) ↔ IsBelow plan.now.nodes number }
-    requires kept { All IsLooked kept.old.items }
+    requires looked { IsLooked looked.old }
     ensures text { OnOk result ((own : List ℕ)
         × IsOfSource plan.now (mark_at marks.now) number node.now.op node.now.children own
         × (into.new.items ≡ into.old.items ++ own)) }
     ensures silent { OnOk result
         (IsTableOf (λ at. is_told silent.old at || is_silent plan.now number at) silent.new) }
-    ensures kept { OnOk result (All IsLooked kept.new.items) }
+    ensures looked { OnOk result (IsLooked looked.new) }
 {
     match &node.op {
         Op::Switch { sensitive, preds } => {
@@ -128,7 +127,7 @@ fn push_node<'a>(
                 preds.as_slice(),
                 node.children.as_slice(),
                 marks,
-                kept,
+                looked,
             )
         }
         _ => Ok(()),
@@ -144,22 +143,22 @@ fn push_looked<'a>(
     preds: &'a [SharedPred],
     children: &[u32],
     marks: &[bool],
-    kept: &mut Vec<Looked<'a>>,
+    looked: &mut Looked<'a>,
 ) -> Result<(), Memory>
     requires size { length children.now ≡ length preds.now }
     requires table { IsTable silent.old }
-    requires kept { All IsLooked kept.old.items }
+    requires looked { IsLooked looked.old }
     ensures text { OnOk result ((own : List ℕ)
         × IsSwitchText switch.number switch.instead switch.sensitive switch.below (map view_shared preds.now)
         (map (mark_at marks.now) children.now) own
         × (into.new.items ≡ into.old.items ++ own)) }
     ensures silent { OnOk result (IsTableOf (λ at. is_told silent.old at
         || (is_silence switch.instead && not (some_case_holds (map view_shared preds.now) at))) silent.new) }
-    ensures kept { OnOk result (All IsLooked kept.new.items) }
+    ensures looked { OnOk result (IsLooked looked.new) }
 {
     let sure = sure_of(alloc, marks, children)?;
-    let place = look_kept(alloc, kept, preds, sure)?;
-    push_seen(alloc, into, silent, switch, &kept[place].seen)?;
+    look_again(alloc, looked, preds, sure)?;
+    push_seen(alloc, into, silent, switch, &looked.seen)?;
     Ok(())
 }
 

@@ -20,7 +20,7 @@ pub struct Windows {
     pub longest: u64,
 }
 
-/// The windows that these spans of a week make.
+/// The windows that these spans are.
 pub fn windows_in(spans: &[Span]) -> Windows
     ensures { result ≡ in_all (lengths_of spans.now) }
 {
@@ -48,7 +48,7 @@ fn ends_week(spans: &[Span]) -> bool
     false
 }
 
-// How many windows these spans are, and how long; the one that ends with the week goes on for `more` seconds.
+// The windows of these spans, of which the one that ends with the week goes on for so many seconds.
 fn measured(spans: &[Span], more: u32) -> Windows
     ensures { result ≡ in_all (map (seconds_of more) spans.now) }
 {
@@ -62,8 +62,6 @@ fn measured(spans: &[Span], more: u32) -> Windows
     }
 }
 
-// How many windows these spans are, of which there is a first, and how long; the one that ends with the week goes on
-// for `more` seconds.
 fn measured_from(first: Span, rest: &[Span], more: u32) -> Windows
     ensures { result ≡ in_all (seconds_of more first ∷ map (seconds_of more) rest.now) }
 {
@@ -81,7 +79,7 @@ fn measured_from(first: Span, rest: &[Span], more: u32) -> Windows
     }
 }
 
-// How many seconds a span has; if it ends with the week, it goes on for `more` seconds.
+// The seconds of a span; where it ends with the week it goes on for so many more.
 fn seconds_of(span: Span, more: u32) -> u64
     ensures { result ≡ seconds_of more span }
 {
