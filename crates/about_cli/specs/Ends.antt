@@ -26,10 +26,11 @@ pub record Outside : Type 0 where
   pub out : SinkTold
   pub err : SinkTold
 
+-- all that is outside of the call, as its objects tell it
 abbrev pub outside_of : (scripts shelf : ShelfTold) (out err : SinkTold) → Outside
 outside_of scripts shelf out err = record { scripts = scripts; shelf = shelf; out = out; err = err }
 
--- a piece was written whole, and this is the status, or it broke off
+-- a piece was written whole, and the status is the wanted one, or it broke off, and the status is 4
 abbrev pub Puts : (piece : List ℕ) → (wanted : ℕ) → (old new : SinkTold) → (status : ℕ) → Type 0
 Puts piece wanted old new status = ((status ≡ wanted) × TookPiece piece old new)
     ⊎ ((status ≡ 4) × TookPart piece old new)
@@ -40,17 +41,17 @@ pub record Said (P : List ℕ → Type 0) (out out_new : SinkTold) : Type 0 wher
   pub said : TookPiece told out out_new
   pub is : P told
 
--- it broke off
+-- `out` got a front of what is told, and the write failed
 pub record Broken (P : List ℕ → Type 0) (out out_new : SinkTold) : Type 0 where
   pub told : List ℕ
   pub part : TookPart told out out_new
   pub is : P told
 
--- this is told of each text that is too long
+-- this is the answer to the question for each script that is too long, since it does not rest on the bytes
 abbrev pub TellsEachLong : Question → (shelf : ShelfTold) → (told : List ℕ) → Type 0
 TellsEachLong question shelf told = (text : List ℕ) → MAX_SCRIPT_BYTES < length text → Tells question text shelf shelf told
 
--- the answer on the bytes of a script, by status
+-- the answer to a question about the bytes of a script, by status
 pub record TellsText (question : Question) (text : List ℕ) (old new : ShelfTold) (out out_new : SinkTold)
     (status : ℕ) : Type 0 where
   pub is_status : status ≤ 5
@@ -71,11 +72,11 @@ pub record TellsLong (question : Question) (shelf : ShelfTold) (out out_new : Si
   pub unwritten : status ≡ 4 → Broken (TellsEachLong question shelf) out out_new
   pub refused : status ≡ 5 → out_new ≡ out
 
--- of the script's bytes, where the shelf tells its files
+-- the script of this name is there, and P holds of its bytes, where the shelf tells its files
 abbrev pub Holds : ShelfTold → (file : List ℕ) → (List ℕ → Type 0) → Type 0
 Holds shelf file P = ForSome shelf.files (λ files. IsSomeAnd (file_at files file) P)
 
--- the answer on the script of this name, by status
+-- the answer to a question about the script of this name, by status
 pub record Told (question : Question) (file : List ℕ) (scripts scripts_new old new : ShelfTold) (out out_new : SinkTold)
     (status : ℕ) : Type 0 where
   pub is_status : status ≤ 5
@@ -90,14 +91,14 @@ pub record Told (question : Question) (file : List ℕ) (scripts scripts_new old
       → Broken (λ told. Holds scripts file (λ text. Tells question text old new told)) out out_new
   pub refused : status ≡ 5 → out_new ≡ out
 
--- how a passing on of lines ended
+-- the status after lines were passed on, by how that ended
 abbrev pub IsPassedBy : Result (Unit {0}) Broke → (status : ℕ) → Type 0
 IsPassedBy (Ok done) status = status ≡ 0
 IsPassedBy (Err Input) status = status ≡ 3
 IsPassedBy (Err Output) status = status ≡ 4
 IsPassedBy (Err Memory) status = status ≡ 5
 
--- these are the bytes of a script; it has none that can be told where it is not there, is too long or was not read
+-- the bytes of a script, where they can be told; otherwise it is not there, is too long, or a read failed
 abbrev pub IsScript : (file : List ℕ) → (scripts scripts_new : ShelfTold) → Option (List ℕ) → Type 0
 IsScript file scripts scripts_new (Some text) = ForSome scripts.files (λ files. file_at files file ≡ Some text)
 IsScript file scripts scripts_new None = Rose scripts.reads scripts_new.reads
@@ -111,7 +112,7 @@ pub record AllShown (file : List ℕ) (scripts scripts_new : ShelfTold) (input :
   pub is_script : IsScript file scripts scripts_new script
   pub passed : AllPassed file script input out out_new
 
--- it broke off: what was passed on until then, and why
+-- the passing on of lines broke off for this reason: what was passed on until then
 pub record ShownUntil (broke : Broke) (file : List ℕ) (scripts scripts_new : ShelfTold) (input : Option (List ℕ))
     (out out_new : SinkTold) : Type 0 where
   pub script : Option (List ℕ)
@@ -129,6 +130,7 @@ pub record Passed (file : List ℕ) (scripts scripts_new : ShelfTold) (input : O
   pub unwritten : status ≡ 4 → ShownUntil Output file scripts scripts_new input out out_new
   pub refused : status ≡ 5 → (out_new ≡ out) ⊎ ShownUntil Memory file scripts scripts_new input out out_new
 
+-- what a verb leaves, by the status: `where` passes the input on, and a question is answered about the script
 abbrev pub Answers : Verb → (file : List ℕ) → (input : Option (List ℕ)) → (old new : Outside) → (status : ℕ) → Type 0
 Answers Where file input old new status =
     Passed file old.scripts new.scripts input old.out new.out status × (new.shelf ≡ old.shelf)
@@ -142,7 +144,7 @@ pub record UsageSaid (old new : Outside) (status : ℕ) : Type 0 where
   pub scripts_kept : new.scripts ≡ old.scripts
   pub shelf_kept : new.shelf ≡ old.shelf
 
--- by words, and what is left of the input
+-- what a call leaves, by its words and by what is still to be read of the input
 pub record Ends (words : List (List ℕ)) (input : Option (List ℕ)) (old new : Outside) (status : ℕ) : Type 0 where
   pub scripts_read : OnlyRead old.scripts new.scripts
   pub shelf_read : OnlyRead old.shelf new.shelf
@@ -154,23 +156,23 @@ pub record Ends (words : List (List ℕ)) (input : Option (List ℕ)) (old new :
 abbrev pub AsksForFiles : List (List ℕ) → Type 0
 AsksForFiles words = (file : List ℕ) × AsksFor words (Tell Files) file
 
--- no count rose
+-- nothing failed: no count rose
 pub record Calm (old new : Outside) : Type 0 where
   pub scripts : Rose old.scripts.reads new.scripts.reads → ⊥
   pub out : Rose old.out.faults new.out.faults → ⊥
   pub err : Rose old.err.faults new.err.faults → ⊥
 
--- this is the status, or memory was refused
+-- the status is the wanted one, or 5 for want of memory
 abbrev pub Comes : (wanted status : ℕ) → Type 0
 Comes wanted status = (status ≡ wanted) ⊎ (status ≡ 5)
 
--- the status of what is asked of a text: 0, but 1 where it needs a plan and the text has none
+-- the status of a question about a text: 0, or 1 if it needs a plan and the text has none, or 5 for want of memory
 pub record Completes (question : Question) (text : List ℕ) (status : ℕ) : Type 0 where
   pub tokens : question ≡ Tokens → Comes 0 status
   pub planned : (plan : Plan) → IsPlan text plan → Comes 0 status
   pub unplanned : question ≢ Tokens → HasNoPlan text → Comes 1 status
 
--- and of a file that is there or is not
+-- the status of a question about a script that is there or not
 abbrev pub CompletesFor : Question → Option (List ℕ) → (status : ℕ) → Type 0
 CompletesFor question None status = Comes 3 status
 CompletesFor question (Some text) status = Completes question text status

@@ -24,6 +24,7 @@ use Rattle.track_library.specs.Loads.{rules_for}
 use Rattle.track_library.specs.declared.rules.Sizes.{Sizes}
 use Rattle.week_lines.specs.Weeks.{IsWeek}
 
+-- the most bytes of one sound, and of all sounds, as `liq` has them
 abbrev pub sizes : Sizes
 sizes = record { file = MAX_FILE_BYTES; all = MAX_ALL_BYTES }
 
@@ -41,13 +42,13 @@ pub record IsDrawn (plan : Plan) (drawn : List ℕ) : Type 0 where
   pub is_refused : IsRefused plan (mark_at inferred.marks.items) refused
   pub picture : IsPicture plan (mark_at inferred.marks.items) refused inferred.clocks drawn
 
--- the text has a plan, of which this holds
+-- the text has a plan, and P holds of it
 pub record OfPlan (text : List ℕ) (P : Plan → Type 0) : Type 0 where
   pub plan : Plan
   pub is_plan : IsPlan text plan
   pub holds : P plan
 
--- it has a plan, and of that and of the bytes at which the calls begin that make its sources this holds
+-- the text has a plan, and P holds of it and of the bytes at which the calls begin that make its sources
 pub record OfSources (text : List ℕ) (P : Plan → (ats : List ℕ) → Type 0) : Type 0 where
   pub plan : Plan
   pub calls : List ℕ
@@ -62,7 +63,7 @@ pub record IsWeekOf (plan : Plan) (told : List ℕ) : Type 0 where
   pub is_inferred : IsInferred plan inferred
   pub lines : IsWeek plan (mark_at inferred.marks.items) told
 
--- What is told of the bytes of a script.
+-- the answer to a question about the bytes of a script; `old` and `new` are what the shelf of its files told
 abbrev pub Tells : Question → (text : List ℕ) → (old new : ShelfTold) → (told : List ℕ) → Type 0
 Tells Tokens text old new told = AreTold text told
 Tells Files text old new told = OfSources text (λ plan ats. IsTold (rules_for plan sizes) plan ats old new told)

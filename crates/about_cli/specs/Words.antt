@@ -6,9 +6,11 @@ use Rattle.about_cli.specs.declared.verb.Question.TheVariants.{Week, Picture, Fi
 use Rattle.about_cli.specs.declared.verb.Verb.{Verb}
 use Rattle.about_cli.specs.declared.verb.Verb.TheVariants.{Where, Tell}
 
+-- the bytes of the words
 abbrev pub texts : List (String Global) → List (List ℕ)
 texts words = map string_bytes words
 
+-- the verb that a word is, if it is one
 abbrev pub verb_of : List ℕ → Option Verb
 verb_of word =
     if bytes_eq word (codes "where") then Some Where
@@ -19,14 +21,16 @@ verb_of word =
     else if bytes_eq word (codes "tokens") then Some (Tell Tokens)
     else None
 
--- two words, of which the first is a verb
+-- the words are two, a verb and the name of a script
 pub record AsksFor (words : List (List ℕ)) (verb : Verb) (file : List ℕ) : Type 0 where
   pub word : List ℕ
   pub two : words ≡ word ∷ file ∷ []
   pub is_verb : verb_of word ≡ Some verb
 
+-- the words have no form: they are not a verb and a name
 abbrev pub HasNoForm : List (List ℕ) → Type 0
 HasNoForm words = (verb : Verb) (file : List ℕ) → AsksFor words verb file → ⊥
 
+-- the line that a call prints if its words have no form
 abbrev pub usage_line : List ℕ
 usage_line = codes "usage: about where|week|picture|files|hours|tokens FILE\n"

@@ -15,6 +15,7 @@ use std::alloc::Global;
 use std::io::Read;
 use where_lines::{Broke, pass_on};
 
+// The line for words that have no form.
 const USAGE: &str = "usage: about where|week|picture|files|hours|tokens FILE\n";
 
 /// All was told.
@@ -73,7 +74,7 @@ pub fn about<T: Shelf, S: Shelf, I: Read + Drop, O: Sink, E: Sink>(
     put(err, USAGE.as_bytes(), NO_FORM)
 }
 
-// Passes the lines of the input on, with the places in the script that they name.
+// Passes the lines of the input on, with the places in the script that they name, and returns the status.
 fn show<T: Shelf, I: Read + Drop, O: Sink>(
     alloc: Global,
     file: &str,
@@ -97,7 +98,7 @@ fn show<T: Shelf, I: Read + Drop, O: Sink>(
     }
 }
 
-// Adds the bytes of a script to none, if it can be read, and answers whether it could.
+// Reads the bytes of a script into `text`, which is empty, and returns whether that could be done.
 fn find_script<T: Shelf>(file: &str, scripts: &mut T, text: &mut Vec<u8>) -> Result<bool, Memory>
     requires { text.old.items ≡ [] }
     ensures script { IfOk result (λ found. IsScript file.now (T.told scripts.old) (T.told scripts.new)
@@ -113,6 +114,7 @@ fn find_script<T: Shelf>(file: &str, scripts: &mut T, text: &mut Vec<u8>) -> Res
     }
 }
 
+// The status after lines were passed on, by how that ended.
 fn passed(done: Result<(), Broke>) -> u8
     ensures { IsPassedBy done result }
 {
@@ -124,7 +126,7 @@ fn passed(done: Result<(), Broke>) -> u8
     }
 }
 
-// Reads the script, and answers what is asked of it.
+// Reads the script, writes the answer to a question about it, and returns the status.
 fn answer<T: Shelf, S: Shelf, O: Sink>(
     alloc: Global,
     question: Question,
@@ -151,7 +153,7 @@ fn answer<T: Shelf, S: Shelf, O: Sink>(
     }
 }
 
-// Tells what is asked of a script that is too long.
+// Answers a question about a script that is too long, and returns the status.
 fn tell_long<O: Sink>(alloc: Global, question: Question, out: &mut O) -> u8
     requires { (O.told out.old).room ≡ None }
     ensures { (shelf : ShelfTold) → TellsLong question shelf (O.told out.old) (O.told out.new) result }
@@ -162,7 +164,7 @@ fn tell_long<O: Sink>(alloc: Global, question: Question, out: &mut O) -> u8
     }
 }
 
-// Tells the tokens of such a script, which are none.
+// Tells the tokens of a script that is too long, which are none, and returns the status.
 fn put_long<O: Sink>(alloc: Global, out: &mut O) -> u8
     requires { (O.told out.old).room ≡ None }
     ensures { (shelf : ShelfTold) → TellsLong Question.Tokens shelf (O.told out.old) (O.told out.new) result }
@@ -173,7 +175,7 @@ fn put_long<O: Sink>(alloc: Global, out: &mut O) -> u8
     }
 }
 
-// Tells what is asked of the bytes of a script.
+// Answers a question about the bytes of a script, whose files are those of `shelf`, and returns the status.
 fn tell<S: Shelf, O: Sink>(
     alloc: Global,
     question: Question,
@@ -194,7 +196,7 @@ fn tell<S: Shelf, O: Sink>(
     }
 }
 
-// Writes the one piece of a call, and answers this status if all of it was written.
+// Writes the one piece of a call; returns `status` if all of it was written, and otherwise 4.
 fn put<W: Sink>(sink: &mut W, piece: &[u8], status: u8) -> u8
     requires { (W.told sink.old).room ≡ None }
     ensures { Puts piece.now status (W.told sink.old) (W.told sink.new) result }

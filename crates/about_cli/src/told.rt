@@ -45,7 +45,7 @@ impl From<Memory> for Untold {
     }
 }
 
-/// What is told of the bytes of a script, whose files are those of the shelf.
+/// The answer to a question about the bytes of a script, whose files are those of the shelf.
 pub fn told_of<S: Shelf>(
     alloc: Global,
     question: Question,
@@ -67,7 +67,7 @@ pub fn told_of<S: Shelf>(
     }
 }
 
-// The plan of a script.
+// The plan of a script's bytes.
 fn plan_in(alloc: Global, text: &[u8]) -> Result<Plan, Untold>
     ensures plan { IfOk result (IsPlan text.now) }
     ensures well_formed { IfOk result IsWellFormed }
@@ -80,6 +80,7 @@ fn plan_in(alloc: Global, text: &[u8]) -> Result<Plan, Untold>
     }
 }
 
+// The lines of the week of a script.
 fn week_of(alloc: Global, text: &[u8]) -> Result<Vec<u8>, Untold>
     ensures told { IfOk result (λ told. OfPlan text.now (λ plan. IsWeekOf plan told.items)) }
     ensures no_plan { IfErr result (λ why. why ≡ untold.NoPlan → HasNoPlan text.now) }
@@ -88,7 +89,7 @@ fn week_of(alloc: Global, text: &[u8]) -> Result<Vec<u8>, Untold>
     Ok(listed(alloc, &plan)?)
 }
 
-// The week of a plan.
+// The lines of the week of a plan.
 fn listed(alloc: Global, plan: &Plan) -> Result<Vec<u8>, Memory>
     requires { IsWellFormed plan.now }
     ensures { IfOk result (λ told. IsWeekOf plan.now told.items) }
@@ -97,6 +98,7 @@ fn listed(alloc: Global, plan: &Plan) -> Result<Vec<u8>, Memory>
     week(alloc, plan, &inferred.marks)
 }
 
+// The picture of a script.
 fn picture_of(alloc: Global, text: &[u8]) -> Result<Vec<u8>, Untold>
     ensures told { IfOk result (λ told. OfPlan text.now (λ plan. IsDrawn plan told.items)) }
     ensures no_plan { IfErr result (λ why. why ≡ untold.NoPlan → HasNoPlan text.now) }
@@ -115,7 +117,7 @@ fn drawn(alloc: Global, plan: &Plan) -> Result<Vec<u8>, Memory>
     picture(alloc, plan, &inferred.marks, refused, &inferred.clocks)
 }
 
-// The number of the first output that may be silent and must not be.
+// The number of the first sink that may be silent and must not be; `None` where all may be as they are.
 fn refused_output(plan: &Plan, marks: &[bool]) -> Option<u32>
     requires { IsWellFormed plan.now }
     ensures { IsRefused plan.now (mark_at marks.now) result }
@@ -126,6 +128,7 @@ fn refused_output(plan: &Plan, marks: &[bool]) -> Option<u32>
     }
 }
 
+// What a script is, and what becomes of each file that it plays.
 fn files_of<S: Shelf>(alloc: Global, text: &[u8], shelf: &mut S) -> Result<Vec<u8>, Untold>
     ensures told { IfOk result
         (λ told. Tells Question.Files text.now (S.told shelf.old) (S.told shelf.new) told.items) }
@@ -145,6 +148,7 @@ fn files_of<S: Shelf>(alloc: Global, text: &[u8], shelf: &mut S) -> Result<Vec<u
     Ok(tell_files(alloc, &sources.plan, &ats, shelf, sizes)?)
 }
 
+// The hours of a script's switches.
 fn hours_of(alloc: Global, text: &[u8]) -> Result<Vec<u8>, Untold>
     ensures told { IfOk result (λ told. OfSources text.now (λ plan ats. AreHours plan ats told.items)) }
     ensures no_plan { IfErr result (λ why. why ≡ untold.NoPlan → HasNoPlan text.now) }
@@ -158,7 +162,7 @@ fn hours_of(alloc: Global, text: &[u8]) -> Result<Vec<u8>, Untold>
     Ok(tell_hours(alloc, &sources.plan, &ats)?)
 }
 
-// The plan of a script with the calls of its sources.
+// The plan of a script's bytes, with the token of the call that makes each source.
 fn sources_in(alloc: Global, text: &[u8]) -> Result<Sources, Untold>
     ensures sources { IfOk result (λ s. HasSources text.now s.plan s.calls) }
     ensures well_formed { IfOk result (λ s. IsWellFormed s.plan) }
@@ -172,7 +176,7 @@ fn sources_in(alloc: Global, text: &[u8]) -> Result<Sources, Untold>
     }
 }
 
-// The bytes at which these tokens begin.
+// The bytes at which the tokens of these numbers begin, in a text of `total` bytes.
 fn starts(
     alloc: Global,
     total: usize,

@@ -31,7 +31,7 @@ pub enum Question {
     Tokens,
 }
 
-/// The verb that a word is.
+/// The verb that a word is, if it is one.
 pub fn verb_of(word: &str) -> Option<Verb>
     ensures { result ≡ verb_of word.now }
 {

@@ -116,7 +116,7 @@ fn count_tracks(
     Ok(library.tracks(0))
 }
 
-/// What is asked of a fault here.
+/// The word for a fault in these tables.
 fn fault_name(fault: &LoadFault) -> &'static str {
     match fault {
         LoadFault::Missing(_) => "missing",
@@ -127,7 +127,7 @@ fn fault_name(fault: &LoadFault) -> &'static str {
     }
 }
 
-/// The rate of a plan.
+/// The rate of a plan in samples a second, by whether it is slow.
 fn rate_of(slow: bool) -> u32
     ensures least { 8000 ≤ result }
     ensures most { result ≤ 192000 }
@@ -198,7 +198,8 @@ const HEADS: &[(usize, u64, Option<Result<(u64, u64), WavFault>>)] = &[
     (36, 36, Some(Err(WavFault::NoData))),
 ];
 
-/// What a front tells.
+/// What the front of a file of `size` bytes tells: the place of the first block and the bytes of all, a fault, or
+/// nothing.
 fn told_by(front: &[u8], size: u64) -> Option<Result<(u64, u64), WavFault>> {
     match read_head(front, size) {
         Some(Ok(head)) => Some(Ok((head.at, head.size))),

@@ -4,23 +4,24 @@ use Rattle.buffer_queue.specs.Window.{Window, Closes, is_chunk}
 use Rattle.buffer_ends.specs.Sides.{Side}
 use Rattle.buffer_ends.specs.Local.{Answers}
 
--- at this place stands this end
+-- at this place of a list of ends stands this one
 pub record HasAt (sides : List Side) (place : ℕ) (side : Side) : Type 0 where
   pub within : place < length sides
   pub is : (d : Side) → slice_index_or sides place d ≡ side
 
--- the end of a buffer, with this window
+-- among these ends is the one of a buffer, with this open window
 pub record HasEnd (sides : List Side) (buffer : ℕ) (window : Window) : Type 0 where
   pub place : ℕ
   pub at : HasAt sides place (record { buffer = buffer; window = window })
 
--- a window was closed at one end, at this place, which has the next one open
+-- the window of one buffer's end was closed, and its next one is open; the other ends stay
 pub record Turned (sides after : List Side) (buffer : ℕ) (old new : Window) : Type 0 where
   pub place : ℕ
   pub at : HasAt sides place (record { buffer = buffer; window = old })
   pub are : after ≡ slice_set sides place (record { buffer = buffer; window = new })
 
--- the ends of a buffer were closed together, and these are the answers of the window
+-- the window of a buffer was closed at both ends, at one among those that put and one among those that take, and these
+-- are its answers
 pub record WasClosed (buffer : ℕ) (puts puts_after takes takes_after : List Side) (log : Answers) : Type 0 where
   pub put : Window
   pub take : Window
@@ -32,7 +33,7 @@ pub record WasClosed (buffer : ℕ) (puts puts_after takes takes_after : List Si
   pub log_puts : log.puts ≡ map is_chunk put.answers
   pub log_takes : log.takes ≡ map is_chunk take.answers
 
--- the two ends of one queue
+-- both ends of a buffer are there, those of one queue: one among the ends that put, one among those that take
 pub record HaveEnds (puts takes : List Side) (buffer : ℕ) : Type 0 where
   pub put : Window
   pub take : Window
@@ -40,7 +41,7 @@ pub record HaveEnds (puts takes : List Side) (buffer : ℕ) : Type 0 where
   pub takes_there : HasEnd takes buffer take
   pub queue : put.queue ≡ take.queue
 
--- two ends before and after
+-- two ends of a queue before and after their window was closed, and the answers of that window
 pub record ClosesSides (put take next_put next_take : Side) (log : Answers) : Type 0 where
   pub closes : Closes put.window take.window put.window.queue next_put.window next_take.window
   pub put_buffer : next_put.buffer ≡ put.buffer

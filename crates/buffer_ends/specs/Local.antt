@@ -13,55 +13,61 @@ pub record Answers : Type 0 where
   pub puts : List Bool
   pub takes : List Bool
 
--- What it may hold and holds, the answers of each window that was closed, and those of the window that is not.
+-- A buffer: how many chunks it may hold, those that it holds, the answers of each closed window, and those of the open
+-- one.
 pub record LocalBuffer : Type 0 where
   pub capacity : ℕ
   pub chunks : List (List Cell)
   pub closed : List Answers
   pub current : Answers
 
--- no answer
+-- the answers of a window before any call
 abbrev pub no_answers : Answers
 no_answers = record { puts = []; takes = [] }
 
--- a buffer before any call
+-- a buffer of at most `capacity` chunks before any call
 abbrev pub empty_buffer : ℕ → LocalBuffer
 empty_buffer capacity = record { capacity = capacity; chunks = []; closed = []; current = no_answers }
 
--- all its answers, the oldest first
+-- the answers of a window's puts
 abbrev pub puts_of : Answers → List Bool
 puts_of answers = answers.puts
 
+-- the answers of a window's takes
 abbrev pub takes_of_window : Answers → List Bool
 takes_of_window answers = answers.takes
 
+-- all answers of a buffer, the oldest first
 abbrev pub all_answers : LocalBuffer → Answers
 all_answers buffer = record {
   puts = flat_map puts_of buffer.closed ++ buffer.current.puts;
   takes = flat_map takes_of_window buffer.closed ++ buffer.current.takes;
 }
 
--- what the rules of a bounded queue speak of: the chunks and all answers
+-- what the rules of a bounded queue speak of: how many chunks it may hold, those that it holds, and all answers
 pub record Held : Type 0 where
   pub capacity : ℕ
   pub chunks : List (List Cell)
   pub answers : Answers
 
+-- a buffer as the rules of a bounded queue speak of it
 abbrev pub held : LocalBuffer → Held
 held buffer = record { capacity = buffer.capacity; chunks = buffer.chunks; answers = all_answers buffer }
 
+-- a list of at most `capacity` chunks before any call
 abbrev pub empty_list : ℕ → Held
 empty_list capacity = record { capacity = capacity; chunks = []; answers = no_answers }
 
--- answers with one more
+-- answers, and that of one more put
 abbrev pub with_put : Bool → Answers → Answers
 with_put answer answers = record { puts = answers.puts ++ answer ∷ []; takes = answers.takes }
 
+-- answers, and that of one more take
 abbrev pub with_take : Bool → Answers → Answers
 with_take answer answers = record { puts = answers.puts; takes = answers.takes ++ answer ∷ [] }
 
--- A call on a list: a take gets the front, and is empty only where nothing is there; a give goes to the back, and is
--- refused only where the list is full.
+-- A call on a list leads from one state to another: a take gets the front, and is empty only where nothing is there; a
+-- put goes to the back, and is refused only where the list is full.
 abbrev pub Step : Held → Call → Held → Type 0
 Step before (Took buffer None) after =
     (before.chunks ≡ []) × (after ≡ record before { answers = with_take false before.answers })
@@ -78,24 +84,26 @@ Step before (Given buffer chunk true) after =
 Step before (Given buffer chunk false) after =
     (length before.chunks ≡ before.capacity) × (after ≡ record before { answers = with_put false before.answers })
 
--- these calls lead from one state of a list to the other
+-- these calls lead from one state of a list to another
 abbrev pub Leads : Held → List Call → Held → Type 0
 Leads before [] after = before ≡ after
 Leads before (call ∷ calls) after = (between : Held) × Step before call between × Leads between calls after
 
--- the calls on one buffer
+-- the buffer of a call
 abbrev pub buffer_of : Call → ℕ
 buffer_of (Took buffer answer) = buffer
 buffer_of (Given buffer chunk accepted) = buffer
 
+-- those of these calls that are on one buffer
 abbrev pub on : ℕ → List Call → List Call
 on buffer [] = []
 on buffer (call ∷ calls) = if buffer == buffer_of call then call ∷ on buffer calls else on buffer calls
 
--- how many answers are of each sort
+-- whether an answer is true
 abbrev pub yes : Bool → Bool
 yes answer = answer
 
+-- how many of these answers are of each sort
 abbrev pub counts_of : Answers → Counts
 counts_of answers = record {
   accepted = count_by yes answers.puts;
@@ -104,7 +112,7 @@ counts_of answers = record {
   empty = count_by not answers.takes;
 }
 
--- the buffer with its window closed, and the next one open
+-- a buffer after its window was closed and the next one opened
 abbrev pub closed : LocalBuffer → LocalBuffer
 closed buffer = record {
   capacity = buffer.capacity;
@@ -113,12 +121,13 @@ closed buffer = record {
   current = no_answers;
 }
 
--- the windows of the first buffers closed
+-- these buffers after the windows of the first so many were closed
 abbrev pub closed_first : ℕ → List LocalBuffer → List LocalBuffer
 closed_first zero buffers = buffers
 closed_first (suc n) [] = []
 closed_first (suc n) (buffer ∷ buffers) = closed buffer ∷ closed_first n buffers
 
+-- the answers of a buffer's closed windows, the oldest first
 abbrev pub closed_windows : LocalBuffer → List Answers
 closed_windows buffer = buffer.closed
 
@@ -126,10 +135,12 @@ closed_windows buffer = buffer.closed
 abbrev pub planned : BufferPlan → LocalBuffer
 planned buffer = empty_buffer buffer.capacity
 
+-- the answers of a window as nested pairs, which code to numbers
 abbrev pub answers_coded : Coded Answers
 answers_coded = code_by (List Bool × List Bool) (coded× (coded_list coded_bool) (coded_list coded_bool))
     (λ a. (a.puts, a.takes)) (λ p. record { puts = p.0; takes = p.1 }) (λ _. refl)
 
+-- a buffer as nested pairs, which code to numbers
 abbrev pub buffer_coded : Coded LocalBuffer
 buffer_coded =
     code_by (ℕ × (List (List Cell) × (List Answers × Answers)))

@@ -3,19 +3,22 @@ use Rattle.std.specs.Prelude.{◌≡◌, ℕ, ◌<◌, List, length, slice_index
 use Rattle.std.proofs.Common.{◌∙◌, arith}
 use Rattle.buffer_ends.specs.Local.{LocalBuffer}
 
--- the capacity, and the windows that were closed
+-- a list has the capacity and the closed windows that it had before
 pub record SameBuffer (before after : LocalBuffer) : Type 0 where
   pub capacity : after.capacity ≡ before.capacity
   pub closed : after.closed ≡ before.closed
 
+-- each list has the capacity and the closed windows that it had before
 pub record SameBuffers (before after : List LocalBuffer) : Type 0 where
   pub many : length after ≡ length before
   pub each : (k : ℕ) (d : LocalBuffer) → k < length before
       → SameBuffer (slice_index_or before k d) (slice_index_or after k d)
 
+-- lists that stay have the capacities and closed windows that they had
 pub same_buffers_refl : (bs : List LocalBuffer) → SameBuffers bs bs
 same_buffers_refl bs = record { many = refl; each = λ k d h. record { capacity = refl; closed = refl } }
 
+-- lists that stay so in each of two steps do in both
 pub same_buffers_trans : (bs cs ds : List LocalBuffer) → SameBuffers bs cs → SameBuffers cs ds → SameBuffers bs ds
 same_buffers_trans bs cs ds a b = record {
   many = b.many ∙ a.many;

@@ -85,7 +85,7 @@ impl<'a> PutEnd<'a> {
         self.buffer
     }
 
-    // How many puts were accepted, and how many found the queue full.
+    // How many puts were accepted in the open window, and how many found the queue full.
     fn counted(&self) -> (u64, u64)
         ensures yes { result.0 ≡ count_by yes (map is_chunk self.now.window.answers) }
         ensures no { result.1 ≡ count_by not (map is_chunk self.now.window.answers) }
@@ -93,7 +93,8 @@ impl<'a> PutEnd<'a> {
         counted(self.pass.answers())
     }
 
-    // Closes the window at both ends of the queue, and opens the next one.
+    // Closes the window at both ends of the queue, of which `take` is the other, and opens the next one. It answers the
+    // answers of the closed window.
     fn close(&mut self, alloc: Global, take: &mut TakeEnd<'_>) -> WindowLog
         requires { self.old.window.queue ≡ take.old.window.queue }
         ensures closes { Closes self.old.window take.old.window self.old.window.queue self.new.window take.new.window }
@@ -110,6 +111,7 @@ impl<'a> PutEnd<'a> {
         WindowLog { puts, takes }
     }
 
+    // Puts a chunk into the queue. It comes back where the queue is full, and where memory is refused.
     fn give<R: Wait>(&mut self, rt: &R, chunk: Chunk) -> Result<Gave, (Chunk, Memory)>
         ensures same { SameSide self.old self.new }
         ensures answer { IfOk result (Puts self.old.window chunk self.new.window) }
@@ -146,7 +148,7 @@ impl<'a> TakeEnd<'a> {
         self.buffer
     }
 
-    // How many takes got a chunk, and how many found the queue empty.
+    // How many takes got a chunk in the open window, and how many found the queue empty.
     fn counted(&self) -> (u64, u64)
         ensures yes { result.0 ≡ count_by yes (map is_chunk self.now.window.answers) }
         ensures no { result.1 ≡ count_by not (map is_chunk self.now.window.answers) }
@@ -154,6 +156,7 @@ impl<'a> TakeEnd<'a> {
         counted(self.pass.answers())
     }
 
+    // Takes a chunk from the queue; nothing where it is empty.
     fn take<R: Wait>(&mut self, rt: &R) -> Result<Option<Chunk>, Memory>
         ensures same { SameSide self.old self.new }
         ensures answer { IfOk result (Takes self.old.window self.new.window) }
@@ -163,7 +166,7 @@ impl<'a> TakeEnd<'a> {
     }
 }
 
-// The counts of a buffer with those of the puts of its end, if one is there.
+// The counts of a buffer, where those of its puts are the ones of its end, if one is there.
 pub(crate) fn with_puts(ends: &Vec<PutEnd<'_>>, buffer: u32, counts: Counts) -> Counts
     requires { Falling ends.now.items }
     ensures puts { (list : LocalBuffer) → counts ≡ counts_of (all_answers list)
@@ -183,7 +186,7 @@ pub(crate) fn with_puts(ends: &Vec<PutEnd<'_>>, buffer: u32, counts: Counts) -> 
     }
 }
 
-// The counts of a buffer with those of the takes of its end, if one is there.
+// The counts of a buffer, where those of its takes are the ones of its end, if one is there.
 pub(crate) fn with_takes(ends: &Vec<TakeEnd<'_>>, buffer: u32, counts: Counts) -> Counts
     requires { Falling ends.now.items }
     ensures takes { (list : LocalBuffer) → (counts.got ≡ count_by yes (all_answers list).takes)
@@ -203,7 +206,7 @@ pub(crate) fn with_takes(ends: &Vec<TakeEnd<'_>>, buffer: u32, counts: Counts) -
     }
 }
 
-// Where the end of a buffer stands, if one is there. It halves the ends at each step.
+// The place of the end of a buffer among those that put, if one is there. It halves the ends at each step.
 pub(crate) fn put_place(ends: &Vec<PutEnd<'_>>, buffer: u32) -> Option<usize>
     requires { Falling ends.now.items }
     ensures some { IfSome result (λ k. (k < length ends.now.items)
@@ -219,7 +222,7 @@ pub(crate) fn put_place(ends: &Vec<PutEnd<'_>>, buffer: u32) -> Option<usize>
     }
 }
 
-// Where the end of a buffer stands, if one is there. It halves the ends at each step.
+// The place of the end of a buffer among those that take, if one is there. It halves the ends at each step.
 pub(crate) fn take_place(ends: &Vec<TakeEnd<'_>>, buffer: u32) -> Option<usize>
     requires { Falling ends.now.items }
     ensures some { IfSome result (λ k. (k < length ends.now.items)
@@ -235,7 +238,7 @@ pub(crate) fn take_place(ends: &Vec<TakeEnd<'_>>, buffer: u32) -> Option<usize>
     }
 }
 
-// Gives a chunk to the end at this place.
+// Puts a chunk at the end at this place.
 pub(crate) fn give_at<R: Wait>(
     rt: &R,
     ends: &mut Vec<PutEnd<'_>>,
@@ -252,7 +255,7 @@ pub(crate) fn give_at<R: Wait>(
     ends[place].give(rt, chunk)
 }
 
-// Takes a chunk from the end at this place.
+// Takes a chunk at the end at this place.
 pub(crate) fn take_at<R: Wait>(
     rt: &R,
     ends: &mut Vec<TakeEnd<'_>>,
@@ -268,7 +271,7 @@ pub(crate) fn take_at<R: Wait>(
     ends[place].take(rt)
 }
 
-// How many answers are true, and how many are not.
+// How many answers are true, and how many are false.
 fn counted(answers: &[bool]) -> (u64, u64)
     ensures yes { result.0 ≡ count_by yes answers.now }
     ensures no { result.1 ≡ count_by not answers.now }
@@ -278,7 +281,7 @@ fn counted(answers: &[bool]) -> (u64, u64)
     (yes, no)
 }
 
-// Closes the window of a buffer at both ends.
+// Closes the window of a buffer whose ends are at `place` among those that put, and at `other` among those that take.
 pub(crate) fn close_at(
     alloc: Global,
     puts: &mut Vec<PutEnd<'_>>,

@@ -53,6 +53,7 @@ impl Model for LocalList {
 }
 
 impl LocalList {
+    // An empty list of at most `capacity` chunks.
     fn new(alloc: Global, capacity: u32) -> LocalList
         ensures { result ≡ empty_buffer capacity }
     {
@@ -66,13 +67,14 @@ impl LocalList {
         }
     }
 
+    /// How often the calls had which answer, in all windows.
     pub(crate) fn counted(&self) -> Counts
         ensures { result ≡ counts_of (all_answers self.now) }
     {
         self.counts
     }
 
-    // Takes the front, or nothing where nothing is there.
+    // Takes the chunk at the front; nothing where the list is empty.
     fn take(&mut self) -> Result<Option<Chunk>, Memory>
         ensures same { SameBuffer self.old self.new }
         ensures step { IfOk result (λ answer. (b : ℕ) → Step (held self.old) (Took b answer) (held self.new)) }
@@ -94,7 +96,7 @@ impl LocalList {
         }
     }
 
-    // Gives to the back. The chunk comes back where the list is full, and where memory is refused.
+    // Puts a chunk at the back. It comes back where the list is full, and where memory is refused.
     fn give(&mut self, chunk: Chunk) -> Result<Gave, (Chunk, Memory)>
         ensures same { SameBuffer self.old self.new }
         ensures step { IfOk result (λ gave. (b : ℕ) → (call : Call) × IsGive b chunk gave call
@@ -123,7 +125,7 @@ impl LocalList {
         }
     }
 
-    // Closes the window.
+    // Closes the open window, and opens the next one.
     fn close(&mut self, alloc: Global) -> Result<(), Memory>
         ensures closed { OnOk result (self.new ≡ closed self.old) }
         ensures memory { OnErr result (self.new ≡ self.old) }
@@ -135,7 +137,7 @@ impl LocalList {
         Ok(())
     }
 
-    // Opens the window again that was closed last.
+    // Opens the window again that was closed last, which had no calls after it.
     fn reopen(&mut self)
         requires { (b : LocalBuffer) × (self.old ≡ closed b) }
         ensures { (b : LocalBuffer) → self.old ≡ closed b → self.new ≡ b }
@@ -146,7 +148,7 @@ impl LocalList {
         }
     }
 
-    // The closed windows.
+    // The answers of the closed windows.
     fn into_log(self) -> BufferLog
         ensures { result ≡ self.closed }
     {
@@ -156,7 +158,7 @@ impl LocalList {
     }
 }
 
-// Takes from one of the lists.
+// Takes from the list of this buffer.
 pub(crate) fn take_from(lists: &mut Vec<LocalList>, buffer: u32) -> Result<Option<Chunk>, Memory>
     requires { buffer < length lists.old.items }
     ensures ok { IfOk result (λ answer. (l : LocalBuffer) × (lists.new.items ≡ slice_set lists.old.items buffer l)
@@ -167,7 +169,7 @@ pub(crate) fn take_from(lists: &mut Vec<LocalList>, buffer: u32) -> Result<Optio
     lists[buffer as usize].take()
 }
 
-// Gives to one of the lists.
+// Puts a chunk into the list of this buffer.
 pub(crate) fn give_into(
     lists: &mut Vec<LocalList>,
     buffer: u32,
@@ -195,7 +197,7 @@ pub(crate) fn empty_lists(alloc: Global, buffers: &[BufferPlan]) -> Result<Vec<L
     Ok(lists)
 }
 
-// Closes the window of one of the lists.
+// Closes the window of the list of this buffer.
 pub(crate) fn close_in(alloc: Global, lists: &mut Vec<LocalList>, buffer: u32) -> Result<(), Memory>
     requires { buffer < length lists.old.items }
     ensures closed { OnOk result ((d : LocalBuffer)
@@ -221,7 +223,7 @@ pub(crate) fn close_all(alloc: Global, lists: &mut Vec<LocalList>) -> Result<(),
     Ok(())
 }
 
-// The closed windows of each list, in a list that has room for them.
+// The answers of each list's closed windows. They are added to `logs`, which is empty and has room for them.
 pub(crate) fn into_logs(lists: Vec<LocalList>, mut logs: Vec<BufferLog>) -> Vec<BufferLog>
     requires empty { logs.items ≡ [] }
     requires room { length lists.items ≤ vec_capacity logs }
@@ -233,7 +235,7 @@ pub(crate) fn into_logs(lists: Vec<LocalList>, mut logs: Vec<BufferLog>) -> Vec<
     logs
 }
 
-// Opens the windows again that were closed last, of the first lists.
+// Opens the windows again that were closed last, in the first `many` lists.
 fn reopen_first(lists: &mut Vec<LocalList>, many: usize)
     requires { (bs : List LocalBuffer) × (many ≤ length bs) × (lists.old.items ≡ closed_first many bs) }
     ensures { (bs : List LocalBuffer) → many ≤ length bs → lists.old.items ≡ closed_first many bs

@@ -76,7 +76,7 @@ impl LocalTaps {
         into_logs(self.lists, self.logs)
     }
 
-    // Closes the window of the list of this buffer.
+    // Closes the window of the list of this buffer, and opens the next one.
     pub(crate) fn close_one(&mut self, alloc: Global, buffer: u32) -> Result<(), Memory>
         requires { buffer < length self.old }
         ensures closed { OnOk result ((d : LocalBuffer)
@@ -97,7 +97,7 @@ impl LocalTaps {
         take_from(&mut self.lists, buffer)
     }
 
-    // Gives to the list of this buffer.
+    // Puts a chunk into the list of this buffer.
     pub(crate) fn give_to(&mut self, buffer: u32, chunk: Chunk) -> Result<Gave, (Chunk, Memory)>
         requires { buffer < length self.old }
         ensures ok { IfOk result (λ gave. (l : LocalBuffer) × (self.new ≡ slice_set self.old buffer l) × (call : Call)

@@ -10,7 +10,7 @@ pub struct RunEnd {
     pub end: End,
 }
 
-/// How a run ended: all ticks were made, a sink of a clock refused bytes, or memory was refused.
+/// How a run ended: all ticks were made, this sink of this clock refused bytes, or memory was refused.
 #[derive(Clone, Copy, Debug, PartialEq, Eq)]
 pub enum End {
     Done,

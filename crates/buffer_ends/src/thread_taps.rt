@@ -30,7 +30,8 @@ pub struct ThreadTaps<'a, R> {
 }
 
 impl<'a, R> ThreadTaps<'a, R> {
-    /// The ends of one clock: each list goes from the last buffer to the first, and has each at most once.
+    /// The taps of one clock. Each list of ends goes from the buffer with the largest number to the one with the
+    /// smallest, and has each at most once.
     pub fn new(
         rt: &'a R,
         local: LocalTaps,
@@ -52,8 +53,8 @@ impl<'a, R> ThreadTaps<'a, R> {
         }
     }
 
-    /// Adds the end of a buffer to which the clock gives, behind those of later buffers. Where memory is refused the
-    /// end is lost.
+    /// Adds the end of a buffer to which the clock gives, after those of buffers with larger numbers. Where memory is
+    /// refused the end is lost.
     pub fn add_put(&mut self, end: PutEnd<'a>) -> Result<(), Memory>
         requires { (k : ℕ) (d : _) → k < length self.old.puts.items
             → end.buffer < (slice_index_or self.old.puts.items k d).buffer }
@@ -64,8 +65,8 @@ impl<'a, R> ThreadTaps<'a, R> {
         Ok(())
     }
 
-    /// Adds the end of a buffer from which the clock takes, behind those of later buffers. Where memory is refused the
-    /// end is lost.
+    /// Adds the end of a buffer from which the clock takes, after those of buffers with larger numbers. Where memory is
+    /// refused the end is lost.
     pub fn add_take(&mut self, end: TakeEnd<'a>) -> Result<(), Memory>
         requires { (k : ℕ) (d : _) → k < length self.old.takes.items
             → end.buffer < (slice_index_or self.old.takes.items k d).buffer }
@@ -76,7 +77,7 @@ impl<'a, R> ThreadTaps<'a, R> {
         Ok(())
     }
 
-    /// The lists and the ends, with the answers of the calls.
+    /// Hands out the lists and the ends, with the answers of the calls.
     pub fn into_parts(self) -> (LocalTaps, Vec<PutEnd<'a>>, Vec<TakeEnd<'a>>)
         ensures { (result.0 ≡ self.entry.local) × (result.1 ≡ self.entry.puts) × (result.2 ≡ self.entry.takes) }
     {
@@ -89,8 +90,8 @@ impl<'a, R> ThreadTaps<'a, R> {
         (local, puts, takes)
     }
 
-    /// Closes the window of a buffer to which these taps give, with the ends of the clock that takes from it, and opens
-    /// the next one. It answers the window's answers, and takes no memory.
+    /// Closes the window of a buffer to which these taps give, and opens the next one. `takes` are the ends of the
+    /// clock that takes from it. It answers the answers of the closed window, and takes no memory.
     pub fn close_with(
         &mut self,
         alloc: Global,
@@ -113,7 +114,7 @@ impl<'a, R> ThreadTaps<'a, R> {
         close_at(alloc, &mut self.puts, place, takes, at)
     }
 
-    /// Takes the ends out that take, so that their windows can be closed.
+    /// Takes out the ends that take, so that their windows can be closed.
     pub fn lend_takes(&mut self, alloc: Global) -> Vec<TakeEnd<'a>>
         ensures lent { result.items ≡ self.old.takes.items }
         ensures falling { Falling result.items }
@@ -122,7 +123,7 @@ impl<'a, R> ThreadTaps<'a, R> {
         mem::replace(&mut self.takes, Vec::new(alloc))
     }
 
-    /// Puts them back.
+    /// Puts the ends back that were taken out to close their windows.
     pub fn put_back(&mut self, takes: Vec<TakeEnd<'a>>)
         requires { Falling takes.items }
         ensures back { self.new.takes ≡ takes.entry }

@@ -10,11 +10,11 @@ use Rattle.buffer_queue.specs.declared.rule.View.{View}
 abbrev pub Cells : Type 0
 Cells = List Cell
 
--- a pass with neither role knows nothing
+-- what a pass knows that has neither role: nothing
 abbrev pub idle : View
 idle = record { capacity = 0; puts = false; takes = false; opening = []; put = []; since = []; got = [] }
 
--- the first pass has both roles, and nothing was done
+-- what the first pass of a queue knows: it has both roles, and nothing was put or got
 abbrev pub newcomer : View
 newcomer = record { capacity = 0; puts = true; takes = true; opening = []; put = []; since = []; got = [] }
 
@@ -22,7 +22,7 @@ newcomer = record { capacity = 0; puts = true; takes = true; opening = []; put =
 abbrev pub contents_of : View → List Cells
 contents_of v = left_by v.opening v.put v.got
 
--- the two passes of the next window, which opens with the contents: one has the puts, the other the takes
+-- the pass that puts into a queue of at most n chunks in the next window, which opens with what the queue holds
 abbrev pub putter : ℕ → View → View
 putter n v = record {
   capacity = n;
@@ -34,10 +34,11 @@ putter n v = record {
   got = [];
 }
 
+-- the pass that takes from a queue of at most n chunks in the next window, which opens with what the queue holds
 abbrev pub taker : ℕ → View → View
 taker n v = record { capacity = n; puts = false; takes = true; opening = []; put = []; since = contents_of v; got = [] }
 
--- both roles in one pass
+-- what a pass knows into which the one that puts and the one that takes are joined
 abbrev pub both : View → View → View
 both v w = record {
   capacity = v.capacity;
@@ -49,8 +50,8 @@ both v w = record {
   got = w.got;
 }
 
--- the pass of each role is the only one, and knows the capacity, the window's opening contents and the moves of its
--- role
+-- what the pass at this port knows is right: if it puts, it is the writer's, and knows the capacity, the opening and
+-- the puts; if it takes, it is the reader's, and knows the capacity, the opening and the chunks got
 abbrev pub FitsView : ℕ → ℕ → ℕ → List Cells → List (Move Cells) → ℕ → View → Type 0
 FitsView capacity writer reader queue moves port v =
     (v.puts ≡ true → (port ≡ writer) × (v.capacity ≡ capacity) × (v.opening ≡ queue) × (v.put ≡ puts_of moves))
@@ -64,25 +65,27 @@ Holds items views =
     × (length queue ≤ capacity) × Ordered capacity queue moves items
     × ((port : ℕ) (v : View) → get_elem? views port ≡ some v → FitsView capacity writer reader queue moves port v)
 
--- what a step tells, of the view before, the chunk and the view after
+-- a put of chunk x adds it to what its pass knows, with how many chunks it left in the queue
 abbrev pub IsPut : View → Cells → View → Type 0
 IsPut v x w = (n : ℕ) × (w ≡ record v { put = v.put ++ (x, n) ∷ [] })
 
+-- a take that got chunk x adds it to what its pass knows, with how many chunks it left in the queue
 abbrev pub IsGot : View → Cells → View → Type 0
 IsGot v x w = (n : ℕ) × (w ≡ record v { got = v.got ++ (x, n) ∷ [] })
 
--- Of a full queue: the last accepted put, or the opening, left as many chunks as the queue may hold, and so many were
--- there or put.
+-- What a full queue teaches: the last accepted put, or the opening, left as many chunks as the queue may hold, and so
+-- many were there or put.
 abbrev pub Fills : View → List Cells → Type 0
 Fills v items =
     length items ≡ v.capacity → (last_or (length v.opening) v.put ≡ v.capacity)
     × (v.capacity ≤ length v.opening + length v.put)
 
--- of an empty queue: the last chunk got, or the opening, left none, and all that was there was got
+-- what an empty queue teaches: the last chunk got, or the opening, left none, and all that was there was got
 abbrev pub Drains : View → List Cells → Type 0
 Drains v items = length items ≡ 0 → (last_or (length v.since) v.got ≡ 0) × (length v.since ≤ length v.got)
 
--- of a pass with both roles: the whole window
+-- what a pass with both roles may learn of a window: its puts and its takes are those of one order, which leads from
+-- the opening to what the queue holds
 abbrev pub Whole : View → List Cells → Type 0
 Whole v items =
     (moves : List (Move Cells)) × (length v.opening ≤ v.capacity) × Ordered v.capacity v.opening moves items

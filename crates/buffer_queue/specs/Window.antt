@@ -17,6 +17,7 @@ pub record Window : Type 0 where
   pub left : ℕ
   pub answers : List (Option (List Cell))
 
+-- a window as nested pairs, which code to numbers
 abbrev pub window_coded : Coded Window
 window_coded =
     code_by (TableId × (List (List Cell) × (ℕ × List (Option (List Cell)))))
@@ -37,41 +38,42 @@ capacity_of queue = queue.slots
 abbrev pub opened : TableId → List (List Cell) → Window
 opened queue chunks = record { queue = queue; opening = chunks; left = length chunks; answers = [] }
 
--- true for an answer that moved a chunk
+-- whether an answer moved a chunk
 abbrev pub is_chunk : Option (List Cell) → Bool
 is_chunk (Some chunk) = true
 is_chunk None = false
 
--- the window after an answer that moved this chunk
+-- the window of an end before and after an answer that moved this chunk
 pub record Moves (before : Window) (chunk : List Cell) (after : Window) : Type 0 where
   pub queue : after.queue ≡ before.queue
   pub opening : after.opening ≡ before.opening
   pub answers : after.answers ≡ before.answers ++ Some chunk ∷ []
 
--- the window after an answer that moved nothing
+-- the window of an end before and after an answer that moved nothing
 pub record Stays (before after : Window) : Type 0 where
   pub queue : after.queue ≡ before.queue
   pub opening : after.opening ≡ before.opening
   pub left : after.left ≡ before.left
   pub answers : after.answers ≡ before.answers ++ None ∷ []
 
--- The last accepted put of the window, or its opening, left as many chunks as the capacity, and the opening and the
--- accepted chunks together are no fewer.
+-- The queue was full: the last accepted put of the window, or its opening, left as many chunks as the capacity, and the
+-- opening and the accepted chunks together are no fewer.
 pub record IsFull (window : Window) : Type 0 where
   pub left : window.left ≡ capacity_of window.queue
   pub many : capacity_of window.queue ≤ length window.opening + length (somes window.answers)
 
--- The last chunk got in the window, or its opening, left none, and every chunk of the opening was got.
+-- The queue was empty: the last chunk got in the window, or its opening, left none, and every chunk of the opening was
+-- got.
 pub record IsEmpty (window : Window) : Type 0 where
   pub left : window.left ≡ 0
   pub taken : length window.opening ≤ length (somes window.answers)
 
--- the answers of a put of this chunk, with the window before and after it
+-- what a put of this chunk answers, with the window before and after it
 abbrev pub Puts : Window → List Cell → Window → Gave → Type 0
 Puts before chunk after Accepted = Moves before chunk after
 Puts before chunk after (Full back) = (back ≡ chunk) × IsFull before × Stays before after
 
--- the answers of a take
+-- what a take answers, with the window before and after it
 abbrev pub Takes : Window → Window → Option (List Cell) → Type 0
 Takes before after None = IsEmpty before × Stays before after
 Takes before after (Some chunk) = Moves before chunk after

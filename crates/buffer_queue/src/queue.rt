@@ -13,7 +13,7 @@ use std::marker::{Brand, Model};
 use std::mem;
 use std::sync::Wait;
 
-// A queue of so many chunks with the passes of its two ends.
+// A queue of at most `capacity` chunks with the passes of its two ends, the one that puts first.
 fn opened_at<K: Size>(
     alloc: Global,
     capacity: u32,
@@ -28,7 +28,7 @@ fn opened_at<K: Size>(
     Ok((queue, put, take))
 }
 
-// Takes both passes in, and hands both out again with what the queue holds as their opening contents.
+// Takes both passes in, and hands both out again for the next window, which opens with what the queue holds.
 fn turn(queue: &Ruled, put: &mut Pass<Chunk, View>, take: &mut Pass<Chunk, View>)
     requires queue { IsPassOf queue.now put.old × IsPassOf queue.now take.old }
     requires roles { ((view put.old).puts ≡ true) × ((view take.old).takes ≡ true) }
@@ -44,8 +44,8 @@ fn turn(queue: &Ruled, put: &mut Pass<Chunk, View>, take: &mut Pass<Chunk, View>
     *take = queue.another::<Next>(put);
 }
 
-/// A queue of at most so many chunks, which two threads share. Contracts see which queue it is, and that tells its
-/// capacity.
+/// A queue with room for a number of chunks, its capacity, which two threads share. Contracts see which queue it is,
+/// and that tells its capacity.
 #[derive(Drop)]
 pub struct BufferQueue {
     queue: Ruled,
@@ -120,7 +120,7 @@ impl Model for TakePass {
 }
 
 impl PutPass {
-    /// The window's answers so far: true for an accepted chunk, false where the queue was full.
+    /// The answers in the open window: true for an accepted chunk, false where the queue was full.
     pub fn answers(&self) -> &[bool]
         ensures { result.now ≡ map is_chunk self.now.answers }
     {
@@ -129,7 +129,7 @@ impl PutPass {
 }
 
 impl TakePass {
-    /// The window's answers so far: true for a chunk, false where the queue was empty.
+    /// The answers in the open window: true for a chunk, false where the queue was empty.
     pub fn answers(&self) -> &[bool]
         ensures { result.now ≡ map is_chunk self.now.answers }
     {
@@ -138,7 +138,7 @@ impl TakePass {
 }
 
 impl BufferQueue {
-    /// An empty queue of at most so many chunks, with its two ends.
+    /// An empty queue of at most `capacity` chunks, with its two ends.
     pub fn new(alloc: Global, capacity: u32) -> Result<(BufferQueue, PutPass, TakePass), Memory>
         requires { 0 < capacity }
         ensures capacity { IfOk result (λ r. capacity_of r.0 ≡ capacity) }

@@ -19,7 +19,8 @@ pub struct View {
     pub got: LinkedList<(Chunk, u64)>,
 }
 
-/// Some order of the accepted puts and of the chunks got leads from the opening contents to the contents.
+/// The rule of a queue: some order of the accepted puts and of the chunks got leads from the opening contents to the
+/// contents.
 pub struct OneOrder;
 
 impl Protocol<Chunk, View> for OneOrder {
@@ -42,7 +43,7 @@ impl Size for Brand {
     ghost capacity = { 0 };
 }
 
-/// The first pass is cut into the two ends, which learn the capacity.
+/// The first pass of a queue is cut into the passes of its two ends, which learn the capacity.
 pub struct Ends<K> {
     of: PhantomData<K>,
 }
@@ -55,7 +56,7 @@ impl<K: Size> Split<View> for Ends<K> {
     ghost right = { λ v. taker K.capacity v };
 }
 
-/// A pass with both roles is cut into the two ends, which open the next window.
+/// A pass with both roles is cut into the passes of the two ends, which open the next window.
 pub struct Next;
 
 impl Split<View> for Next {
@@ -66,7 +67,7 @@ impl Split<View> for Next {
     ghost right = { λ v. taker v.capacity v };
 }
 
-/// A pass that knows nothing.
+/// From a pass one is cut off that knows nothing.
 pub struct Spare;
 
 impl Split<View> for Spare {
@@ -77,7 +78,7 @@ impl Split<View> for Spare {
     ghost right = { λ v. idle };
 }
 
-/// The two ends are taken in.
+/// The passes of the two ends are joined to one.
 pub struct Both;
 
 impl Join<View> for Both {
@@ -88,7 +89,7 @@ impl Join<View> for Both {
     ghost spent = { idle };
 }
 
-/// A put, and what a full queue teaches.
+/// What a put adds to what its pass knows, and what a full queue teaches it.
 pub struct PutStep;
 
 impl Outcome<Chunk, View> for PutStep {
@@ -103,7 +104,7 @@ impl Lesson<Chunk, View> for PutStep {
     ghost fact = { Fills };
 }
 
-/// A take, and what an empty queue teaches.
+/// What a take adds to what its pass knows, and what an empty queue teaches it.
 pub struct TakeStep;
 
 impl Outcome<Chunk, View> for TakeStep {

@@ -7,15 +7,16 @@ use Rattle.plan_core.specs.declared.sink.SinkPlan.TheVariants.{Feed}
 use Rattle.run_records.specs.Buffers.{fed_in, read_from}
 use Rattle.stream_meaning.specs.Instants.{Setting}
 
--- by a buffer's number: the node that feeds it, by these sinks
+-- `found` has for each buffer, by its number, the node that feeds it, by these sinks
 abbrev pub AreFeeders : List SinkPlan → (found : List ℕ) → Type 0
 AreFeeders sinks found = (buffer : ℕ) → buffer < length found → slice_index_or found buffer 0 ≡ fed_in buffer sinks
 
--- by a buffer's number: the node that reads it, among these nodes, of which the first has this number
+-- `found` has for each buffer, by its number, the node that reads it among these, the first of which has the number
+-- `first`
 abbrev pub AreReaders : Plan → (first : ℕ) → List Node → (found : List ℕ) → Type 0
 AreReaders plan first nodes found = (setting : Setting) → setting.plan ≡ plan
     → (buffer : ℕ) → buffer < length found → slice_index_or found buffer 0 ≡ read_from setting buffer first nodes
 
--- a sink feeds no buffer from this number on; private functions alone cite this
+-- if a sink is a feed, its buffer's number is below `count`; private functions alone cite this
 abbrev pub FeedsBelow : (count : ℕ) → SinkPlan → Type 0
 FeedsBelow count sink = (buffer node : ℕ) → sink ≡ Feed buffer node → buffer < count

@@ -6,7 +6,7 @@ ghost use Rattle.run_records.specs.Buffers.{main_of, main_within};
 use clock_infer::{ClockMap, NodeClock};
 use plan_core::Plan;
 
-/// The main clock in which a node lies, through its sub-clocks.
+/// The main clock to which the clock of a node belongs.
 pub fn main_of(plan: &Plan, clocks: &ClockMap, node: u32) -> u32
     ensures { (setting : Setting) → setting.plan ≡ plan.now → setting.clocks ≡ clocks.now.of
         → result ≡ main_of setting node }

@@ -11,7 +11,7 @@ use liq_base::Memory;
 use plan_core::{Node, Plan, SinkPlan};
 use std::alloc::Global;
 
-/// By a buffer's number, the node that feeds it.
+/// For each buffer of a plan, by its number, the node that feeds it.
 pub fn feeders(alloc: Global, plan: &Plan) -> Result<Vec<u32>, Memory>
     requires { IsWellFormed plan.now }
     ensures size { IfOk result (λ found. length found.items ≡ length plan.now.buffers) }
@@ -27,7 +27,7 @@ pub fn feeders(alloc: Global, plan: &Plan) -> Result<Vec<u32>, Memory>
     Ok(found)
 }
 
-// Notes the node of a feed, before the sinks behind it.
+// Notes the node of a sink that is a feed, once the later sinks are noted.
 fn put_feeder(sink: &SinkPlan, found: &mut [u32])
     requires { FeedsBelow (length found.old) sink.now }
     ensures size { length found.new ≡ length found.old }
@@ -38,7 +38,7 @@ fn put_feeder(sink: &SinkPlan, found: &mut [u32])
     }
 }
 
-/// By a buffer's number, the node that reads it.
+/// For each buffer of a plan, by its number, the node that reads it.
 pub fn readers(alloc: Global, plan: &Plan) -> Result<Vec<u32>, Memory>
     requires { IsWellFormed plan.now }
     ensures size { IfOk result (λ found. length found.items ≡ length plan.now.buffers) }
@@ -54,7 +54,7 @@ pub fn readers(alloc: Global, plan: &Plan) -> Result<Vec<u32>, Memory>
     Ok(found)
 }
 
-// Notes a reader, before the nodes behind it.
+// Notes a node that is a reader, once the later nodes are noted.
 fn put_reader(number: u32, node: &Node, found: &mut [u32])
     requires { (buffer : ℕ) → node.now.op ≡ Buffer buffer → buffer < length found.old }
     ensures size { length found.new ≡ length found.old }

@@ -26,11 +26,11 @@ use Rattle.builtin_calls.specs.Times.{overlap_samples, track_of, samples_of, pit
 use Rattle.builtin_calls.specs.Sinks.{add_output}
 use Rattle.builtin_calls.specs.Settings.{setting}
 
--- a node of these
+-- the node of this operator, of this kind, over these children
 abbrev pub node : Op → Kind → List ℕ → Node
 node o k children = record { op = o; kind = k; children = children }
 
--- output.file(fallible=false, format, name, s)
+-- what `output.file(fallible=false, format, name, s)` makes: an output of the source to the file of this name
 unfoldable pub output_file : List Kind → List Argument → Machine → Outcome
 output_file kinds given m = do
   fallible ← bool_or (codes "fallible") false given
@@ -40,21 +40,21 @@ output_file kinds given m = do
   s ← plain_source m.plan.nodes k name.1
   add_output name.0 s.0 fallible.0 format.0 m
 
--- set(key, value)
+-- what `set(key, value)` makes: the setting of this key
 unfoldable pub set : List Argument → Machine → Outcome
 set given m = do
   key ← plain_text given
   value ← plain_argument key.1
   setting key.0 value.0 m
 
--- single(file)
+-- what `single(file)` makes: a node that repeats an audio file
 unfoldable pub single : List Kind → List Argument → Machine → Outcome
 single kinds given m = do
   file ← plain_text given
   k ← one_kind kinds
   add (node (op.Single file.0) k []) m
 
--- the one mode of a playlist
+-- the one mode of a playlist, "normal"; any other is a bad value at token `at`
 abbrev pub is_normal : ℕ → List ℕ → Result (Unit {0}) Stop
 is_normal at mode =
     elim (bytes_eq mode (codes "normal")) [
@@ -62,7 +62,7 @@ is_normal at mode =
       | false ↦ Err (BadValue at)
     ]
 
--- playlist(loop=true, mode="normal", file)
+-- what `playlist(loop=true, mode="normal", file)` makes: a node that plays the files of a list
 unfoldable pub playlist : ℕ → List Kind → List Argument → Machine → Outcome
 playlist at kinds given m = do
   again ← bool_or (codes "loop") true given
@@ -72,7 +72,7 @@ playlist at kinds given m = do
   normal ← is_normal at mode.0
   add (node (op.Playlist file.0 again.0) k []) m
 
--- blank(duration=0.)
+-- what `blank(duration=0.)` makes: a node of zeros, in tracks of this duration
 unfoldable pub blank : ℕ → List Kind → List Argument → Machine → Outcome
 blank at kinds given m = do
   duration ← decimal_or (codes "duration") (some_millionths 0 tt) given
@@ -80,7 +80,7 @@ blank at kinds given m = do
   track ← track_of at m.plan.rate duration.0
   add (node (op.Blank track) k []) m
 
--- square(f)
+-- what `square(f)` makes: a node that plays a square wave of this pitch
 unfoldable pub square : ℕ → List Kind → List Argument → Machine → Outcome
 square at kinds given m = do
   f ← plain_decimal given
@@ -88,43 +88,44 @@ square at kinds given m = do
   pitch ← pitch_of at f.0
   add (node (op.Square pitch) k []) m
 
--- fail()
+-- what `fail()` makes: a node that has nothing to play
 unfoldable pub fail : List Kind → Machine → Outcome
 fail kinds m = do
   k ← one_kind kinds
   add (node op.Fail k []) m
 
--- a list of sources, not too many of them
+-- the first argument without a label, a list of sources of this kind, at most 65535
 unfoldable pub few_sources : List Node → Kind → List Argument → Result (List ℕ) Stop
 few_sources nodes k given = do
   sources ← plain_sources nodes k given
   few sources.0
 
--- a list of predicates and sources, not too many of them
+-- the first argument without a label, a list of predicates with sources of this kind, at most 65535
 unfoldable pub few_pairs : List Node → Kind → List Argument → Result (List Predicate × List ℕ) Stop
 few_pairs nodes k given = do
   pairs ← plain_pairs nodes k given
   children ← few pairs.0.1
   Ok (pairs.0.0, children)
 
--- track_sensitive=true
+-- the argument `track_sensitive`, or true, and the other arguments
 unfoldable pub sensitive_or : List Argument → Result (Bool × List Argument) Stop
 sensitive_or given = bool_or (codes "track_sensitive") true given
 
--- a node of this operator over a list of sources
+-- what a builtin over a list of sources makes: a node of this operator over them
 unfoldable pub over_sources : Op → List Kind → List Argument → Machine → Outcome
 over_sources o kinds given m = do
   k ← one_kind kinds
   children ← few_sources m.plan.nodes k given
   add (node o k children) m
 
--- fallback(track_sensitive=true, sources)
+-- what `fallback(track_sensitive=true, sources)` makes: a node that plays the first source that is ready
 unfoldable pub fallback : List Kind → List Argument → Machine → Outcome
 fallback kinds given m = do
   sensitive ← sensitive_or given
   over_sources (op.Fallback sensitive.0) kinds sensitive.1 m
 
--- switch(track_sensitive=true, pairs)
+-- what `switch(track_sensitive=true, pairs)` makes: a node that plays the first source that is ready and whose
+-- predicate holds
 unfoldable pub switch : List Kind → List Argument → Machine → Outcome
 switch kinds given m = do
   sensitive ← sensitive_or given
@@ -132,7 +133,7 @@ switch kinds given m = do
   pairs ← few_pairs m.plan.nodes k sensitive.1
   add (node (op.Switch sensitive.0 pairs.0) k pairs.1) m
 
--- a seed, which is not below zero
+-- a seed; a number below zero is a bad value at token `at`
 abbrev pub seed_of : ℕ → ℤ → Result ℕ Stop
 seed_of at n =
     elim (int_lt n (pos 0)) [
@@ -140,7 +141,7 @@ seed_of at n =
       | false ↦ Ok (unsigned_abs n)
     ]
 
--- random(seed=0, sources)
+-- what `random(seed=0, sources)` makes: a node that chooses a source by chance for each track
 unfoldable pub random : ℕ → List Kind → List Argument → Machine → Outcome
 random at kinds given m = do
   number ← int_or (codes "seed") (pos 0) given
@@ -150,13 +151,13 @@ random at kinds given m = do
   children ← few sources.0
   add (node (op.Random seed) k children) m
 
--- add(normalize=true, sources)
+-- what `add(normalize=true, sources)` makes: a node that mixes these sources
 unfoldable pub add_sources : List Kind → List Argument → Machine → Outcome
 add_sources kinds given m = do
   normalize ← bool_or (codes "normalize") true given
   over_sources (op.Add normalize.0) kinds normalize.1 m
 
--- amplify(k, s)
+-- what `amplify(k, s)` makes: a node that multiplies each sample of the source by this factor
 unfoldable pub amplify : List Kind → List Argument → Machine → Outcome
 amplify kinds given m = do
   factor ← plain_decimal given
@@ -164,26 +165,26 @@ amplify kinds given m = do
   s ← plain_source m.plan.nodes k factor.1
   add (node (op.Amplify factor.0) k (s.0 ∷ [])) m
 
--- mean(s): stereo to mono
+-- what `mean(s)` makes: a mono node of a stereo source
 unfoldable pub mean : List Argument → Machine → Outcome
 mean given m = do
   s ← plain_source m.plan.nodes Kind.Stereo given
   add (node op.Mean Mono (s.0 ∷ [])) m
 
--- stereo(s): mono to stereo
+-- what `stereo(s)` makes: a stereo node of a mono source
 unfoldable pub stereo : List Argument → Machine → Outcome
 stereo given m = do
   s ← plain_source m.plan.nodes Mono given
   add (node op.Stereo Kind.Stereo (s.0 ∷ [])) m
 
--- the overlap of a crossfade of a source, in samples
+-- the overlap of a crossfade of node s in samples, within the limits
 unfoldable pub short_overlap : ℕ → ℕ → Decimal → Plan → Result ℕ Stop
 short_overlap at s duration plan = do
   overlap ← overlap_samples at plan.rate duration
   crossfades ← at_most MAX_CROSSFADES Crossfades (crossfades_with s plan)
   at_most MAX_OVERLAP Overlap overlap
 
--- crossfade(duration=5., s)
+-- what `crossfade(duration=5., s)` makes: a node that mixes each track of the source into the one before
 unfoldable pub crossfade : ℕ → List Kind → List Argument → Machine → Outcome
 crossfade at kinds given m = do
   duration ← decimal_or (codes "duration") (some_millionths 5000000 tt) given
@@ -198,14 +199,14 @@ safe k s m = do
   silence ← push (node (op.Blank 0) k []) m
   add (node (op.Fallback false) k (s ∷ silence.0 ∷ [])) silence.1
 
--- mksafe(s)
+-- what `mksafe(s)` makes: an endless blank, and a fallback from the source to it
 unfoldable pub mksafe : List Kind → List Argument → Machine → Outcome
 mksafe kinds given m = do
   k ← one_kind kinds
   s ← plain_source m.plan.nodes k given
   safe k s.0 m
 
--- a buffer whose reader holds the one time before it plays, and that holds at most the other
+-- a buffer whose reader collects the time `held` before it plays, and that holds at most the time `most`
 unfoldable pub buffer_plan : ℕ → Decimal → Decimal → Plan → Result BufferPlan Stop
 buffer_plan at held most plan = do
   pre ← samples_of at plan.rate held
@@ -214,7 +215,7 @@ buffer_plan at held most plan = do
   capacity ← at_most MAX_CAPACITY Capacity (chunks room plan.frame)
   Ok (record { pre = prefill; capacity = capacity })
 
--- buffer(buffer=1., max=10., s)
+-- what `buffer(buffer=1., max=10., s)` makes: a buffer with its feed from the source, and its reader
 unfoldable pub buffer : ℕ → List Kind → List Argument → Machine → Outcome
 buffer at kinds given m = do
   held ← decimal_or (codes "buffer") (some_millionths 1000000 tt) given
@@ -224,7 +225,7 @@ buffer at kinds given m = do
   made ← buffer_plan at held.0 most.0 m.plan
   add_buffer s.0 k made m
 
--- clock(id="", s)
+-- what `clock(id="", s)` makes: a node that has the source in the clock of this id
 unfoldable pub clock : List Kind → List Argument → Machine → Outcome
 clock kinds given m = do
   id ← text_or (codes "id") [] given
@@ -232,7 +233,7 @@ clock kinds given m = do
   s ← plain_source m.plan.nodes k id.1
   add (node (op.Clock id.0) k (s.0 ∷ [])) m
 
--- what a call of each builtin makes, of its kinds and its arguments
+-- what a call of a builtin makes, by its open kinds and its arguments; its name stands at token `at`
 unfoldable pub builtin : Builtin → ℕ → List Kind → List Argument → Machine → Outcome
 builtin builtins.OutputFile at kinds given m = output_file kinds given m
 builtin builtins.Set at kinds given m = set given m

@@ -14,7 +14,7 @@ use Rattle.script_values.specs.declared.machine.Machine.{Machine}
 use Rattle.script_values.specs.Outcomes.{◌>>=◌, Outcome}
 use Rattle.script_values.specs.Values.{Source}
 
--- a number within a limit
+-- the number n, or that a limit is passed where it is above `most`
 abbrev pub at_most : ℕ → Limit → ℕ → Result ℕ Stop
 at_most most limit n =
     elim (nat_le n most) [
@@ -22,7 +22,7 @@ at_most most limit n =
       | false ↦ Err (TooLarge limit)
     ]
 
--- a list gives a node at most 65535 children
+-- these children; more than 65535 are too many
 abbrev pub few : List ℕ → Result (List ℕ) Stop
 few children =
     elim (nat_le (length children) MAX_CHILDREN) [
@@ -30,12 +30,12 @@ few children =
       | false ↦ Err (TooLarge Children)
     ]
 
--- the crossfades on the paths down from a crossfade of this node
+-- how many crossfades a path down from a crossfade of this node has at most, with that crossfade
 abbrev pub crossfades_with : ℕ → Plan → ℕ
 crossfades_with child plan = 1 + slice_index (crossfade_counts plan.nodes) child
 
--- A node behind the others, and its number. No path down from it may have more than 4 crossfades: only a crossfade can
--- come to that.
+-- Adds a node and gives its number. No path down from it may have more than 4 crossfades: only a crossfade can come to
+-- that.
 unfoldable pub push : Node → Machine → Result (ℕ × Machine) Stop
 push node m = do
   crossfades ← at_most MAX_CROSSFADES Crossfades (crossfades_from m.plan.nodes node)
@@ -44,11 +44,11 @@ push node m = do
     | false ↦ Ok (length m.plan.nodes, record m { plan = with_node m.plan node })
   ]
 
--- the source of a node that is added
+-- adds a node and gives its source
 unfoldable pub add : Node → Machine → Outcome
 add node m = push node m >>= λ x. Ok (Source x.0, x.1)
 
--- the reader of a buffer that is added with its feed
+-- adds a buffer with its feed and its reader, and gives the reader's source
 unfoldable pub add_buffer : ℕ → Kind → BufferPlan → Machine → Outcome
 add_buffer source k buffer m =
     elim (nat_le MAX_NODES (length m.plan.nodes)) [

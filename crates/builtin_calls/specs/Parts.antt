@@ -12,12 +12,12 @@ use Rattle.script_values.specs.Outcomes.{◌>>=◌}
 use Rattle.script_values.specs.Slots.{Argument}
 use Rattle.script_values.specs.Values.{ValueTree, ManyValues, no_values, more_values, Value, Int, Number, TextValue, TruthValue, FormatValue, PredValue, Source, ListValue, TupleValue}
 
--- the kind of a call with one open kind
+-- the open kind of a call that has one
 abbrev pub one_kind : List Kind → Result Kind Stop
 one_kind [] = Err Stuck
 one_kind (k ∷ ks) = Ok k
 
--- values of one type
+-- a text, as the typing says
 unfoldable pub as_text : Value → Result (List ℕ) Stop
 as_text (TextValue t) = Ok t
 as_text v = Err Stuck
@@ -42,14 +42,14 @@ unfoldable pub as_format : Value → Result Bool Stop
 as_format (FormatValue wide) = Ok wide
 as_format v = Err Stuck
 
--- the kinds are the same
+-- whether two kinds are the same
 abbrev pub is_kind : Kind → Kind → Bool
 is_kind Mono Mono = true
 is_kind Mono Stereo = false
 is_kind Stereo Mono = false
 is_kind Stereo Stereo = true
 
--- the number of a node that is there and of this kind
+-- the number n of a node, if the node is there and of this kind
 abbrev pub of_kind : Kind → ℕ → Option Node → Result ℕ Stop
 of_kind k n None = Err Stuck
 of_kind k n (Some node) =
@@ -63,12 +63,12 @@ unfoldable pub source_of : List Node → Kind → Value → Result ℕ Stop
 source_of nodes k (Source n) = of_kind k n (slice_get nodes n)
 source_of nodes k v = Err Stuck
 
--- the sources of a list, behind these
+-- the nodes ns and behind them those of further sources
 unfoldable pub nodes_from : List Node → Kind → ValueTree ManyValues → List ℕ → Result (List ℕ) Stop
 nodes_from nodes k no_values ns = Ok ns
 nodes_from nodes k (more_values v vs) ns = source_of nodes k v >>= λ n. nodes_from nodes k vs (ns ++ n ∷ [])
 
--- the nodes of a list of sources
+-- the nodes of a list of sources of this kind
 unfoldable pub sources_of : List Node → Kind → Value → Result (List ℕ) Stop
 sources_of nodes k (ListValue vs) = nodes_from nodes k vs []
 sources_of nodes k v = Err Stuck
@@ -78,7 +78,7 @@ unfoldable pub pred_of : Value → Result Predicate Stop
 pred_of (PredValue p) = Ok p
 pred_of v = Err Stuck
 
--- a tuple of a predicate and the source that it stands for
+-- the parts of a case of a switch: a predicate, and a source of this kind by its node
 unfoldable pub pair_in : List Node → Kind → ValueTree ManyValues → Result (Predicate × ℕ) Stop
 pair_in nodes k no_values = Err Stuck
 pair_in nodes k (more_values v no_values) = Err Stuck
@@ -90,7 +90,7 @@ unfoldable pub case_of : List Node → Kind → Value → Result (Predicate × �
 case_of nodes k (TupleValue vs) = pair_in nodes k vs
 case_of nodes k v = Err Stuck
 
--- the predicates and the sources of a list, behind these
+-- the predicates ps and the sources ns, and behind them those of further cases
 unfoldable pub pairs_from : List Node → Kind → ValueTree ManyValues → List Predicate → List ℕ
     → Result (List Predicate × List ℕ) Stop
 pairs_from nodes k no_values ps ns = Ok (ps, ns)
@@ -102,7 +102,7 @@ unfoldable pub pairs_of : List Node → Kind → Value → Result (List Predicat
 pairs_of nodes k (ListValue vs) = pairs_from nodes k vs [] []
 pairs_of nodes k v = Err Stuck
 
--- the value of a plain parameter, and the other arguments
+-- an argument that has to be there, and the other arguments
 abbrev pub needed : Option (Value × List Argument) → Result (Value × List Argument) Stop
 needed None = Err Stuck
 needed (Some x) = Ok x

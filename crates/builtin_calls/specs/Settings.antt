@@ -8,7 +8,8 @@ use Rattle.script_values.specs.declared.machine.Machine.{Machine}
 use Rattle.script_values.specs.Outcomes.{◌>>=◌, Outcome}
 use Rattle.script_values.specs.Values.{Value, Int, Number, UnitValue}
 
--- only a call of `set` at top level that holds no other call, with no other statement before it, may set the two keys
+-- notes that this statement makes a setting; only a call of `set` at top level that holds no other call, with no other
+-- statement before it, may do so
 abbrev pub settings_opened : Machine → Result Machine Stop
 settings_opened m =
     elim m.settings.allowed [
@@ -16,7 +17,7 @@ settings_opened m =
       | false ↦ Err BadSetting
     ]
 
--- a rate in samples a second
+-- a rate in samples a second, within its bounds
 abbrev pub rate_within : ℤ → Result ℕ Stop
 rate_within n =
     elim (int_le (pos MIN_RATE) n && int_le n (pos MAX_RATE)) [
@@ -29,7 +30,7 @@ unfoldable pub rate_of : Value → Result ℕ Stop
 rate_of (Int n) = rate_within n
 rate_of v = Err BadSetting
 
--- a tick in seconds; whether it is a good one is asked when the settings end
+-- a tick in seconds; its range is checked where the settings end
 unfoldable pub duration_of : Value → Result Decimal Stop
 duration_of (Number d) = Ok d
 duration_of v = Err BadSetting
@@ -48,7 +49,7 @@ set_duration v m = do
   d ← duration_of v
   Ok (UnitValue, record c { settings = record c.settings { duration = d } })
 
--- a setting by its key; one of another key changes nothing
+-- makes the setting of this key; any other key changes nothing
 unfoldable pub setting : List ℕ → Value → Machine → Outcome
 setting key v m =
     elim (bytes_eq key (codes "frame.audio.samplerate")) [

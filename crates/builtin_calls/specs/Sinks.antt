@@ -11,12 +11,12 @@ use Rattle.script_values.specs.declared.machine.Machine.{Machine}
 use Rattle.script_values.specs.Outcomes.{Outcome}
 use Rattle.script_values.specs.Values.{UnitValue}
 
--- the sink is an output of this name
+-- whether a sink is an output to the file of this name
 abbrev pub is_named : List ℕ → SinkPlan → Bool
 is_named name (Output other node fallible wide) = bytes_eq name other
 is_named name (Feed buffer node) = false
 
--- an output of a name that no earlier one has, at most 64 of them
+-- adds an output of a node to a file; its name is of no earlier output, and outputs are at most 64
 unfoldable pub add_output : List ℕ → ℕ → (fallible wide : Bool) → Machine → Outcome
 add_output name node fallible wide m =
     elim (list_any (is_named name) m.plan.sinks) [

@@ -11,7 +11,7 @@ pub record IsSound (m : Machine) : Type 0 where
   pub outputs : count_by is_output m.plan.sinks ≤ MAX_OUTPUTS
   pub feeds : length m.plan.sinks ≤ count_by is_output m.plan.sinks + length m.plan.nodes
 
--- the nodes that are there stay, and what is sound stays so
+-- nodes of m are in n with their numbers, and if m is sound then n is
 pub record Keeps (m n : Machine) : Type 0 where
   pub sound : IsSound m → IsSound n
   pub nodes : (i : ℕ) (node : Node) → slice_get m.plan.nodes i ≡ Some node → slice_get n.plan.nodes i ≡ Some node

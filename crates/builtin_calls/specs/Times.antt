@@ -5,7 +5,7 @@ use Rattle.fixed_text.specs.Texts.{samples_in}
 use Rattle.script_values.specs.declared.fault.Stop.{Stop}
 use Rattle.script_values.specs.declared.fault.Stop.TheVariants.{BadValue}
 
--- at least one sample
+-- a number of samples; none is a bad value at token `at`
 abbrev pub some_samples : ℕ → ℕ → Result ℕ Stop
 some_samples at n =
     elim (nat_eq n 0) [
@@ -13,7 +13,7 @@ some_samples at n =
       | false ↦ Ok n
     ]
 
--- the samples of a time above zero, of which there must be one
+-- the samples of an overlap, which lasts one at least
 unfoldable pub overlap_samples : ℕ → ℕ → Decimal → Result ℕ Stop
 overlap_samples at rate d =
     elim (int_le d.millionths (pos 0)) [
@@ -21,7 +21,7 @@ overlap_samples at rate d =
       | false ↦ some_samples at (samples_in d.millionths rate)
     ]
 
--- the same of a track, where a time that is not above zero makes one endless track
+-- the samples of a track; a time that is not above zero makes one endless track, told by 0
 unfoldable pub track_of : ℕ → ℕ → Decimal → Result ℕ Stop
 track_of at rate d =
     elim (int_le d.millionths (pos 0)) [
@@ -29,7 +29,7 @@ track_of at rate d =
       | false ↦ some_samples at (samples_in d.millionths rate)
     ]
 
--- the samples of a time that is not below zero
+-- the samples of a time; one below zero is a bad value at token `at`
 unfoldable pub samples_of : ℕ → ℕ → Decimal → Result ℕ Stop
 samples_of at rate d =
     elim (int_lt d.millionths (pos 0)) [
@@ -37,7 +37,7 @@ samples_of at rate d =
       | false ↦ Ok (samples_in d.millionths rate)
     ]
 
--- a pitch above zero
+-- a pitch; one that is not above zero is a bad value at token `at`
 unfoldable pub pitch_of : ℕ → Decimal → Result Decimal Stop
 pitch_of at d =
     elim (int_le d.millionths (pos 0)) [
@@ -45,6 +45,6 @@ pitch_of at d =
       | false ↦ Ok d
     ]
 
--- the whole chunks of so many samples, and at least one
+-- how many whole chunks of `frame` samples these samples make, and at least one
 abbrev pub chunks : ℕ → ℕ → ℕ
 chunks samples frame = max 1 (samples / frame)

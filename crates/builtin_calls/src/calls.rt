@@ -33,7 +33,7 @@ pub fn builtin(
     call(alloc, name, at, kinds, &mut rest, machine)
 }
 
-// The call, over the arguments that are left.
+// Calls the builtin of this name at token `at`; its arguments are taken out of `given`.
 #[tactic(auto, unfolding(crate::specs::Builtins::builtin))]
 fn call(
     alloc: Global,

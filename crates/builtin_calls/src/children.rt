@@ -16,7 +16,7 @@ use plan_core::{Draft, Items, Op, Preds};
 use script_values::{Given, Machine, Stop, Value};
 use std::alloc::Global;
 
-/// `fallback(track_sensitive=true, sources)`.
+/// `fallback(track_sensitive=true, sources)`: adds a node that plays the first source that is ready.
 #[tactic(auto, unfolding(crate::specs::Builtins::fallback))]
 pub(crate) fn fallback(
     alloc: Global,
@@ -31,7 +31,8 @@ pub(crate) fn fallback(
     over_sources(alloc, Op::Fallback { sensitive }, kinds, given, machine)
 }
 
-/// `switch(track_sensitive=true, pairs)`.
+/// `switch(track_sensitive=true, pairs)`: adds a node that plays the first source that is ready and whose predicate
+/// holds.
 #[tactic(auto, unfolding(crate::specs::Builtins::switch))]
 pub(crate) fn switch(
     alloc: Global,
@@ -54,7 +55,8 @@ pub(crate) fn switch(
     )
 }
 
-/// `random(seed=0, sources)`.
+/// `random(seed=0, sources)`, whose name stands at token `at`: adds a node that chooses a source by chance for each
+/// track.
 #[tactic(auto, unfolding(crate::specs::Builtins::random))]
 pub(crate) fn random(
     alloc: Global,
@@ -74,7 +76,7 @@ pub(crate) fn random(
     add(machine, Op::Random { seed }, kind, Items::from_vec(sources))
 }
 
-/// `add(normalize=true, sources)`.
+/// `add(normalize=true, sources)`: adds a node that mixes these sources.
 #[tactic(auto, unfolding(crate::specs::Builtins::add_sources))]
 pub(crate) fn sum(
     alloc: Global,
@@ -89,7 +91,7 @@ pub(crate) fn sum(
     over_sources(alloc, Op::Add { normalize }, kinds, given, machine)
 }
 
-/// A node of this operator over a list of sources, as `sequence(sources)` and `rotate(sources)` add it.
+/// A node of this operator over a list of sources, as `sequence(sources)` and `rotate(sources)` make it.
 #[tactic(auto, unfolding(crate::specs::Builtins::over_sources))]
 pub(crate) fn over_sources(
     alloc: Global,
@@ -106,7 +108,7 @@ pub(crate) fn over_sources(
     add(machine, op, kind, Items::from_vec(children))
 }
 
-// A seed, which is not below zero.
+// A seed, or a bad value at token `at` where the number is below zero.
 fn seed_of(at: u32, number: i64) -> Result<u64, Stop>
     ensures { Gives (λ n. n) result (seed_of at number) }
 {
@@ -116,7 +118,7 @@ fn seed_of(at: u32, number: i64) -> Result<u64, Stop>
     Ok(number as u64)
 }
 
-// The next plain parameter, a list of sources, not too many of them.
+// The next argument without a label, a list of sources of this kind, at most 65535.
 #[tactic(auto, unfolding(crate::specs::Builtins::few_sources))]
 fn few_sources(
     alloc: Global,
@@ -133,7 +135,7 @@ fn few_sources(
     Ok(sources)
 }
 
-// The next plain parameter, a list of predicates and sources, not too many of them.
+// The next argument without a label, a list of predicates with sources of this kind, at most 65535.
 #[tactic(auto, unfolding(crate::specs::Builtins::few_pairs))]
 fn few_pairs(alloc: Global, plan: &Draft, kind: Kind, given: &mut Vec<Given>) -> Result<Pairs, Stop>
     ensures given { Gives (λ ps. (map view_shared ps.preds.items, ps.sources.items)) result
@@ -146,7 +148,7 @@ fn few_pairs(alloc: Global, plan: &Draft, kind: Kind, given: &mut Vec<Given>) ->
     Ok(pairs)
 }
 
-// Whether a child plays on to the end of its track.
+// The argument `track_sensitive`, or true: whether a selection changes its child only where a track ends.
 #[tactic(auto, unfolding(crate::specs::Builtins::sensitive_or))]
 fn sensitive_or(given: &mut Vec<Given>) -> Result<bool, Stop>
     ensures { Gives (λ b. (b, map view_given given.new.items)) result (sensitive_or (map view_given given.old.items)) }

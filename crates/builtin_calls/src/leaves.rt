@@ -13,7 +13,7 @@ use plan_core::{Items, Op};
 use script_values::{Given, Machine, Stop, Value};
 use std::alloc::Global;
 
-/// `single(file)`.
+/// `single(file)`: adds a node that repeats an audio file.
 #[tactic(auto, unfolding(crate::specs::Builtins::single))]
 pub(crate) fn single(
     alloc: Global,
@@ -29,7 +29,8 @@ pub(crate) fn single(
     add(machine, Op::Single(file), kind, Items::new(alloc))
 }
 
-/// `playlist(loop=true, mode="normal", file)`.
+/// `playlist(loop=true, mode="normal", file)`, whose name stands at token `at`: adds a node that plays the files of a
+/// list.
 #[tactic(auto, unfolding(crate::specs::Builtins::playlist))]
 pub(crate) fn playlist(
     alloc: Global,
@@ -55,7 +56,7 @@ pub(crate) fn playlist(
     )
 }
 
-/// `blank(duration=0.)`.
+/// `blank(duration=0.)`, whose name stands at token `at`: adds a node of zeros, in tracks of this duration.
 #[tactic(auto, unfolding(crate::specs::Builtins::blank))]
 pub(crate) fn blank(
     alloc: Global,
@@ -73,7 +74,7 @@ pub(crate) fn blank(
     add(machine, Op::Blank { track }, kind, Items::new(alloc))
 }
 
-/// `square(f)`.
+/// `square(f)`, whose name stands at token `at`: adds a node that plays a square wave of this pitch in hertz.
 #[tactic(auto, unfolding(crate::specs::Builtins::square))]
 pub(crate) fn square(
     alloc: Global,
@@ -91,7 +92,7 @@ pub(crate) fn square(
     add(machine, Op::Square { pitch }, kind, Items::new(alloc))
 }
 
-/// `fail()`.
+/// `fail()`: adds a node that has nothing to play.
 #[tactic(auto, unfolding(crate::specs::Builtins::fail))]
 pub(crate) fn fail(alloc: Global, kinds: &[Kind], machine: &mut Machine) -> Result<Value, Stop>
     ensures { Gives (λ v. (view_value v, machine.new)) result (fail kinds.now machine.old) }
@@ -100,7 +101,7 @@ pub(crate) fn fail(alloc: Global, kinds: &[Kind], machine: &mut Machine) -> Resu
     add(machine, Op::Fail, kind, Items::new(alloc))
 }
 
-// The one mode of a playlist.
+// The one mode of a playlist, "normal"; any other is a bad value at token `at`.
 fn is_normal(at: u32, mode: &str) -> Result<(), Stop>
     ensures { Gives (λ _. tt) result (is_normal at mode.now) }
 {

@@ -12,7 +12,7 @@ use plan_core::{BufferPlan, Draft, Items, Node, Op, PlanFault};
 use script_values::{Limit, Machine, Stop, Value};
 use std::alloc::Global;
 
-/// A number within a limit.
+/// The number, or that this limit is passed where it is above `most`.
 pub(crate) fn at_most(most: u32, limit: Limit, number: u64) -> Result<u32, Stop>
     ensures { Gives (λ n. n) result (at_most most limit number) }
 {
@@ -22,7 +22,7 @@ pub(crate) fn at_most(most: u32, limit: Limit, number: u64) -> Result<u32, Stop>
     Ok(number as u32)
 }
 
-/// A list gives a node at most 65535 children.
+/// Refuses more than 65535 children.
 pub(crate) fn few(children: &[u32]) -> Result<(), Stop>
     ensures given { Gives (λ _. children.now) result (few children.now) }
     ensures short { OnOk result (length children.now ≤ MAX_CHILDREN) }
@@ -33,7 +33,7 @@ pub(crate) fn few(children: &[u32]) -> Result<(), Stop>
     Ok(())
 }
 
-/// One crossfade more may stand over this node.
+/// Refuses a crossfade of this node if a path down from it would have more than 4 crossfades.
 pub(crate) fn room_over(plan: &Draft, child: u32) -> Result<(), Stop>
     ensures { Gives (λ _. crossfades_with child plan.now) result
         (at_most MAX_CROSSFADES Limit.Crossfades (crossfades_with child plan.now)) }
@@ -44,7 +44,7 @@ pub(crate) fn room_over(plan: &Draft, child: u32) -> Result<(), Stop>
     Ok(())
 }
 
-/// Adds a node behind the others, and answers its number.
+/// Adds a node to the plan, and returns its number.
 #[tactic(auto, unfolding(crate::specs::Nodes::push))]
 pub(crate) fn push(machine: &mut Machine, node: Node) -> Result<u32, Stop>
     requires children { All (λ child. child < length machine.old.plan.nodes) node.children }
@@ -63,7 +63,7 @@ pub(crate) fn push(machine: &mut Machine, node: Node) -> Result<u32, Stop>
     }
 }
 
-/// Adds a node behind the others; the value is its source.
+/// Adds a node to the plan; the value is its source.
 #[tactic(auto, unfolding(crate::specs::Nodes::add))]
 pub(crate) fn add(
     machine: &mut Machine,
@@ -83,7 +83,7 @@ pub(crate) fn add(
     Ok(Value::Source(number))
 }
 
-/// Adds a buffer with its feed and its reader; the value is the reader's source.
+/// Adds a buffer with its feed from node `source` and its reader; the value is the reader's source.
 #[tactic(auto, unfolding(crate::specs::Nodes::add_buffer))]
 pub(crate) fn add_buffer(
     alloc: Global,
@@ -101,14 +101,14 @@ pub(crate) fn add_buffer(
     }
 }
 
-/// One child.
+/// A list of one child, by its number.
 pub(crate) fn one_child(alloc: Global, child: u32) -> Result<Items<u32>, Memory>
     ensures { IfOk result (λ children. children ≡ child ∷ []) }
 {
     Ok(Items::from_vec(vec![in alloc; child]?))
 }
 
-/// Two children.
+/// A list of two children, by their numbers.
 pub(crate) fn two_children(alloc: Global, first: u32, second: u32) -> Result<Items<u32>, Memory>
     ensures { IfOk result (λ children. children ≡ first ∷ second ∷ []) }
 {

@@ -16,7 +16,7 @@ use plan_core::SinkPlan;
 use script_values::{Given, Limit, Machine, Stop, Value};
 use std::alloc::Global;
 
-/// `output.file(fallible=false, format, name, s)`.
+/// `output.file(fallible=false, format, name, s)`: adds an output of the source to the file of this name.
 #[tactic(auto, unfolding(crate::specs::Builtins::output_file))]
 pub(crate) fn output_file(
     alloc: Global,
@@ -35,6 +35,7 @@ pub(crate) fn output_file(
     add_output(machine, name, source, fallible, wide)
 }
 
+/// Whether a sink is an output to the file of this name.
 fn is_named(name: &str, sink: &SinkPlan) -> bool
     ensures { result ≡ is_named name.now sink.now }
 {
@@ -44,7 +45,7 @@ fn is_named(name: &str, sink: &SinkPlan) -> bool
     }
 }
 
-// Whether an output has this name.
+// Whether one of these sinks is an output to the file of this name.
 fn has_name(name: &str, sinks: &[SinkPlan]) -> bool
     ensures { result ≡ list_any (is_named name.now) sinks.now }
 {
@@ -56,7 +57,7 @@ fn has_name(name: &str, sinks: &[SinkPlan]) -> bool
     false
 }
 
-// How many outputs there are.
+// How many of these sinks are outputs.
 fn outputs(sinks: &[SinkPlan]) -> usize
     ensures { result ≡ count_by is_output sinks.now }
 {
@@ -69,7 +70,8 @@ fn outputs(sinks: &[SinkPlan]) -> usize
     count
 }
 
-// Adds an output of a name that no earlier one has, at most 64 of them.
+// Adds an output of a node to the file `name`, which no earlier output has; at most 64. It is `wide` with 24 bits a
+// sample.
 #[tactic(auto, unfolding(crate::specs::Sinks::add_output))]
 fn add_output(
     machine: &mut Machine,

@@ -12,7 +12,7 @@ use liq_base::{Kind, Text};
 use script_values::{Given, Stop, Value, argument};
 use std::alloc::Global;
 
-/// The kind of a call with one open kind.
+/// The open kind of a call that has one.
 pub(crate) fn one_kind(kinds: &[Kind]) -> Result<Kind, Stop>
     ensures { Gives (λ k. k) result (one_kind kinds.now) }
 {
@@ -22,7 +22,7 @@ pub(crate) fn one_kind(kinds: &[Kind]) -> Result<Kind, Stop>
     }
 }
 
-/// The value of the next plain parameter.
+/// Takes the next argument without a label.
 #[tactic(auto, unfolding(crate::specs::Parts::plain_argument))]
 pub(crate) fn plain(given: &mut Vec<Given>) -> Result<Value, Stop>
     ensures { Gives (λ v. (view_value v, map view_given given.new.items)) result
@@ -34,7 +34,7 @@ pub(crate) fn plain(given: &mut Vec<Given>) -> Result<Value, Stop>
     }
 }
 
-/// The next plain parameter, a text.
+/// The next argument without a label, a text.
 #[tactic(auto, unfolding(crate::specs::Parts::plain_text))]
 pub(crate) fn plain_text(alloc: Global, given: &mut Vec<Given>) -> Result<Text, Stop>
     ensures { Gives (λ t. (t, map view_given given.new.items)) result (plain_text (map view_given given.old.items)) }
@@ -44,7 +44,7 @@ pub(crate) fn plain_text(alloc: Global, given: &mut Vec<Given>) -> Result<Text, 
     Ok(text)
 }
 
-/// The next plain parameter, a decimal.
+/// The next argument without a label, a decimal.
 #[tactic(auto, unfolding(crate::specs::Parts::plain_decimal))]
 pub(crate) fn plain_decimal(given: &mut Vec<Given>) -> Result<Decimal, Stop>
     ensures { Gives (λ d. (d, map view_given given.new.items)) result (plain_decimal (map view_given given.old.items)) }
@@ -54,7 +54,7 @@ pub(crate) fn plain_decimal(given: &mut Vec<Given>) -> Result<Decimal, Stop>
     Ok(number)
 }
 
-/// The next plain parameter, a format: whether its samples are wide.
+/// The next argument without a label, a format: true for samples of 24 bits.
 #[tactic(auto, unfolding(crate::specs::Parts::plain_format))]
 pub(crate) fn plain_format(given: &mut Vec<Given>) -> Result<bool, Stop>
     ensures { Gives (λ w. (w, map view_given given.new.items)) result (plain_format (map view_given given.old.items)) }
@@ -64,7 +64,7 @@ pub(crate) fn plain_format(given: &mut Vec<Given>) -> Result<bool, Stop>
     Ok(wide)
 }
 
-/// A labelled bool, or its default.
+/// The bool with this label, or its default.
 #[tactic(auto, unfolding(crate::specs::Parts::bool_or))]
 pub(crate) fn bool_or(given: &mut Vec<Given>, label: &str, default: bool) -> Result<bool, Stop>
     ensures { Gives (λ b. (b, map view_given given.new.items)) result
@@ -79,7 +79,7 @@ pub(crate) fn bool_or(given: &mut Vec<Given>, label: &str, default: bool) -> Res
     }
 }
 
-/// A labelled decimal, or its default.
+/// The decimal with this label, or its default.
 #[tactic(auto, unfolding(crate::specs::Parts::decimal_or))]
 pub(crate) fn decimal_or(
     given: &mut Vec<Given>,
@@ -98,7 +98,7 @@ pub(crate) fn decimal_or(
     }
 }
 
-/// A labelled int, or its default.
+/// The int with this label, or its default.
 #[tactic(auto, unfolding(crate::specs::Parts::int_or))]
 pub(crate) fn int_or(given: &mut Vec<Given>, label: &str, default: i64) -> Result<i64, Stop>
     ensures { Gives (λ n. (n, map view_given given.new.items)) result
@@ -113,7 +113,7 @@ pub(crate) fn int_or(given: &mut Vec<Given>, label: &str, default: i64) -> Resul
     }
 }
 
-/// A labelled text, or its default.
+/// The text with this label, or its default.
 #[tactic(auto, unfolding(crate::specs::Parts::text_or))]
 pub(crate) fn text_or(
     alloc: Global,
@@ -133,6 +133,7 @@ pub(crate) fn text_or(
     }
 }
 
+/// The text that a value is. A value of another type is stuck, which typing excludes.
 #[tactic(auto, unfolding(crate::specs::Parts::as_text))]
 fn as_text(alloc: Global, value: Value) -> Result<Text, Stop>
     ensures { Gives (λ t. t) result (as_text (view_value value)) }
@@ -143,6 +144,7 @@ fn as_text(alloc: Global, value: Value) -> Result<Text, Stop>
     }
 }
 
+/// The decimal that a value is, as the typing says.
 #[tactic(auto, unfolding(crate::specs::Parts::as_decimal))]
 fn as_decimal(value: Value) -> Result<Decimal, Stop>
     ensures { Gives (λ d. d) result (as_decimal (view_value value)) }
@@ -153,6 +155,7 @@ fn as_decimal(value: Value) -> Result<Decimal, Stop>
     }
 }
 
+/// The int that a value is, as the typing says.
 #[tactic(auto, unfolding(crate::specs::Parts::as_int))]
 fn as_int(value: Value) -> Result<i64, Stop>
     ensures { Gives (λ n. n) result (as_int (view_value value)) }
@@ -163,6 +166,7 @@ fn as_int(value: Value) -> Result<i64, Stop>
     }
 }
 
+/// The bool that a value is, as the typing says.
 #[tactic(auto, unfolding(crate::specs::Parts::as_bool))]
 fn as_bool(value: Value) -> Result<bool, Stop>
     ensures { Gives (λ b. b) result (as_bool (view_value value)) }
@@ -173,6 +177,7 @@ fn as_bool(value: Value) -> Result<bool, Stop>
     }
 }
 
+/// Whether the format that a value is has samples of 24 bits.
 #[tactic(auto, unfolding(crate::specs::Parts::as_format))]
 fn as_format(value: Value) -> Result<bool, Stop>
     ensures { Gives (λ w. w) result (as_format (view_value value)) }

@@ -13,7 +13,7 @@ use liq_base::limits::{MAX_RATE, MIN_RATE};
 use script_values::{Given, Machine, Stop, Value};
 use std::alloc::Global;
 
-/// `set(key, value)`.
+/// `set(key, value)`: makes the setting of this key.
 #[tactic(auto, unfolding(crate::specs::Builtins::set))]
 pub(crate) fn set(
     alloc: Global,
@@ -27,7 +27,7 @@ pub(crate) fn set(
     setting(machine, key.as_str(), &value)
 }
 
-// A setting may stand here; it is the last one so far.
+// Notes that this statement makes a setting, if one may stand here.
 fn opened(machine: &mut Machine) -> Result<(), Stop>
     ensures { Gives (λ _. machine.new) result (settings_opened machine.old) }
 {
@@ -38,7 +38,7 @@ fn opened(machine: &mut Machine) -> Result<(), Stop>
     Ok(())
 }
 
-// A rate, in samples a second.
+// A rate in samples a second, which is an int within its bounds.
 #[tactic(auto, unfolding(crate::specs::Settings::rate_of))]
 fn rate_of(value: &Value) -> Result<u32, Stop>
     ensures { Gives (λ n. n) result (rate_of (view_value value.now)) }
@@ -49,6 +49,7 @@ fn rate_of(value: &Value) -> Result<u32, Stop>
     }
 }
 
+/// A rate in samples a second, from `MIN_RATE` to `MAX_RATE`.
 fn rate_within(number: i64) -> Result<u32, Stop>
     ensures { Gives (λ n. n) result (rate_within number) }
 {
@@ -61,7 +62,7 @@ fn rate_within(number: i64) -> Result<u32, Stop>
     Ok(number as u32)
 }
 
-// A tick, in seconds.
+// A tick in seconds; its range is checked where the settings end.
 #[tactic(auto, unfolding(crate::specs::Settings::duration_of))]
 fn duration_of(value: &Value) -> Result<Decimal, Stop>
     ensures { Gives (λ d. d) result (duration_of (view_value value.now)) }
@@ -72,6 +73,7 @@ fn duration_of(value: &Value) -> Result<Decimal, Stop>
     }
 }
 
+/// Sets the rate of the plan, if a setting may stand here.
 #[tactic(auto, unfolding(crate::specs::Settings::set_rate))]
 fn set_rate(machine: &mut Machine, value: &Value) -> Result<Value, Stop>
     ensures { Gives (λ v. (view_value v, machine.new)) result (set_rate (view_value value.now) machine.old) }
@@ -82,6 +84,7 @@ fn set_rate(machine: &mut Machine, value: &Value) -> Result<Value, Stop>
     Ok(Value::Nothing)
 }
 
+/// Sets how long a tick is, if a setting may stand here.
 #[tactic(auto, unfolding(crate::specs::Settings::set_duration))]
 fn set_duration(machine: &mut Machine, value: &Value) -> Result<Value, Stop>
     ensures { Gives (λ v. (view_value v, machine.new)) result (set_duration (view_value value.now) machine.old) }
@@ -92,6 +95,7 @@ fn set_duration(machine: &mut Machine, value: &Value) -> Result<Value, Stop>
     Ok(Value::Nothing)
 }
 
+/// Makes the setting of this key; any other key changes nothing.
 #[tactic(auto, unfolding(crate::specs::Settings::setting))]
 fn setting(machine: &mut Machine, key: &str, value: &Value) -> Result<Value, Stop>
     ensures { Gives (λ v. (view_value v, machine.new)) result (setting key.now (view_value value.now) machine.old) }

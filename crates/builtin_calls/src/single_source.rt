@@ -17,7 +17,7 @@ use plan_core::{BufferPlan, Draft, Items, Node, Op};
 use script_values::{Given, Limit, Machine, Stop, Value};
 use std::alloc::Global;
 
-/// `amplify(k, s)`.
+/// `amplify(k, s)`: adds a node that multiplies each sample of the source by this factor.
 #[tactic(auto, unfolding(crate::specs::Builtins::amplify))]
 pub(crate) fn amplify(
     alloc: Global,
@@ -35,7 +35,7 @@ pub(crate) fn amplify(
     add(machine, Op::Amplify { factor }, kind, children)
 }
 
-/// `mean(s)`: stereo to mono.
+/// `mean(s)`: adds a node that makes a stereo source mono.
 #[tactic(auto, unfolding(crate::specs::Builtins::mean))]
 pub(crate) fn mean(
     alloc: Global,
@@ -49,7 +49,7 @@ pub(crate) fn mean(
     add(machine, Op::Mean, Kind::Mono, children)
 }
 
-/// `stereo(s)`: mono to stereo.
+/// `stereo(s)`: adds a node that makes a mono source stereo.
 #[tactic(auto, unfolding(crate::specs::Builtins::stereo))]
 pub(crate) fn stereo(
     alloc: Global,
@@ -63,7 +63,7 @@ pub(crate) fn stereo(
     add(machine, Op::Stereo, Kind::Stereo, children)
 }
 
-/// `crossfade(duration=5., s)`.
+/// `crossfade(duration=5., s)`, whose name stands at token `at`: adds a node that mixes each track into the one before.
 #[tactic(auto, unfolding(crate::specs::Builtins::crossfade))]
 pub(crate) fn crossfade(
     alloc: Global,
@@ -83,7 +83,7 @@ pub(crate) fn crossfade(
     add(machine, Op::Crossfade { overlap }, kind, children)
 }
 
-/// `mksafe(s)`: an endless blank, and a fallback to it.
+/// `mksafe(s)`: adds an endless blank, and a fallback from the source to it.
 #[tactic(auto, unfolding(crate::specs::Builtins::mksafe))]
 pub(crate) fn mksafe(
     alloc: Global,
@@ -99,7 +99,7 @@ pub(crate) fn mksafe(
     safe(alloc, machine, kind, source)
 }
 
-/// `buffer(buffer=1., max=10., s)`.
+/// `buffer(buffer=1., max=10., s)`, whose name stands at token `at`: adds a buffer with its feed and its reader.
 #[tactic(auto, unfolding(crate::specs::Builtins::buffer))]
 pub(crate) fn buffer(
     alloc: Global,
@@ -119,7 +119,7 @@ pub(crate) fn buffer(
     add_buffer(alloc, machine, source, kind, plan)
 }
 
-/// `clock(id="", s)`.
+/// `clock(id="", s)`: adds a node that has the source in the clock of this id.
 #[tactic(auto, unfolding(crate::specs::Builtins::clock))]
 pub(crate) fn clock(
     alloc: Global,
@@ -138,7 +138,7 @@ pub(crate) fn clock(
     add(machine, Op::Clock(id), kind, children)
 }
 
-// The overlap of a crossfade of this source, in samples.
+// The overlap of a crossfade of this source in samples, at most `MAX_OVERLAP`.
 #[tactic(auto, unfolding(crate::specs::Builtins::short_overlap))]
 fn short_overlap(at: u32, plan: &Draft, source: u32, duration: Decimal) -> Result<u32, Stop>
     ensures { Gives (λ n. n) result (short_overlap at source duration plan.now) }
@@ -149,6 +149,7 @@ fn short_overlap(at: u32, plan: &Draft, source: u32, duration: Decimal) -> Resul
     Ok(overlap)
 }
 
+/// Adds an endless blank, and a fallback from node `source` to it; the value is the fallback's source.
 #[tactic(auto, unfolding(crate::specs::Builtins::safe))]
 fn safe(alloc: Global, machine: &mut Machine, kind: Kind, source: u32) -> Result<Value, Stop>
     requires { source < length machine.old.plan.nodes }
@@ -164,7 +165,8 @@ fn safe(alloc: Global, machine: &mut Machine, kind: Kind, source: u32) -> Result
     add(machine, Op::Fallback { sensitive: false }, kind, children)
 }
 
-// A buffer whose reader holds this time before it plays, and that holds at most the other time.
+// A buffer whose reader collects the time `held` before it plays, and that holds at most the time `most`, both in
+// seconds.
 #[tactic(auto, unfolding(crate::specs::Builtins::buffer_plan))]
 fn buffer_plan(at: u32, plan: &Draft, held: Decimal, most: Decimal) -> Result<BufferPlan, Stop>
     ensures { Gives (λ b. b) result (buffer_plan at held most plan.now) }

@@ -8,7 +8,7 @@ ghost use Rattle.builtin_calls.specs.Times.{chunks, overlap_samples, pitch_of, s
 use fixed_text::Decimal;
 use script_values::Stop;
 
-/// The samples of a time that is not below zero.
+/// How many samples a time lasts at `rate` samples a second; a time below zero is a bad value at token `at`.
 #[tactic(auto, unfolding(crate::specs::Times::samples_of))]
 pub(crate) fn samples_of(at: u32, rate: u32, time: Decimal) -> Result<u64, Stop>
     ensures { Gives (λ n. n) result (samples_of at rate time) }
@@ -19,7 +19,7 @@ pub(crate) fn samples_of(at: u32, rate: u32, time: Decimal) -> Result<u64, Stop>
     }
 }
 
-/// The samples of an overlap, which is above zero and has at least one.
+/// How many samples an overlap lasts, at least one; a shorter time is a bad value at token `at`.
 #[tactic(auto, unfolding(crate::specs::Times::overlap_samples))]
 pub(crate) fn overlap_of(at: u32, rate: u32, time: Decimal) -> Result<u64, Stop>
     ensures { Gives (λ n. n) result (overlap_samples at rate time) }
@@ -31,7 +31,7 @@ pub(crate) fn overlap_of(at: u32, rate: u32, time: Decimal) -> Result<u64, Stop>
     Ok(samples)
 }
 
-/// The samples of a track, or 0 for a time that is not above zero, which makes one endless track.
+/// How many samples a track lasts, or 0 for a time that is not above zero, which makes one endless track.
 #[tactic(auto, unfolding(crate::specs::Times::track_of))]
 pub(crate) fn track_of(at: u32, rate: u32, time: Decimal) -> Result<u64, Stop>
     ensures { Gives (λ n. n) result (track_of at rate time) }
@@ -43,7 +43,7 @@ pub(crate) fn track_of(at: u32, rate: u32, time: Decimal) -> Result<u64, Stop>
     Ok(samples)
 }
 
-/// A pitch above zero.
+/// A pitch in hertz; one that is not above zero is a bad value at token `at`.
 #[tactic(auto, unfolding(crate::specs::Times::pitch_of))]
 pub(crate) fn pitch_of(at: u32, pitch: Decimal) -> Result<Decimal, Stop>
     ensures { Gives (λ d. d) result (pitch_of at pitch) }
@@ -54,7 +54,7 @@ pub(crate) fn pitch_of(at: u32, pitch: Decimal) -> Result<Decimal, Stop>
     Ok(pitch)
 }
 
-/// The whole chunks of so many samples, and at least one.
+/// How many whole chunks of `frame` samples these samples make, and at least one.
 pub(crate) fn chunks(samples: u64, frame: u32) -> u64
     ensures { result ≡ chunks samples frame }
 {
@@ -71,7 +71,7 @@ pub(crate) fn no_time() -> Decimal
     Decimal { millionths: 0 }
 }
 
-/// What a `buffer` holds before it plays, where nothing is given.
+/// The time that a `buffer` collects before it plays, where none is given.
 pub(crate) fn one_second() -> Decimal
     ensures { result ≡ some_millionths 1000000 tt }
 {
@@ -89,7 +89,7 @@ pub(crate) fn five_seconds() -> Decimal
     }
 }
 
-/// What a `buffer` holds at most, where nothing is given.
+/// The time that a `buffer` holds at most, where none is given.
 pub(crate) fn ten_seconds() -> Decimal
     ensures { result ≡ some_millionths 10000000 tt }
 {
@@ -98,7 +98,7 @@ pub(crate) fn ten_seconds() -> Decimal
     }
 }
 
-// The samples of a time above zero, at least one.
+// How many samples a time above zero lasts; less than one is a bad value at token `at`.
 fn some_samples(at: u32, rate: u32, time: Decimal) -> Result<u64, Stop>
     requires { pos 0 <ℤ time.millionths }
     ensures { Gives (λ n. n) result (some_samples at (samples_in time.millionths rate)) }

@@ -4,19 +4,19 @@ use Rattle.frame_core.specs.declared.cell.CellMark.{CellMark}
 use Rattle.frame_core.specs.Chunks.{cell_with}
 use Rattle.frame_core.specs.Slots.{Slot}
 
--- the cell of samples and a mark, where they are there
+-- the cell of a left sample, a right sample and a mark; nothing where one is missing
 abbrev pub slot_in : Option ℤ → Option ℤ → Option CellMark → Slot
 slot_in (Some left) (Some right) (Some mark) = Some (cell_with left right mark)
 slot_in (Some left) (Some right) None = None
 slot_in (Some left) None mark = None
 slot_in None right mark = None
 
--- a mark with a title that begins no track
+-- whether there is a mark of this title that begins no track
 abbrev pub begins_none : (title : ℕ) → Option CellMark → Bool
 begins_none title None = false
 begins_none title (Some mark) = not mark.first && nat_eq mark.title title
 
--- a mark with a title
+-- whether there is a mark of this title
 abbrev pub has_name : (title : ℕ) → Option CellMark → Bool
 has_name title None = false
 has_name title (Some mark) = nat_eq mark.title title

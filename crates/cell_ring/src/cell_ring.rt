@@ -40,7 +40,7 @@ impl Model for CellRing {
 }
 
 impl CellRing {
-    /// An empty ring, with room for so many cells.
+    /// An empty ring, with room for `room` cells.
     pub fn new(alloc: Global, room: u32) -> Result<CellRing, Memory>
         ensures { IfOk result (λ ring. ring ≡ record { cells = []; room = room }) }
     {
@@ -65,7 +65,7 @@ impl CellRing {
         self.left.capacity() as u32
     }
 
-    /// The first cell.
+    /// The first cell; `None` if there is none.
     pub fn front(&self) -> Option<Cell>
         ensures { result ≡ slice_get self.now.cells 0 }
     {
@@ -76,8 +76,8 @@ impl CellRing {
         )
     }
 
-    /// How many cells, from this one on and at most so many, have this title and begin no track. The front cell is
-    /// number 0.
+    /// How many cells from cell `from` on, at most `most`, have this title and begin no track, up to the first that
+    /// does not. The front cell is number 0.
     pub fn inner(&self, title: u32, from: u32, most: u32) -> u32
         ensures inner { (j : ℕ) → j < result → goes_on title (slice_get self.now.cells (from + j)) ≡ true }
         ensures ends { result < most → goes_on title (slice_get self.now.cells (from + result)) ≡ false }
@@ -86,7 +86,8 @@ impl CellRing {
         self.marks.inner(title, from, most)
     }
 
-    /// How many cells, from this one on and at most so many, have this title. The front cell is number 0.
+    /// How many cells from cell `from` on, at most `most`, have this title, up to the first that has not. The front
+    /// cell is number 0.
     pub fn titled(&self, title: u32, from: u32, most: u32) -> u32
         ensures titled { (j : ℕ) → j < result → has_title title (slice_get self.now.cells (from + j)) ≡ true }
         ensures ends { result < most → has_title title (slice_get self.now.cells (from + result)) ≡ false }
@@ -95,7 +96,7 @@ impl CellRing {
         self.marks.titled(title, from, most)
     }
 
-    /// Appends a cell.
+    /// Appends a cell, for which there has to be room.
     pub fn push(&mut self, cell: Cell)
         requires { length self.old.cells < self.old.room }
         ensures { self.new ≡ record { cells = self.old.cells ++ cell ∷ []; room = self.old.room } }
@@ -105,7 +106,7 @@ impl CellRing {
         self.marks.push(cell.first, cell.title, 1);
     }
 
-    /// Appends the cells of these samples and of the marks of these runs, but for so many of the first.
+    /// Appends the cells of these samples and of the marks of these runs, without the first `skip` marks.
     pub(crate) fn push_cells(&mut self, left: &[i16], right: &[i16], runs: &[MarkRun], skip: u32)
         requires same { (length left.now ≡ length (drop skip (marks_in runs.now)))
             × (length right.now ≡ length (drop skip (marks_in runs.now))) }
@@ -120,7 +121,7 @@ impl CellRing {
         self.marks.push_all(runs, skip);
     }
 
-    /// Appends cells with this title and these samples, none of which begins a track.
+    /// Appends cells of these samples with this title, none of which begins a track.
     pub fn push_inner(&mut self, title: u32, left: &[i16], right: &[i16])
         requires same { length right.now ≡ length left.now }
         requires there { length self.old.cells + length left.now ≤ self.old.room }
@@ -158,7 +159,7 @@ impl CellRing {
     }
 }
 
-// The cell of these samples and this mark, if they are there.
+// The cell of a left sample, a right sample and a mark; `None` where one is missing.
 pub(crate) fn slot_in(left: Option<i16>, right: Option<i16>, mark: Option<CellMark>) -> Option<Cell>
     ensures { result ≡ slot_in left right mark }
 {

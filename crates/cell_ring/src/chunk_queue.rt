@@ -37,7 +37,7 @@ impl Model for ChunkQueue {
 }
 
 impl ChunkQueue {
-    /// An empty queue, whose ring has room for so many cells.
+    /// An empty queue, whose ring has room for `room` cells.
     pub fn new(alloc: Global, room: u32) -> Result<ChunkQueue, Memory>
         ensures { IfOk result (λ queue. queue ≡ record { cells = []; room = room }) }
     {
@@ -57,7 +57,7 @@ impl ChunkQueue {
         u64::from(self.ring.len()) + left.len() as u64
     }
 
-    /// The first cell.
+    /// The first cell; `None` if there is none.
     pub fn front(&self) -> Option<Cell>
         ensures { result ≡ slice_get self.now.cells 0 }
     {
@@ -72,8 +72,8 @@ impl ChunkQueue {
         )
     }
 
-    /// How many cells, from this one on and at most so many, have this title and begin no track. The front cell is
-    /// number 0.
+    /// How many cells from cell `from` on, at most `most`, have this title and begin no track, up to the first that
+    /// does not. The front cell is number 0.
     pub fn inner(&self, title: u32, from: u32, most: u32) -> u32
         ensures inner { (j : ℕ) → j < result → goes_on title (slice_get self.now.cells (from + j)) ≡ true }
         ensures ends { result < most → goes_on title (slice_get self.now.cells (from + result)) ≡ false }
@@ -90,7 +90,7 @@ impl ChunkQueue {
         here + walk_runs(false, title, runs, skip + behind, most - here).count
     }
 
-    /// Appends the cells of a chunk, where those that it holds are no more than its ring has room for.
+    /// Appends the cells of a chunk. Before, the queue may hold no more cells than its ring has room for.
     pub fn push(&mut self, chunk: Chunk)
         requires { length self.old.cells ≤ self.old.room }
         ensures { self.new ≡ record { cells = self.old.cells ++ chunk; room = self.old.room } }
@@ -142,8 +142,8 @@ impl ChunkQueue {
     }
 }
 
-// The samples of what is left of a spare chunk of which so many cells have gone; and its runs, with how many of their
-// marks have gone.
+// What is left of a spare chunk of which `gone` cells have gone: its left and its right samples, its runs of marks, and
+// how many marks of these have gone.
 fn spare_of(spare: &Option<Chunk>, gone: usize) -> (&[i16], &[i16], &[MarkRun], u32)
     ensures cells { cells_in result.0.now result.1.now (drop result.3 (marks_in result.2.now))
         ≡ spare_cells spare.now gone }

@@ -12,7 +12,8 @@ use liq_base::Memory;
 use std::alloc::Global;
 use std::marker::Model;
 
-// How many marks were found, whether another one ends them, and else how many are to be skipped behind the runs.
+// What a walk over marks found: how many pass, whether a mark that does not pass ended the walk, and if not, how many
+// marks behind these runs are still to be skipped.
 #[derive(Clone, Copy, Debug)]
 pub struct Found {
     pub count: u32,
@@ -42,7 +43,7 @@ impl Model for MarkRing {
 }
 
 impl MarkRing {
-    /// An empty ring, with room for so many marks.
+    /// An empty ring, with room for `room` marks.
     pub fn new(alloc: Global, room: u32) -> Result<MarkRing, Memory>
         ensures { IfOk result (λ marks. marks ≡ buffer [] room) }
     {
@@ -50,14 +51,15 @@ impl MarkRing {
         Ok(MarkRing { runs })
     }
 
-    /// The first mark.
+    /// The first mark; `None` if there is none.
     pub fn front(&self) -> Option<CellMark>
         ensures { result ≡ slice_get self.now.items 0 }
     {
         first_mark(self.runs.front().copied())
     }
 
-    /// How many marks, from this one on and at most so many, have this title and begin no track.
+    /// How many marks from mark `from` on, at most `most`, have this title and begin no track, up to the first that
+    /// does not.
     pub fn inner(&self, title: u32, from: u32, most: u32) -> u32
         ensures inner { (j : ℕ) → j < result → begins_none title (slice_get self.now.items (from + j)) ≡ true }
         ensures ends { result < most → begins_none title (slice_get self.now.items (from + result)) ≡ false }
@@ -66,7 +68,7 @@ impl MarkRing {
         walk_both(false, title, &self.runs, from, most)
     }
 
-    /// How many marks, from this one on and at most so many, have this title.
+    /// How many marks from mark `from` on, at most `most`, have this title, up to the first that has not.
     pub fn titled(&self, title: u32, from: u32, most: u32) -> u32
         ensures titled { (j : ℕ) → j < result → has_name title (slice_get self.now.items (from + j)) ≡ true }
         ensures ends { result < most → has_name title (slice_get self.now.items (from + result)) ≡ false }
@@ -75,7 +77,7 @@ impl MarkRing {
         walk_both(true, title, &self.runs, from, most)
     }
 
-    /// Appends marks of this title, the first of which may begin a track.
+    /// Appends `count` marks of this title, the first of which may begin a track.
     pub fn push(&mut self, first: bool, title: u32, count: u32)
         requires { length self.old.items + count ≤ self.old.capacity }
         ensures { self.new ≡ buffer (self.old.items ++ run_marks first title count) self.old.capacity }
@@ -90,7 +92,7 @@ impl MarkRing {
         );
     }
 
-    /// Appends the marks of these runs, but for so many of the first.
+    /// Appends the marks of these runs, without the first `skip` of them.
     pub fn push_all(&mut self, runs: &[MarkRun], skip: u32)
         requires { length self.old.items + length (drop skip (marks_in runs.now)) ≤ self.old.capacity }
         ensures { self.new ≡ buffer (self.old.items ++ drop skip (marks_in runs.now)) self.old.capacity }
@@ -98,7 +100,7 @@ impl MarkRing {
         push_each(&mut self.runs, runs, skip);
     }
 
-    /// Takes the first marks away.
+    /// Takes the first `count` marks away.
     pub fn drop_front(&mut self, count: u32)
         ensures { self.new ≡ buffer (drop count self.old.items) self.old.capacity }
     {
@@ -106,7 +108,7 @@ impl MarkRing {
     }
 }
 
-// The first mark of a run.
+// The first mark of a run; `None` without a run.
 fn first_mark(run: Option<MarkRun>) -> Option<CellMark>
     ensures { result ≡ mark_of run }
 {
@@ -117,14 +119,14 @@ fn first_mark(run: Option<MarkRun>) -> Option<CellMark>
     })
 }
 
-// Whether a run goes on with another one.
+// Whether a run goes on with the one before it: it begins no track and has the same title.
 fn joins(last: MarkRun, run: MarkRun) -> bool
     ensures { result ≡ joins last run }
 {
     !run.first && last.title == run.title
 }
 
-// Appends a run, to the last one where it goes on with it.
+// Appends a run, or lengthens the last one if the run goes on with it. A run without marks is dropped.
 fn push_run(runs: &mut HeapCircularBuffer<MarkRun>, run: MarkRun)
     requires some { AreSome runs.old.items }
     requires there { length (marks_in runs.old.items) + run.count ≤ runs.old.capacity }
@@ -152,7 +154,7 @@ fn push_run(runs: &mut HeapCircularBuffer<MarkRun>, run: MarkRun)
     }
 }
 
-// Appends runs, one after another, but for so many of their first marks.
+// Appends runs, one after another, without their first `skip` marks.
 fn push_each(runs: &mut HeapCircularBuffer<MarkRun>, more: &[MarkRun], skip: u32)
     requires some { AreSome runs.old.items }
     requires there { length (marks_in runs.old.items) + length (drop skip (marks_in more.now)) ≤ runs.old.capacity }
@@ -173,7 +175,7 @@ fn push_each(runs: &mut HeapCircularBuffer<MarkRun>, more: &[MarkRun], skip: u32
     }
 }
 
-// A run without so many of its first marks.
+// A run without its first `skip` marks.
 fn rest_of(run: MarkRun, skip: u32) -> MarkRun
     requires { skip ≤ run.count }
     ensures { result ≡ rest_run run skip }
@@ -185,7 +187,7 @@ fn rest_of(run: MarkRun, skip: u32) -> MarkRun
     }
 }
 
-// Takes so many marks away.
+// Takes the first `count` marks away.
 fn drop_marks(runs: &mut HeapCircularBuffer<MarkRun>, count: u32)
     requires some { AreSome runs.old.items }
     requires there { length (marks_in runs.old.items) ≤ runs.old.capacity }
@@ -210,8 +212,8 @@ fn drop_marks(runs: &mut HeapCircularBuffer<MarkRun>, count: u32)
     }
 }
 
-// How many marks of a ring, from this one on and at most so many, have this title; and begin no track, or may begin
-// one.
+// How many marks of a ring from mark `from` on, at most `most`, have this title and begin no track, or with `begins`
+// may begin one; up to the first that does not pass.
 fn walk_both(
     begins: bool,
     title: u32,
@@ -232,7 +234,8 @@ fn walk_both(
     first.count + next.count
 }
 
-// The same of runs, one after another.
+// How many marks of these runs from mark `from` on, at most `most`, have this title and begin no track, or with
+// `begins` may begin one; and how the walk ended.
 pub(crate) fn walk_runs(begins: bool, title: u32, runs: &[MarkRun], from: u32, most: u32) -> Found
     ensures { Walked begins title (marks_in runs.now) from most result }
 {
@@ -272,7 +275,7 @@ pub(crate) fn walk_runs(begins: bool, title: u32, runs: &[MarkRun], from: u32, m
     }
 }
 
-// The run at a place.
+// Run `at` of these, counted from 0.
 fn run_at(runs: &[MarkRun], at: usize) -> MarkRun
     requires { at < length runs.now }
     ensures { slice_get runs.now at ≡ Some result }
@@ -280,7 +283,7 @@ fn run_at(runs: &[MarkRun], at: usize) -> MarkRun
     runs[at]
 }
 
-// Whether the mark of a run at a place has this title, and begins no track or may begin one.
+// Whether mark `at` of a run has this title, and begins no track or with `begins` may begin one.
 fn passes(begins: bool, title: u32, run: MarkRun, at: u32) -> bool
     ensures { result ≡ passing begins title (Some (mark_at run at)) }
 {

@@ -8,7 +8,7 @@ use sample_kernels::are_silent;
 use std::alloc::Global;
 use std::marker::Model;
 
-/// A queue of samples, which is reserved when it is made. Where all of them are 0 they are only counted, so that the
+/// A queue of samples, which is reserved when it is made. While all of them are 0 they are only counted, so that the
 /// room is not touched.
 #[derive(Drop)]
 pub struct SideRing {
@@ -28,7 +28,7 @@ impl Model for SideRing {
 }
 
 impl SideRing {
-    /// An empty ring, with room for so many samples.
+    /// An empty ring, with room for `room` samples.
     pub fn new(alloc: Global, room: usize) -> Result<SideRing, Memory>
         ensures { IfOk result (λ ring. ring ≡ buffer [] room) }
     {
@@ -36,7 +36,7 @@ impl SideRing {
         Ok(SideRing { zeros: 0, held })
     }
 
-    /// The first sample.
+    /// The first sample; `None` if there is none.
     pub fn front(&self) -> Option<i16>
         ensures { result ≡ slice_get self.now.items 0 }
     {
@@ -46,7 +46,7 @@ impl SideRing {
         self.held.front().copied()
     }
 
-    /// Appends samples.
+    /// Appends samples, for which there has to be room.
     pub fn push_all(&mut self, samples: &[i16])
         requires { length self.old.items + length samples.now ≤ self.old.capacity }
         ensures { self.new ≡ buffer (self.old.items ++ samples.now) self.old.capacity }
@@ -86,7 +86,7 @@ impl SideRing {
     }
 }
 
-// Puts so many zeros into a ring.
+// Appends `zeros` samples of 0 to a ring.
 fn hold(held: &mut HeapCircularBuffer<i16>, zeros: usize)
     requires { length held.old.items + zeros ≤ held.old.capacity }
     ensures { held.new ≡ buffer (held.old.items ++ replicate zeros (pos 0)) held.old.capacity }

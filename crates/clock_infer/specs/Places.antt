@@ -15,6 +15,6 @@ place_of nodes (Some (Id k)) = Main (id_at nodes k)
 place_of nodes (Some (Sub k)) = Under k
 place_of nodes (Some AnyMain) = Main (codes "main")
 
--- the clock of each node
+-- the clock of node i, where `group` has the name of each node's group
 abbrev pub clock_by : Plan → (group : ℕ → ℕ) → ℕ → Place
 clock_by plan group i = place_of plan.nodes (first_of (forced_on group (group i) (forcings plan)))

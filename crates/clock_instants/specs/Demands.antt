@@ -17,6 +17,7 @@ with_plan plan other = record {
   answers = other.answers;
 }
 
+-- the children that a node uses: none, the one at place `pick` if it offers, or all that offer
 abbrev pub uses_in : Demand → List Part → List ℕ → (pick : Option ℕ) → List ℕ
 uses_in Nothing parts children pick = []
 uses_in Picked parts children pick = offering parts (child_at children pick)

@@ -15,8 +15,8 @@ use Rattle.clock_instants.specs.Held.{IsHeld}
 use Rattle.clock_nodes.specs.Scenes.{IsScene, setting_over}
 use Rattle.clock_nodes.specs.States.{AllFit, AreRoots, AreSettled, ClockStands, HasRoomFor}
 
--- an instant can be made behind the latest one: states for the nodes of a plan, room for their children, and for each
--- node what is told of it and what is held
+-- an instant can be made after the latest one, `before`: there are states for the nodes of a plan, room for `most`
+-- children, and for each node whether it is demanded of itself and what it gave
 pub record CanMakeNext (over : Scene) (nodes : ClockNodes) (own : List Bool) (before : Latest) (states : List NodeState)
     (held : List Part) (most : ℕ) : Type 0 where
   pub scene : IsScene over
@@ -27,8 +27,8 @@ pub record CanMakeNext (over : Scene) (nodes : ClockNodes) (own : List Bool) (be
   pub room : HasRoomFor over.plan.now most
   pub in_held : length held ≡ length over.plan.now.nodes
 
--- the instant after these lies in this second, the states stand for these, the items of the clock's crossfades are
--- settled, and `own` tells which of its nodes it demands of themselves
+-- the instant after this past lies in this second, the states stand for the past, the items of the clock's crossfades
+-- are settled, and `own` says which of its nodes are demanded of themselves
 pub record CanFinish (setting : Setting) (sub : ℕ → ℕ → List Slot) (clock : NodeClock) (past : List Moment) (filled : ℕ
     → ℕ)
     (own : List Bool) (second : ℕ) (states : List NodeState) : Type 0 where
@@ -38,7 +38,8 @@ pub record CanFinish (setting : Setting) (sub : ℕ → ℕ → List Slot) (cloc
   pub settled : AreSettled setting sub clock past filled
   pub roots : AreRoots setting clock own
 
--- the instant after these was made: these are its parts, what was given is held, and the states stand for it too
+-- the instant after this past was made: `parts` are its parts, `held` is what was given there, and the states stand for
+-- it too
 pub record HasFinished (setting : Setting) (sub : ℕ → ℕ
     → List Slot) (clock : NodeClock) (past : List Moment) (filled : ℕ → ℕ)
     (states : List NodeState) (parts held : List Part) : Type 0 where

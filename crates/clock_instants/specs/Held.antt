@@ -15,11 +15,11 @@ use Rattle.node_states.specs.Passing.{LaneFills, asked, given_part, passes}
 use Rattle.clock_nodes.specs.declared.scene.Scene.{Scene}
 use Rattle.clock_nodes.specs.Nodes.{lies_at}
 
--- a part that was given: of a node that is demanded and offers a cell
+-- what a node with this part gave: the part if it is demanded and offers a cell, and otherwise silence
 abbrev pub given_by : (demanded : Bool) → Part → Part
 given_by demanded part = if demanded && is_some part.slot then part else silent
 
--- whether node i gave, by what is held
+-- whether node i gave; `held` is what each node gave at the latest instant of its clock
 abbrev pub gave_at : List Part → ℕ → Bool
 gave_at held i = is_some (part_at held i).slot
 
@@ -31,14 +31,14 @@ passes_at states i = option_map_or passes (slice_get states i) false
 abbrev pub goes_through : Moment → List NodeState → ℕ → Bool
 goes_through moment states i = gives moment i && passes_at states i
 
--- what the nodes of a clock gave at the instant after these is held
+-- `held` has what each node of a clock gave at the instant after this past
 pub record IsHeld (setting : Setting) (sub : ℕ → ℕ
     → List Slot) (clock : NodeClock) (past : List Moment) (held : List Part) : Type 0 where
   pub each : (i : ℕ) → i < length setting.plan.nodes → lies_in setting clock i ≡ true
       → part_at held i ≡ given_part (moment_after setting sub clock past) i
 
--- the crossfades of a clock that gave at the instant after these, and through which cells pass, are filled cells of one
--- track for as long as their sub-clocks go on, under the titles that are held of their children
+-- the crossfades of a clock that gave at the instant after this past, and through which cells pass, get cells of one
+-- track for as many instants as `rests` says; `held` has their children's titles
 pub record AreFilledOn (setting : Setting) (sub : ℕ → ℕ
     → List Slot) (clock : NodeClock) (past : List Moment) (filled : ℕ → ℕ) (held : List Part) (states : List NodeState)
     (rests : List ℕ) : Type 0 where
@@ -47,15 +47,16 @@ pub record AreFilledOn (setting : Setting) (sub : ℕ → ℕ
       → AreFilled setting sub k (filled k) (slice_index_or rests k 0)
       (title_of (part_at held (crossfaded setting.plan.nodes k)).slot)
 
--- the crossfades of a clock that gave and through which cells pass go on no longer than their sub-clocks
+-- the sub-clock of each crossfade of a clock that gave, and through which cells pass, goes on for `count` instants at
+-- least, by `rests`
 pub record AllPassOn (scene : Scene) (clock : NodeClock) (held : List Part) (states : List NodeState) (rests : List ℕ)
     (count : ℕ) : Type 0 where
   pub each : (i : ℕ) (state : NodeState) → i < length scene.clocks.now → lies_at scene.clocks.now clock i ≡ true
       → slice_get states i ≡ Some state → gave_at held i ≡ true → passes state ≡ true
       → count ≤ slice_index_or rests i 0
 
--- of the crossfades of a clock below this node, those that gave at the instant after these ask for this in so many
--- instants that go on: where cells pass one slot for each, else none
+-- each crossfade of a clock, numbered below `below`, that gave at the instant after this past asks in each of the
+-- `count` instants after it for one slot where cells pass, and otherwise for none
 pub record AllAsk (setting : Setting) (sub : ℕ → ℕ → List Slot) (clock : NodeClock) (past : List Moment) (filled : ℕ
     → ℕ) (states : List NodeState)
     (below count : ℕ) : Type 0 where
@@ -64,8 +65,8 @@ pub record AllAsk (setting : Setting) (sub : ℕ → ℕ → List Slot) (clock :
       → slice_get states k ≡ Some state → gives (moment_after setting sub clock past) k ≡ true → j < count
       → run_of overlap (sub k) (suc (position past k) + j) ≡ filled k + asked (passes state) j
 
--- the crossfades of a clock that gave at the instant after these, and through which cells pass, have the samples of
--- their children, whose titles are held
+-- the crossfades of a clock that gave at the instant after this past, and through which cells pass, have the samples of
+-- their children for `many` instants; `held` has the children's titles
 pub record AreSupplied (setting : Setting) (sub : ℕ → ℕ
     → List Slot) (clock : NodeClock) (past : List Moment) (many : ℕ) (filled : ℕ → ℕ)
     (held : List Part) (states : List NodeState) (left right : Lanes) : Type 0 where
@@ -73,7 +74,7 @@ pub record AreSupplied (setting : Setting) (sub : ℕ → ℕ
       → gives (moment_after setting sub clock past) k ≡ true → passes state ≡ true
       → LaneFills (sub k) (filled k) many (title_of (part_at held (crossfaded setting.plan.nodes k)).slot)
       (samples_of left (crossfaded setting.plan.nodes k) many) (samples_of right (crossfaded setting.plan.nodes k) many)
-  -- which lie in other clocks
+  -- these children lie in other clocks
   pub apart : (k : ℕ) (node : Node) (state : NodeState) → IsNode setting clock k node → slice_get states k ≡ Some state
       → gives (moment_after setting sub clock past) k ≡ true → passes state ≡ true
       → lies_in setting clock (crossfaded setting.plan.nodes k) ≡ false

@@ -5,7 +5,7 @@ use Rattle.stream_meaning.specs.Instants.{part_at, silent}
 use Rattle.clock_nodes.specs.Nodes.{lies_at}
 use Rattle.clock_instants.specs.declared.latest.Latest.{Latest}
 
--- what no node of another clock than the latest instant's does: it offers nothing, and is not demanded
+-- at the latest instant nodes of other clocks than its own offer nothing and are not demanded
 pub record IsLatest (clocks : List NodeClock) (latest : Latest) : Type 0 where
   pub in_parts : length latest.parts.items ≡ length clocks
   pub in_demanded : length latest.demanded.items ≡ length clocks

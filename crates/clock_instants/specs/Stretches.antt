@@ -32,12 +32,12 @@ pub record HasLanes (left right : Lanes) (i : ℕ) : Type 0 where
   pub on_left : HasLane left i
   pub on_right : HasLane right i
 
--- room for any stretch on each side
+-- there is spare room for any stretch on each side
 pub record IsSpare (spare : Spare) : Type 0 where
   pub on_left : 2048 ≤ length spare.left.items
   pub on_right : 2048 ≤ length spare.right.items
 
--- room for the stretches of so many nodes, of which some have lanes; between two stretches no node has a part
+-- room for the stretches of so many nodes; between two stretches the part of each node is silent
 pub record HasStretchRoom (nodes : ℕ) (room : StretchRoom) : Type 0 where
   pub in_left : length room.left.items ≡ nodes
   pub in_right : length room.right.items ≡ nodes
@@ -47,20 +47,21 @@ pub record HasStretchRoom (nodes : ℕ) (room : StretchRoom) : Type 0 where
   pub in_parts : length room.parts.items ≡ nodes
   pub clear : (j : ℕ) → part_at room.parts.items j ≡ silent
 
--- of the first nodes, as many as there are lanes, each one whose state is not idle has a lane
+-- there are `count` lanes, one for each of the first nodes; it has room for any stretch unless the node's state is idle
 pub record HaveLanes (states : List NodeState) (count : ℕ) (lanes : Lanes) : Type 0 where
   pub size : length lanes ≡ count
   pub each : (i : ℕ) (state : NodeState) → i < count → slice_get states i ≡ Some state → (state ≡ Idle → ⊥)
       → HasLane lanes i
 
--- so many cells or items of each node of a clock that gave are there and begin no track, but where cells pass
+-- the next `count` cells or items of each node of a clock that gave are there, and none begins a track; crossfades
+-- through which cells pass are left out
 pub record AllLieAhead (scene : Scene) (clock : NodeClock) (held : List Part) (states : List NodeState)
     (count : ℕ) : Type 0 where
   pub each : (i : ℕ) (state : NodeState) → i < length scene.clocks.now → lies_at scene.clocks.now clock i ≡ true
       → slice_get states i ≡ Some state → gave_at held i ≡ true → LiesAhead scene.library.now state count
 
--- the latest instant of a clock is the one after these, at this time: these are its parts, what was given there is
--- held, and the states stand for it too; and sub-clocks go on for so long
+-- the latest instant of a clock is the one after this past, at this time: `parts` are its parts, `held` is what was
+-- given there, the states stand for it too, and sub-clocks go on for as long as `rests` says
 pub record IsBehind (setting : Setting) (sub : ℕ → ℕ → List Slot) (clock : NodeClock) (past : List Moment) (filled : ℕ
     → ℕ) (time : WeekTime)
     (parts held : List Part) (states : List NodeState) (rests : List ℕ) : Type 0 where
@@ -72,8 +73,8 @@ pub record IsBehind (setting : Setting) (sub : ℕ → ℕ → List Slot) (clock
   pub time_is : TimeStands setting.start (length past) time
   pub filled_on : AreFilledOn setting sub clock past filled held states rests
 
--- so many instants go on as the latest one of a clock did, whatever instants the states stood for: they are a stretch
--- with it, and for them each crossfade that gave asks for a slot an instant where cells pass, else for none
+-- `rest` instants go on as the latest one of a clock did, whatever instants the states stood for: they are a stretch
+-- with it, and in each of them a crossfade that gave asks for one slot where cells pass, and otherwise for none
 pub record ClockGoesOn (scene : Scene) (clock : NodeClock) (time : WeekTime) (parts held : List Part)
     (states : List NodeState) (rests : List ℕ)
     (rest : ℕ) : Type 0 where
@@ -85,9 +86,9 @@ pub record ClockGoesOn (scene : Scene) (clock : NodeClock) (time : WeekTime) (pa
       IsBehind setting sub clock past filled time parts held states rests
       → AllAsk setting sub clock past filled states (length scene.clocks.now) rest
 
--- what was given at the instant after these is held, with which so many instants are a stretch, the states stand for it
--- too, the nodes of the clock have lanes, and the crossfades through which cells pass have the samples of their
--- children
+-- the instant after this past was made, and `many` instants are a stretch with it: `held` is what was given there, the
+-- states stand for it too, the nodes of the clock have lanes, and the crossfades through which cells pass have the
+-- samples of their children
 pub record IsGoing (setting : Setting) (sub : ℕ → ℕ
     → List Slot) (clock : NodeClock) (past : List Moment) (many : ℕ) (filled : ℕ → ℕ)
     (held : List Part) (states : List NodeState) (left right : Lanes) : Type 0 where
@@ -99,14 +100,14 @@ pub record IsGoing (setting : Setting) (sub : ℕ → ℕ
   pub laned : (i : ℕ) (node : Node) → IsNode setting clock i node → HasLanes left right i
   pub supplied : AreSupplied setting sub clock past many filled held states left right
 
--- what the nodes of a clock have begun or were filled, where its readers have begun so many instants more, and its
--- crossfades through which cells pass were filled so many slots more
+-- by node, how many instants a reader has begun, or slots a crossfade was given, after `many` instants more of a clock:
+-- as many more for its readers, and for its crossfades through which cells pass
 abbrev pub begun_on : Setting → NodeClock → (through : ℕ → Bool) → (many : ℕ) → (filled : ℕ → ℕ) → ℕ → ℕ
 begun_on setting clock through many filled i = filled_on (lies_in setting clock i
     && (through i || reads_at setting i)) many (filled i)
 
--- so many instants go on as the instant after these did, from these states on: the states stand for them too, and the
--- nodes that give have left their samples
+-- `many` instants were made that go on as the one after this past did: the states stand for them too, and the nodes
+-- that give have left their samples
 pub record HasGoneOn (setting : Setting) (sub : ℕ → ℕ
     → List Slot) (clock : NodeClock) (past : List Moment) (many : ℕ) (filled : ℕ → ℕ)
     (old : List NodeState) (left right : Lanes) (states : List NodeState) : Type 0 where
@@ -115,20 +116,21 @@ pub record HasGoneOn (setting : Setting) (sub : ℕ → ℕ
   pub lanes : (i : ℕ) → gives (moment_after setting sub clock past) i ≡ true
       → IsLane (λ j. lane setting sub clock past (suc j) i) many (samples_of left i many) (samples_of right i many)
 
--- crossfade k, which was filled so many slots, has the samples of its child, whose title is held, over `many` instants
+-- crossfade k, which was given `filled` slots, has the samples of its child for `many` instants; `held` has the child's
+-- title
 abbrev pub IsSupplied : History → (many filled k : ℕ) → (held : List Part) → Sides Lanes → Type 0
 IsSupplied history many filled k held sides =
     let child = crossfaded history.setting.plan.nodes k in
     LaneFills (history.sub k) filled many (title_of (part_at held child).slot)
     (samples_of sides.left child many) (samples_of sides.right child many)
 
--- over so many instants behind the next one, the samples of node k are its lane
+-- the samples of node k are those that it plays in the `many` instants after the next one
 abbrev pub HasMadeLane : History → (many k : ℕ) → Sides Lanes → Type 0
 HasMadeLane history many k sides = IsLaneOf history k many
     (samples_of sides.left k many) (samples_of sides.right k many)
 
--- a stretch of so many instants behind the next one, as node i sees it before its run: what it and the nodes before it
--- gave, and the samples of those that give; `held` is what all nodes gave
+-- before node i makes the `many` instants after the next one: what it and the nodes before it gave, and the samples of
+-- those that gave; `held` is what all nodes gave
 pub record NodeGivesOn (history : History) (many filled i : ℕ) (node : Node) (held parts : List Part)
     (sides : Sides Lanes) (state : NodeState) : Type 0 where
   pub long : AreLong history.sub
@@ -141,14 +143,14 @@ pub record NodeGivesOn (history : History) (many filled i : ℕ) (node : Node) (
   pub lanes : (k : ℕ) → k < i → gives (next_of history) k ≡ true → HasMadeLane history many k sides
   pub supplied : gives (next_of history) i ≡ true → passes state ≡ true → IsSupplied history many filled i held sides
 
--- and behind it
+-- after node i made the `many` instants after the next one: what its state stands for, and if it gives, its samples
 pub record NodeHasGone (history : History) (many filled i : ℕ) (node : Node) (old : NodeState) (sides : Sides Lanes)
     (state : NodeState) : Type 0 where
   pub stands : StandsOn history (suc many) (filled_on ((gives (next_of history) i && passes old)
       || reads (work_at history.setting i node)) many filled) i node state
   pub lane_is : gives (next_of history) i ≡ true → HasMadeLane history many i sides
 
--- the same of a node that gave, whose samples are these
+-- after node i, which gives, made the `many` instants after the next one with these samples: what its state stands for
 pub record NodeHasMade (history : History) (many filled i : ℕ) (node : Node) (old : NodeState)
     (samples : Sides (List ℤ)) (state : NodeState) : Type 0 where
   pub gave : gives (next_of history) i ≡ true
@@ -156,17 +158,18 @@ pub record NodeHasMade (history : History) (many filled i : ℕ) (node : Node) (
       || reads (work_at history.setting i node)) many filled) i node state
   pub lane_is : IsLaneOf history i many samples.left samples.right
 
--- so many instants are made at once: one at least, and no more than a run has
+-- so many instants can be made at once: at least one, and at most as many as a stretch has
 pub record AreAtOnce (many : ℕ) : Type 0 where
   pub some : 0 < many
   pub short : many ≤ 2048
 
--- node i has the samples that it had
+-- the first `many` samples of node i stayed as they were
 pub record HasKeptSamples (left_old right_old left right : Lanes) (many i : ℕ) : Type 0 where
   pub on_left : samples_of left i many ≡ samples_of left_old i many
   pub on_right : samples_of right i many ≡ samples_of right_old i many
 
--- what was held of so many nodes, no part of any, their lanes, and spare ones
+-- for so many nodes there is what they gave, a part each, which is silent, and a lane on each side; and there is spare
+-- room
 pub record HasRoomToRun (nodes : ℕ) (held parts : List Part) (left right : Lanes) (spare : Spare) : Type 0 where
   pub in_held : length held ≡ nodes
   pub in_parts : length parts ≡ nodes
@@ -175,7 +178,7 @@ pub record HasRoomToRun (nodes : ℕ) (held parts : List Part) (left right : Lan
   pub in_right : length right ≡ nodes
   pub in_spare : IsSpare spare
 
--- the nodes of a clock can make so many instants that go on as its latest one, where this was given, with these states
+-- the nodes of a clock can make `count` instants that go on as its latest one, at which `held` was given
 pub record CanRunNodes (over : Scene) (nodes : ClockNodes) (clock : NodeClock) (count : ℕ) (held : List Part)
     (states : List NodeState) : Type 0 where
   pub scene : IsScene over
@@ -184,7 +187,7 @@ pub record CanRunNodes (over : Scene) (nodes : ClockNodes) (clock : NodeClock) (
   pub fit : AllFit over states
   pub ahead : AllLieAhead over clock held states count
 
--- node i is one of those that make so many instants at once, over the parts of all, and its state fits it
+-- node i of a plan can make `many` instants at once, by the parts of all nodes: its state fits it
 pub record IsNodeToRun (over : Scene) (i many : ℕ) (parts : List Part) (state : NodeState) : Type 0 where
   pub scene : IsScene over
   pub within : i < length over.plan.now.nodes
@@ -193,7 +196,8 @@ pub record IsNodeToRun (over : Scene) (i many : ℕ) (parts : List Part) (state 
   pub fits : (node : Node) → slice_get over.plan.now.nodes i ≡ Some node
       → Fits over.library.now (length node.children) state
 
--- and what it gave is there for so long, over the lanes of all, and with spare ones
+-- node i can make `many` instants at once: there are lanes for all nodes and spare ones, and if it gave, its next cells
+-- or items are there
 pub record CanRunNode (scene : Scene) (i many : ℕ) (parts : List Part) (left right : Lanes) (spares : Spare)
     (state : NodeState) : Type 0 where
   pub node : IsNodeToRun scene i many parts state
@@ -202,7 +206,7 @@ pub record CanRunNode (scene : Scene) (i many : ℕ) (parts : List Part) (left r
   pub spare : IsSpare spares
   pub ahead : is_some (part_at parts i).slot ≡ true → LiesAhead scene.library.now state many
 
--- the nodes of a clock have made so many instants that go on as its latest one, whatever instants the states stood for
+-- the nodes of a clock have made `many` instants that go on as its latest one, whatever instants the states stood for
 pub record NodesRun (scene : Scene) (clock : NodeClock) (many : ℕ) (held : List Part) (old : List NodeState)
     (left_old right_old left right : Lanes)
     (states : List NodeState) : Type 0 where
@@ -211,7 +215,7 @@ pub record NodesRun (scene : Scene) (clock : NodeClock) (many : ℕ) (held : Lis
       IsGoing setting sub clock past many filled held old left_old right_old
       → HasGoneOn setting sub clock past many filled old left right states
 
--- node i has made them, whatever instants its state stood for
+-- node i has made `many` instants that go on as its latest one, whatever instants its state stood for
 pub record NodeRun (scene : Scene) (i many : ℕ) (held parts : List Part) (old : NodeState) (before after : Sides Lanes)
     (state : NodeState) : Type 0 where
   pub run : (other : Setting) (sub : ℕ → ℕ → List Slot) (clock : NodeClock) (past : List Moment) (filled : ℕ)
@@ -220,7 +224,8 @@ pub record NodeRun (scene : Scene) (i many : ℕ) (held parts : List Part) (old 
       NodeGivesOn history many filled i node held parts before old
       → NodeHasGone history many filled i node old after state
 
--- node i, which gave, has made these samples of them
+-- node i, which gave, has made `many` instants that go on as its latest one, with these samples: whatever instants its
+-- state stood for
 pub record NodeMade (scene : Scene) (i many : ℕ) (held parts : List Part) (old : NodeState) (before : Sides Lanes)
     (samples : Sides (List ℤ)) (state : NodeState) : Type 0 where
   pub made : (other : Setting) (sub : ℕ → ℕ → List Slot) (clock : NodeClock) (past : List Moment) (filled : ℕ)

@@ -23,7 +23,7 @@ pub record IsReader (plan : Plan) (i : ℕ) : Type 0 where
   pub found : slice_get plan.nodes i ≡ Some node
   pub reads : node.op ≡ Buffer buffer
 
--- node i lies in a clock, or in a sub-clock so many ranks below it
+-- node i lies in a clock, or in a sub-clock `rank` ranks below it
 abbrev pub IsUnder : List NodeClock → NodeClock → (rank i : ℕ) → Type 0
 IsUnder clocks clock zero i = slice_index_or clocks i (Main 0) ≡ clock
 IsUnder clocks clock (suc rank) i = (k : ℕ) × (slice_index_or clocks i (Main 0) ≡ Sub k) × IsUnder clocks clock rank k
@@ -35,7 +35,7 @@ pub record HasReader (plan : Plan) (clocks : List NodeClock) (clock : NodeClock)
   pub under : IsUnder clocks clock rank i
   pub reader : IsReader plan i
 
--- each reader of a plan reads one of so many buffers
+-- each reader of a plan reads one of `buffers` buffers
 pub record ReadersAreIn (plan : Plan) (buffers : ℕ) : Type 0 where
   pub each : (i buffer : ℕ) (node : Node) → slice_get plan.nodes i ≡ Some node → node.op ≡ Buffer buffer
       → buffer < buffers
@@ -46,22 +46,22 @@ pub record HasOwnReaders (setting : Setting) : Type 0 where
       → slice_get setting.plan.nodes j ≡ Some other
       → work_at setting i one ≡ Reads buffer → work_at setting j other ≡ Reads buffer → i ≡ j
 
--- what node i has begun: a reader one instant more
+-- how many instants a node has begun after one more of its clock: a reader one more, and any other node none more
 abbrev pub begun_by : Bool → ℕ → ℕ
 begun_by reading filled = if reading then suc filled else filled
 
--- what the nodes have begun, where the readers of a clock have begun an instant more
+-- by node, how many instants it has begun after the readers of a clock began one more
 abbrev pub begun_in : Setting → NodeClock → (filled : ℕ → ℕ) → ℕ → ℕ
 begun_in setting clock filled i = begun_by (lies_in setting clock i && reads_at setting i) (filled i)
 
--- the readers of a clock have taken these answers by the instants before this one, and begun them alone
+-- the readers of a clock have taken the answers `front` in the instants of this past, and have begun no instant more
 pub record HaveTaken (setting : Setting) (clock : NodeClock) (past : List Moment) (filled : ℕ → ℕ) (front : ℕ
     → List Answer) : Type 0 where
   pub even : (i : ℕ) → lies_in setting clock i ≡ true → reads_at setting i ≡ true → filled i ≡ length past
   pub taken : (i buffer : ℕ) (node : Node) → IsIn setting clock i node → work_at setting i node ≡ Reads buffer
       → (reading_after setting i buffer past).taken ≡ length (front buffer)
 
--- node i, which does this work, has begun, by these calls
+-- node i, which does this work, has begun the instant after this past, with the calls `more`
 pub record HasBegun (setting : Setting) (sub : ℕ → ℕ
     → List Slot) (past : List Moment) (filled i : ℕ) (work : Work) (front : ℕ → List Answer)
     (more : List Call) (state : NodeState) : Type 0 where
@@ -71,7 +71,7 @@ pub record HasBegun (setting : Setting) (sub : ℕ → ℕ
       → (reading_by setting i buffer past (suc (length past))).taken ≡ length (after_calls front more buffer)
   pub others : (buffer : ℕ) → (work ≡ Reads buffer → ⊥) → answers_in buffer more ≡ []
 
--- node i, whatever it stood for where a tick begins, has begun
+-- node i has begun an instant that begins a tick, whatever instants its state stood for, with calls that the taps got
 pub record NodeBegan {T : Type 0} (stands : T → List Call
     → Type 0) (scene : Scene) (i : ℕ)
     (old new : NodeState) (taps_old taps_new : T) : Type 0 where
@@ -88,7 +88,8 @@ pub record NodeBegan {T : Type 0} (stands : T → List Call
       → (reading_after setting i buffer past).taken ≡ length (front buffer))
       → HasBegun setting sub past filled i (work_at setting i node) front more new
 
--- some of these calls were made
+-- node i has made some of the takes with which it begins a tick, from the first on, whatever instants its state stood
+-- for
 pub record NodeTookSome {T : Type 0} (stands : T → List Call
     → Type 0) (scene : Scene) (i : ℕ)
     (old : NodeState) (taps_old taps_new : T) : Type 0 where
@@ -104,12 +105,12 @@ pub record NodeTookSome {T : Type 0} (stands : T → List Call
       → (reading_after setting i buffer past).taken ≡ length (front buffer))
       → IsBegin made (takes_in setting true past i (Some node))
 
--- the calls of the readers of a clock, node by node
+-- the takes of a clock's readers at the instant after this past, in node order, up to node n
 abbrev pub takes_below : Setting → NodeClock → List Moment → (n : ℕ) → List Call
 takes_below setting clock past n = joined_upto
     (λ i. takes_in setting (lies_in setting clock i) past i (slice_get setting.plan.nodes i)) n
 
--- the readers of a clock have begun, by these calls
+-- the readers of a clock have begun the instant after this past with the calls `more`, after the answers `front`
 pub record AreBegun (setting : Setting) (sub : ℕ → ℕ → List Slot) (clock : NodeClock) (past : List Moment) (filled : ℕ
     → ℕ) (front : ℕ → List Answer)
     (more : List Call) (states : List NodeState) : Type 0 where
@@ -120,6 +121,7 @@ pub record AreBegun (setting : Setting) (sub : ℕ → ℕ → List Slot) (clock
   pub others : (buffer : ℕ) → ((i : ℕ) (node : Node) → IsIn setting clock i node → work_at setting i node ≡ Reads buffer
       → ⊥) → answers_in buffer more ≡ []
 
+-- the readers of a clock have begun a tick, whatever instants the states stood for, with calls that the taps got
 pub record HaveBegun {T : Type 0} (stands : T → List Call
     → Type 0) (scene : Scene) (clock : NodeClock)
     (old new : List NodeState) (taps_old taps_new : T) : Type 0 where
@@ -133,6 +135,8 @@ pub record HaveBegun {T : Type 0} (stands : T → List Call
       → ClockStands setting sub clock past filled old → HaveTaken setting clock past filled front
       → AreBegun setting sub clock past filled front more new
 
+-- the readers of a clock have made some of the takes with which they begin a tick, from the first on, whatever instants
+-- the states stood for
 pub record HaveTakenSome {T : Type 0} (stands : T → List Call
     → Type 0) (scene : Scene) (clock : NodeClock)
     (old : List NodeState) (taps_old taps_new : T) : Type 0 where

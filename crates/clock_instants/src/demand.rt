@@ -14,7 +14,7 @@ use clock_nodes::{ClockNodes, Scene};
 use plan_core::Op;
 use stream_meaning::Part;
 
-// Which children a demanded node uses.
+/// Which children a demanded node uses: none, the one that it picked, or all that offer a cell.
 #[derive(Clone, Copy, Debug, PartialEq, Eq)]
 pub enum Demand {
     Nothing,
@@ -22,8 +22,8 @@ pub enum Demand {
     Offering,
 }
 
-/// Finds the demanded nodes of a clock, over those that are demanded of themselves. Nodes of other clocks do nothing,
-/// and are not demanded.
+/// Sets in `demanded` which nodes of a clock are demanded, where those are set before that are demanded of themselves.
+/// Nodes of other clocks offer nothing, and are not demanded.
 pub fn find_demanded(
     scene: &Scene<'_>,
     nodes: &ClockNodes,
@@ -79,7 +79,7 @@ fn demand_of(op: &Op) -> Demand
     }
 }
 
-// Demands the child at a place, if it offers.
+// Demands the child that a node picked, at place `pick` among its children, if it offers a cell.
 fn demand_picked(children: &[u32], parts: &[Part], pick: Option<u32>, demanded: &mut [bool])
     requires in_demanded { All (λ child. child < length demanded.old) children.now }
     requires in_parts { All (λ child. child < length parts.now) children.now }
@@ -98,7 +98,7 @@ fn demand_picked(children: &[u32], parts: &[Part], pick: Option<u32>, demanded: 
     }
 }
 
-// Demands the children that offer.
+// Demands the children that offer a cell.
 fn demand_offering(children: &[u32], parts: &[Part], demanded: &mut [bool])
     requires in_demanded { All (λ child. child < length demanded.old) children.now }
     requires in_parts { All (λ child. child < length parts.now) children.now }

@@ -9,7 +9,7 @@ use clock_nodes::{ClockNodes, Scene};
 use node_states::gives;
 use stream_meaning::Part;
 
-/// Holds what the nodes of a clock gave at an instant at which they had these parts and demands.
+/// Writes to `held` what each node of a clock gave at an instant, by its part and by whether it was demanded.
 pub fn hold(
     scene: &Scene<'_>,
     nodes: &ClockNodes,
@@ -33,7 +33,7 @@ pub fn hold(
     }
 }
 
-// A part, where it was given.
+// What a node with this part gave: the part if it is demanded and offers a cell, and otherwise silence.
 fn given(part: Part, demanded: bool) -> Part
     ensures { result ≡ given_by demanded part }
 {

@@ -26,11 +26,11 @@ pub struct Latest {
 }
 
 impl Latest {
-    /// One instant of a clock, at a second of the week: it becomes the latest one, what each node does and who is
-    /// demanded, and the states of the clock's nodes go on, and what they gave is held. `own` tells of each node
-    /// whether its own clock demands it of itself, and `desk` has room for the children of a node. Nodes of other
-    /// clocks are not looked at, but for those of the clock whose instant was the latest one before. Whatever instants
-    /// the states stood for, they stand for one more.
+    /// Makes one instant of a clock, in second `at` of the week, once the items of its crossfades are settled. It
+    /// becomes the latest instant, the states of the clock's nodes move on, and `held` has what they gave. `own` says
+    /// of each node whether its own clock demands it of itself, and `desk` has room for the children of a node. Of
+    /// nodes of other clocks only those are looked at whose clock made the latest instant before. Whatever instants the
+    /// states stood for, they stand for one more.
     pub fn finish_instant(
         &mut self,
         scene: &Scene<'_>,
@@ -69,7 +69,7 @@ impl Latest {
     }
 }
 
-// Takes back what the nodes of a clock did, where no other node did anything.
+// Clears what the nodes of a clock did; no other node did anything.
 fn clear(
     scene: &Scene<'_>,
     nodes: &ClockNodes,

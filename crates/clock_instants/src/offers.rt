@@ -16,7 +16,8 @@ use fixed_text::WeekSecond;
 use node_states::{Desk, NodeState};
 use stream_meaning::Part;
 
-/// What the nodes of a clock do at an instant of this second, over parts at which no node does anything.
+/// Writes to `parts`, where each part is silent, what the nodes of a clock do at an instant in second `at` of the week.
+/// `desk` has room for the children of a node.
 pub fn make_parts(
     scene: &Scene<'_>,
     nodes: &ClockNodes,
@@ -47,7 +48,7 @@ pub fn make_parts(
     }
 }
 
-// What node i does, over what the nodes before it do.
+// What node i does at an instant in second `at` of the week; `parts` are those of the nodes before it.
 fn offer_of(
     scene: &Scene<'_>,
     state: &NodeState,

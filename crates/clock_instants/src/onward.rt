@@ -20,7 +20,7 @@ use op_mix::{Before, MAX_STRETCH, Sums};
 use std::mem;
 use stream_meaning::Part;
 
-/// Makes so many instants of a clock that go on as its latest one did. The sub-clocks of its crossfades through which
+/// Makes `many` instants of a clock that go on as its latest one did. The sub-clocks of its crossfades through which
 /// cells pass have gone on by as many already, and left the samples of the crossfades' children in `stretch_room`. The
 /// states of the clock's nodes go on, and each that gives leaves its samples there.
 pub fn run_nodes(
@@ -63,7 +63,8 @@ pub fn run_nodes(
     forget(scene, nodes, clock, &mut stretch_room.parts);
 }
 
-// The same, over the parts of no node, which become those of the clock's nodes.
+// Makes `many` instants of the clock's nodes, node by node: their states go on, and each that gives leaves its samples.
+// `parts` is silent before; afterwards it has the held parts of these nodes.
 fn run_each(
     scene: &Scene<'_>,
     nodes: &ClockNodes,
@@ -106,7 +107,7 @@ fn run_each(
     }
 }
 
-// Makes so many instants more of node i, over what it and the nodes before it gave; `held` is what all nodes gave. Its
+// Makes `count` instants more of node i, over what it and the nodes before it gave; `held` is what all nodes gave. Its
 // samples are made in the spare lanes, which are then exchanged with its own. A node without lanes is not of the clocks
 // that the engine drives.
 fn run_node(
@@ -156,7 +157,8 @@ fn run_node(
     mem::swap(&mut right[i], &mut spare.right);
 }
 
-// Makes so many instants more of node i, which gave: its samples are made at the front of `own_left` and `own_right`.
+// Makes `count` instants more of node i, which gave: its samples are made at the front of `own_left` and `own_right`.
+// `sums` is room.
 fn make_samples(
     scene: &Scene<'_>,
     i: usize,
@@ -203,7 +205,7 @@ fn has_lane(lanes: &[Vec<i16>], i: usize) -> bool
     lanes[i].len() >= MAX_STRETCH as usize
 }
 
-// Takes back the parts of a clock's nodes, where no other node has any.
+// Clears the parts of a clock's nodes; no other node has any.
 fn forget(scene: &Scene<'_>, nodes: &ClockNodes, clock: NodeClock, parts: &mut [Part])
     requires chains { AreNodesOf scene.now.clocks.now nodes.now }
     requires in_parts { length parts.old ≡ length scene.now.clocks.now }

@@ -20,9 +20,9 @@ use node_states::{NodeState, WeekTime, steady_seconds};
 use plan_core::Op;
 use stream_meaning::Part;
 
-/// How many instants, at most so many and no more than a second has, go on as the latest one of a clock did, at which
-/// its nodes had these parts and gave what is held: they are a stretch with it. `time` is its time. A crossfade goes on
-/// for the items that it has ready, or where cells pass for as long as its sub-clock does, by `rests`.
+/// How many instants go on as the latest one of a clock did, at most `most` and no more than a second has: they are a
+/// stretch with it. That instant was at `time`, and its nodes had these parts and gave `held`. A crossfade goes on for
+/// the items that it has ready, or where cells pass for as long as its sub-clock does, by `rests`.
 pub fn rest_of(
     scene: &Scene<'_>,
     nodes: &ClockNodes,
@@ -70,8 +70,8 @@ pub fn rest_of(
     rest
 }
 
-// How many of these instants node i goes on, which has this state and gave this; and its sub-clock goes on for so many,
-// under the title `below_title`.
+// How many instants, at most `most`, node i goes on after the latest one, which was at `time` with `tick` instants left
+// of its tick, and at which it gave `held`. Its sub-clock goes on for `below` instants, under the title `below_title`.
 fn node_rest(
     scene: &Scene<'_>,
     parts: &[Part],
@@ -110,8 +110,8 @@ fn node_rest(
     )
 }
 
-// How many instants behind this one a node goes on before its eligible children may change or a tick begins, where it
-// has to do with one.
+// How many instants after the one at `time` a switch goes on before its eligible children may change, and a reader
+// before a tick begins, of which `tick` instants are left; `most` for every other node.
 fn border(op: &Op, time: WeekTime, tick: u32, most: u32) -> u32
     ensures marks { MarksStay op.now time result }
     ensures tick { (rate i buffer : ℕ) (kind : TheKind) → work_of rate i kind op.now ≡ Reads buffer → result ≡ tick }
@@ -123,8 +123,8 @@ fn border(op: &Op, time: WeekTime, tick: u32, most: u32) -> u32
     }
 }
 
-// How many instants behind this one the eligible children of a node stay the same, or so many. Its predicates are asked
-// only where the second ends first.
+// How many instants after the one at `time` the eligible children of a switch stay the same; `most` if its second lasts
+// as long. The predicates are asked only if it ends before.
 fn steady_left(op: &Op, time: WeekTime, most: u32) -> u32
     ensures { MarksStay op.now time result }
 {
@@ -134,7 +134,7 @@ fn steady_left(op: &Op, time: WeekTime, most: u32) -> u32
     time.seconds_left(steady_seconds(op, time.second))
 }
 
-// Whether the child at a place begins a track.
+// Whether the child at `place` among a node's children begins a track; without a place, no.
 fn begins(parts: &[Part], children: &[u32], place: Option<u32>) -> bool
     ensures { result ≡ begins_at parts.now children.now place }
 {

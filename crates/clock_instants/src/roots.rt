@@ -5,8 +5,8 @@ ghost use Rattle.clock_nodes.specs.Nodes.{AreNodesOf, lies_at};
 use clock_infer::NodeClock;
 use clock_nodes::{ClockNodes, Scene};
 
-/// Tells which nodes of a clock are demanded of themselves, where `own` tells it of each node in its own clock and none
-/// is demanded before.
+/// Sets in `demanded`, where none is set, which nodes of a clock are demanded of themselves; `own` says so of each node
+/// in its own clock.
 pub fn demand_roots(
     scene: &Scene<'_>,
     nodes: &ClockNodes,

@@ -19,7 +19,7 @@ pub struct StretchRoom {
     /// By node: its left samples in the latest stretch; empty for a node that is idle.
     pub left: Vec<Vec<i16>>,
 
-    /// The same of its right samples.
+    /// By node: its right samples in the latest stretch; empty for a node that is idle.
     pub right: Vec<Vec<i16>>,
 
     /// Room for the samples of the next node.
@@ -85,7 +85,7 @@ impl StretchRoom {
         })
     }
 
-    /// The left samples of a node in the latest stretch, which had so many instants: silence of a node that is idle.
+    /// The left samples of a node in the latest stretch, which had `count` instants: silence of a node that is idle.
     pub fn left_of(&self, node: u32, count: usize) -> &[i16]
         requires short { count ≤ 2048 }
         ensures is { result.now ≡ samples_of self.now.left.items node count }
@@ -94,7 +94,7 @@ impl StretchRoom {
         samples_of(&self.left, node, count)
     }
 
-    /// The right samples of a node in the latest stretch, which had so many instants: silence of a node that is idle.
+    /// The right samples of a node in the latest stretch, which had `count` instants: silence of a node that is idle.
     pub fn right_of(&self, node: u32, count: usize) -> &[i16]
         requires short { count ≤ 2048 }
         ensures is { result.now ≡ samples_of self.now.right.items node count }
@@ -115,7 +115,7 @@ fn lanes_of(alloc: Global, states: &[NodeState]) -> Result<Vec<Vec<i16>>, Memory
     Ok(lanes)
 }
 
-// The lane of a node; empty where it is idle.
+// The lane of a node: `MAX_STRETCH` samples, all of them 0; empty where it is idle.
 fn lane_for(alloc: Global, state: &NodeState) -> Result<Vec<i16>, Memory>
     ensures { IfOk result (λ lane. (state.now ≡ Idle → ⊥) → length lane.items ≡ 2048) }
 {

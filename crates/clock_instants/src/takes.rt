@@ -44,7 +44,7 @@ pub fn begin_readers<T: Taps>(
     Ok(())
 }
 
-// Lets node i take, if it is a reader.
+// Lets node i take from its buffer, if it is a reader.
 fn take_at<T: Taps>(
     scene: &Scene<'_>,
     i: usize,

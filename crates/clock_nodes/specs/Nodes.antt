@@ -9,7 +9,7 @@ use Rattle.clock_nodes.specs.declared.nodes.ClockNodes.{ClockNodes}
 abbrev pub lies_at : List NodeClock → NodeClock → ℕ → Bool
 lies_at clocks clock i = same_clock (slice_index_or clocks i (Main 0)) clock
 
--- each clock has a number of its own
+-- the number of a clock: even for a main clock, odd for a sub-clock
 abbrev pub number_of : NodeClock → ℕ
 number_of (Main m) = 2 * m
 number_of (Sub k) = 2 * k + 1
@@ -27,7 +27,7 @@ pub record IsEnd (clocks : List NodeClock) (clock : NodeClock) (below i : ℕ) :
   pub own : (j : ℕ) → i ≡ suc j → lies_at clocks clock j ≡ true
   pub skips : (j : ℕ) → i ≤ j → j < below → lies_at clocks clock j ≡ false
 
--- the chains of the clocks of these nodes
+-- these are the two chains of nodes of each clock; `clocks` has the clock of each node
 pub record AreNodesOf (clocks : List NodeClock) (nodes : ClockNodes) : Type 0 where
   pub in_nexts : length nodes.nexts.items ≡ length clocks
   pub in_befores : length nodes.befores.items ≡ length clocks

@@ -5,13 +5,13 @@ use Rattle.plan_core.specs.Plans.{AreNodes}
 use Rattle.stream_meaning.specs.Instants.{Setting}
 use Rattle.clock_nodes.specs.declared.scene.Scene.{Scene}
 
--- each node stands over nodes before it, there are no more than a plan has, and each has its clock
+-- each node's children come before it, there are no more nodes than a plan may have, and each has its clock
 pub record IsScene (scene : Scene) : Type 0 where
   pub nodes : AreNodes scene.plan.now.nodes
   pub few : length scene.plan.now.nodes ≤ MAX_NODES
   pub in_clocks : length scene.clocks.now ≡ length scene.plan.now.nodes
 
--- a setting over a scene, and all else as in another one
+-- the setting with the plan, the files and the clocks of a scene, and with the start and the answers of another setting
 abbrev pub setting_over : Scene → Setting → Setting
 setting_over scene other = record {
   plan = scene.plan.now;

@@ -9,35 +9,36 @@ use Rattle.node_states.specs.declared.state.NodeState.{NodeState}
 use Rattle.node_states.specs.States.{Fits, IsSettled, StateStands}
 use Rattle.clock_nodes.specs.declared.scene.Scene.{Scene}
 
--- a node of this clock
+-- node i of the plan lies in this clock
 pub record IsIn (setting : Setting) (clock : NodeClock) (i : ℕ) (node : Node) : Type 0 where
   pub there : slice_get setting.plan.nodes i ≡ Some node
   pub inside : lies_in setting clock i ≡ true
 
--- the states of a clock's nodes stand for these instants of it, where crossfade i was filled `filled i` slots
+-- the states of a clock's nodes stand for these instants of it; `filled i` is how many slots crossfade i was given, or
+-- how many instants reader i has begun
 pub record ClockStands (setting : Setting) (sub : ℕ → ℕ
     → List Slot) (clock : NodeClock) (past : List Moment) (filled : ℕ → ℕ)
     (states : List NodeState) : Type 0 where
   pub each : (i : ℕ) (node : Node) (state : NodeState) → IsIn setting clock i node → slice_get states i ≡ Some state
       → StateStands setting sub past (filled i) i (work_at setting i node) state
 
--- the items of a clock's crossfades are settled
+-- each node of a clock can make the instant after this past: items of crossfades are settled, and readers have begun
 pub record AreSettled (setting : Setting) (sub : ℕ → ℕ → List Slot) (clock : NodeClock) (past : List Moment) (filled : ℕ
     → ℕ) : Type 0 where
   pub each : (i : ℕ) (node : Node) → IsIn setting clock i node
       → IsSettled sub past (filled i) i (work_at setting i node)
 
--- each state is one of its node
+-- there is a state for each node of the plan, and it fits its node
 pub record AllFit (scene : Scene) (states : List NodeState) : Type 0 where
   pub size : length states ≡ length scene.plan.now.nodes
   pub each : (i : ℕ) (node : Node) (state : NodeState) → slice_get scene.plan.now.nodes i ≡ Some node
       → slice_get states i ≡ Some state → Fits scene.library.now (length node.children) state
 
--- there is room for the children of each node of a plan
+-- there is room for the children of any node of the plan
 pub record HasRoomFor (plan : Plan) (room : ℕ) : Type 0 where
   pub each : (i : ℕ) (node : Node) → slice_get plan.nodes i ≡ Some node → length node.children ≤ room
 
--- these tell of each node of a clock whether it is demanded of itself
+-- `own` says of each node of a clock whether it is demanded of itself, that is, by an output, a feed or a crossfade
 pub record AreRoots (setting : Setting) (clock : NodeClock) (own : List Bool) : Type 0 where
   pub each : (i : ℕ) → i < length setting.plan.nodes → lies_in setting clock i ≡ true
       → slice_index_or own i false ≡ is_root setting clock i

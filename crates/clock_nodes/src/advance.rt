@@ -12,7 +12,8 @@ use clock_infer::NodeClock;
 use node_states::NodeState;
 use stream_meaning::Part;
 
-/// Takes the nodes of a clock on by an instant at which they did this and these were demanded.
+/// Moves the states of a clock's nodes on by one instant. By node, `parts` is what it did there, and `demanded` whether
+/// it was demanded.
 pub fn advance_all(
     scene: &Scene<'_>,
     nodes: &ClockNodes,

@@ -24,7 +24,7 @@ pub struct ClockNodes {
     pub befores: Vec<u32>,
 }
 
-// The number of a clock.
+// The number of a clock: even for a main clock, odd for a sub-clock.
 fn clock_number(clock: NodeClock) -> usize
     ensures is { result ≡ number_of clock }
     ensures small { result < 8589934592 }
@@ -35,7 +35,7 @@ fn clock_number(clock: NodeClock) -> usize
     }
 }
 
-// A number above those of these clocks.
+// A number above the numbers of all these clocks; 0 if there is none.
 fn numbers_of(clocks: &[NodeClock]) -> usize
     ensures { (i : ℕ) → i < length clocks.now → number_of (slice_index_or clocks.now i (NodeClock.Main 0)) < result }
 {
@@ -46,7 +46,8 @@ fn numbers_of(clocks: &[NodeClock]) -> usize
     count
 }
 
-// Chains the nodes of each clock from the first one on.
+// Links each node to the next one of its clock, and each clock to its first node. Before, `firsts` says of each clock
+// that it has no node.
 fn link_on(clocks: &[NodeClock], firsts: &mut [u32], nexts: &mut [u32])
     requires few { length clocks.now ≤ MAX_NODES }
     requires in_firsts { (i : ℕ) → i < length clocks.now
@@ -67,7 +68,8 @@ fn link_on(clocks: &[NodeClock], firsts: &mut [u32], nexts: &mut [u32])
     }
 }
 
-// Chains the nodes of each clock from the last one back.
+// Links each node to the one before it in its clock, and each clock to its last node. Before, `ends` says of each clock
+// that it has no node.
 fn link_back(clocks: &[NodeClock], ends: &mut [u32], befores: &mut [u32])
     requires few { length clocks.now ≤ MAX_NODES }
     requires in_ends { (i : ℕ) → i < length clocks.now
@@ -87,7 +89,7 @@ fn link_back(clocks: &[NodeClock], ends: &mut [u32], befores: &mut [u32])
 }
 
 impl ClockNodes {
-    /// The nodes of each clock, where these are the clocks of the nodes.
+    /// The nodes of each clock; `clocks` has the clock of each node.
     pub fn new(alloc: Global, clocks: &[NodeClock]) -> Result<ClockNodes, Memory>
         requires { length clocks.now ≤ MAX_NODES }
         ensures { IfOk result (AreNodesOf clocks.now) }

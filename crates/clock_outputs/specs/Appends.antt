@@ -16,7 +16,7 @@ pub record TookAll {S : Type 0} (told : S → SinkTold) (ports : List Port) (bel
   pub others : (k : ℕ) → below ≤ k → slice_get new k ≡ slice_get old k
 
 -- the sink at this place took a front of the piece of its output, and failed; each before it took its piece whole, and
--- those behind it are as they were
+-- those after it are as they were
 pub record BrokeAt {S : Type 0} (told : S → SinkTold) (place : ℕ) (ports : List Port) (old new : List S) : Type 0 where
   pub port : Port
   pub before : S

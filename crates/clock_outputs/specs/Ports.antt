@@ -5,12 +5,12 @@ use Rattle.frame_core.specs.Slots.{Slot}
 use Rattle.stream_meaning.specs.Sinks.{block_length, slot_block}
 use Rattle.clock_outputs.specs.declared.port.Port.{Port}
 
--- one gap more at a slot without a cell, as far as a u64 counts
+-- the number of gaps after one more slot: a slot without a cell adds one, up to 2^64 - 1
 abbrev pub counted : ℕ → Slot → ℕ
 counted gaps None = min (gaps + 1) (2 ^ 64 - 1)
 counted gaps (Some cell) = gaps
 
--- an output with these bytes and gaps
+-- an output with these bytes of the tick and this number of gaps
 abbrev pub with_bytes : Port → List ℕ → ℕ → Port
 with_bytes port bytes gaps = record {
   sink = port.sink;
@@ -22,7 +22,7 @@ with_bytes port bytes gaps = record {
   gaps_before = port.gaps_before;
 }
 
--- at the start of a tick
+-- an output at the start of a tick: it has no bytes
 abbrev pub emptied : Port → Port
 emptied port = record {
   sink = port.sink;
@@ -34,19 +34,20 @@ emptied port = record {
   gaps_before = port.gaps;
 }
 
--- after one more slot of its node
+-- an output after one more slot of its node
 abbrev pub after_slot : Port → Slot → Port
 after_slot port slot = with_bytes port (port.piece.bytes
     ++ slot_block port.wide port.kind slot) (counted port.gaps slot)
 
--- after these slots
+-- an output after these slots more of its node
 abbrev pub after_slots : Port → List Slot → Port
 after_slots port [] = port
 after_slots port (slot ∷ slots) = after_slots (after_slot port slot) slots
 
--- there is room for the blocks of so many slots more
+-- an output has room for the blocks of so many slots more
 abbrev pub HasRoomLeft : ℕ → Port → Type 0
 HasRoomLeft slots port = length port.piece.bytes + slots * block_length port.wide port.kind ≤ port.piece.room
 
+-- each of these outputs has room for the blocks of so many slots more
 abbrev pub AllHaveRoomLeft : ℕ → List Port → Type 0
 AllHaveRoomLeft slots ports = All (λ port. HasRoomLeft slots port) ports

@@ -5,8 +5,8 @@ ghost use Rattle.clock_outputs.specs.Appends.{BrokeAt, HaveRoom, TookAll};
 use crate::Port;
 use liq_base::Sink;
 
-/// Appends the piece of each output to its sink, in one piece and in their order. The first that fails ends it, and its
-/// place is the answer.
+/// Appends the piece of each output to its sink, in one piece and in their order. It ends at the first sink that fails,
+/// and the error is the place of that sink among the outputs.
 pub fn append_all<O: Sink>(outs: &mut Vec<O>, ports: &[Port]) -> Result<(), usize>
     requires sizes { length outs.old.items ≡ length ports.now }
     requires room { HaveRoom O.told ports.now outs.old.items }

@@ -18,15 +18,15 @@ pub struct FeedPort {
 }
 
 impl FeedPort {
-    // Begins a tick.
+    // Begins a tick: the feed has no cells yet.
     fn begin(&mut self)
         ensures { self.new ≡ unfed self.old }
     {
         self.frame.clear();
     }
 
-    /// Takes the slots of its node in a segment: that of its first instant, and behind it the cells of these samples,
-    /// which have its title and begin no track; or as many slots without a cell where the first one has none.
+    /// Takes the slots of its node in a segment: that of its first instant, and then cells of the same title with these
+    /// samples, which begin no track; or as many empty slots if the first one is empty.
     pub fn hear(&mut self, slot: Option<Cell>, left: &[i16], right: &[i16])
         requires same { length right.now ≡ length left.now }
         requires room { HasFeedRoom (suc (length left.now)) self.old }
@@ -50,7 +50,7 @@ pub fn begin_feeds(feeds: &mut Vec<FeedPort>)
     }
 }
 
-// The chunk of a feed that has given in this tick.
+// The chunk that a feed gave in this tick, with its node and its cells.
 #[derive(Drop)]
 struct Made<'a> {
     node: u32,
@@ -73,7 +73,8 @@ pub fn give_all<T: Taps>(alloc: Global, feeds: &[FeedPort], taps: &mut T) -> Res
     give_each(alloc, feeds, &mut made, taps)
 }
 
-// The same, with a list for the chunks that are made.
+// Gives the chunk of each feed that has cells to its buffer, in their order. `made` has the chunks of the feeds before;
+// a later feed of the same node gives such a chunk again.
 fn give_each<'a, T: Taps>(
     alloc: Global,
     feeds: &'a [FeedPort],
@@ -93,7 +94,7 @@ fn give_each<'a, T: Taps>(
     Ok(())
 }
 
-// Gives the chunk of a feed, if it has cells.
+// Gives the chunk of a feed to its buffer, if the feed has cells. `made` has the chunks of the feeds before.
 fn give_one<'a, T: Taps>(
     alloc: Global,
     feed: &'a FeedPort,
@@ -121,7 +122,8 @@ fn give_one<'a, T: Taps>(
     }
 }
 
-// The chunk of a feed, if it has cells: that of an earlier feed of its node, or a new one, which is noted.
+// The chunk of a feed, or `None` if it has no cells: that of an earlier feed of its node, or a new one, added to
+// `made`.
 fn chunk_of_feed<'a>(
     alloc: Global,
     feed: &'a FeedPort,
@@ -144,7 +146,7 @@ fn chunk_of_feed<'a>(
     Ok(Some(again))
 }
 
-// The chunk that an earlier feed of the same node made, if there is one.
+// The chunk that an earlier feed of the same node made; `None` if there is none.
 fn shared_chunk(made: &[Made<'_>], feed: &FeedPort) -> Result<Option<Chunk>, Memory>
     ensures { IfOk result (λ found. IfSome found (λ chunk. Some chunk ≡ some_list feed.now.frame.cells)) }
 {

@@ -30,7 +30,7 @@ impl Model for Piece {
 }
 
 impl Piece {
-    /// No bytes, with room for so many. No later call takes memory.
+    /// No bytes, with room for `room` bytes. No later call takes memory.
     pub fn new(alloc: Global, room: usize) -> Result<Piece, Memory>
         ensures { IfOk result (λ piece. piece ≡ record { bytes = []; room = room }) }
     {
@@ -38,14 +38,15 @@ impl Piece {
         Ok(Piece { bytes, filled: 0 })
     }
 
-    /// Begins anew.
+    /// Drops the bytes, as at the start of a tick; the room stays.
     pub fn clear(&mut self)
         ensures { self.new ≡ record { bytes = []; room = self.old.room } }
     {
         self.filled = 0;
     }
 
-    /// Adds the blocks of cells with these samples, in an output of this width and kind.
+    /// Adds the blocks of cells with these samples, in an output of this kind; its samples have three bytes if it is
+    /// wide, and otherwise two.
     pub fn add_cells(&mut self, wide: bool, kind: Kind, left: &[i16], right: &[i16])
         requires same { length right.now ≡ length left.now }
         requires room { length self.old.bytes + length left.now * block_length wide kind ≤ self.old.room }
@@ -60,7 +61,8 @@ impl Piece {
         self.filled = end;
     }
 
-    /// Adds the blocks of so many slots without a cell, which are zeros, in an output of this width and kind.
+    /// Adds the blocks of `count` slots without a cell, which are zeros, in an output of this kind; its samples have
+    /// three bytes if it is wide, and otherwise two.
     pub fn add_gaps(&mut self, wide: bool, kind: Kind, count: usize)
         requires { length self.old.bytes + count * block_length wide kind ≤ self.old.room }
         ensures { self.new ≡ record {
@@ -82,7 +84,7 @@ impl Piece {
     }
 }
 
-/// How many bytes the block of a slot has, in an output of this width and kind.
+/// How many bytes the block of a slot has, in an output of this kind: three a sample if it is wide, and otherwise two.
 pub fn block_size(wide: bool, kind: Kind) -> usize
     ensures { result ≡ block_length wide kind }
 {

@@ -22,12 +22,12 @@ pub struct Port {
     /// At how many instants its node offered nothing, those of the tick so far among them.
     pub gaps: u64,
 
-    /// The same of the ticks before this one.
+    /// At how many instants of the ticks before this one its node offered nothing.
     pub gaps_before: u64,
 }
 
 impl Port {
-    // Begins a tick.
+    // Begins a tick: the output has no bytes yet.
     fn begin(&mut self)
         ensures { self.new ≡ emptied self.old }
     {
@@ -35,8 +35,8 @@ impl Port {
         self.gaps_before = self.gaps;
     }
 
-    /// Takes the slots of its node in a segment: that of its first instant, and behind it the cells of these samples,
-    /// which begin no track; or as many slots without a cell where the first one has none.
+    /// Takes the slots of its node in a segment: that of its first instant, and then cells with these samples, which
+    /// begin no track; or as many empty slots if the first one is empty.
     pub fn hear(&mut self, slot: Option<Cell>, left: &[i16], right: &[i16])
         requires same { length right.now ≡ length left.now }
         requires room { HasRoomLeft (suc (length left.now)) self.old }
@@ -60,7 +60,7 @@ impl Port {
         self.piece.add_cells(self.wide, self.kind, left, right);
     }
 
-    // Takes so many slots without a cell, at least one.
+    // Takes `count` slots without a cell, at least one.
     fn hear_gaps(&mut self, count: usize)
         requires some { 0 < count }
         requires room { HasRoomLeft count self.old }

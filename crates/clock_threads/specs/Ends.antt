@@ -13,18 +13,20 @@ use Rattle.clock_threads.specs.declared.task.Task.{Task}
 use Rattle.clock_threads.specs.declared.wires.Wire.{Wire}
 use Rattle.clock_threads.specs.Wires.{wire_at}
 
+-- the ends of buffers at which a task puts
 abbrev pub puts_of : {S R : Type 0} → Task S (ThreadTaps R) → List Side
 puts_of task = task.taps.puts.items
 
+-- the ends of buffers at which a task takes
 abbrev pub takes_of : {S R : Type 0} → Task S (ThreadTaps R) → List Side
 takes_of task = task.taps.takes.items
 
--- nothing changed but the ends
+-- a task changed in nothing but its ends
 pub record SameButEnds {S R : Type 0} (old new : Task S (ThreadTaps R)) : Type 0 where
   pub engine : new.engine ≡ old.engine
   pub local : new.taps.local ≡ old.taps.local
 
--- the window of a buffer between two clocks was closed
+-- the window of a buffer between the tasks of two clocks was closed, with this log
 pub record TasksClosed {S R : Type 0} (buffer : ℕ) (giver taker next_giver next_taker : Task S (ThreadTaps R))
     (log : Answers) : Type 0 where
   pub giver_same : SameButEnds giver next_giver
@@ -33,20 +35,20 @@ pub record TasksClosed {S R : Type 0} (buffer : ℕ) (giver taker next_giver nex
   pub taker_puts : puts_of next_taker ≡ puts_of taker
   pub closed : WasClosed buffer (puts_of giver) (puts_of next_giver) (takes_of taker) (takes_of next_taker) log
 
--- the ends that take were taken out
+-- a task's ends at which it takes were taken out of it
 pub record WasLent {S R : Type 0} (old new : Task S (ThreadTaps R)) (takes : List Side) : Type 0 where
   pub lent : takes ≡ takes_of old
   pub falling : Falling takes
   pub puts : puts_of new ≡ puts_of old
   pub same : SameButEnds old new
 
--- and put back
+-- a task's ends at which it takes were put back into it
 pub record WasPutBack {S R : Type 0} (old new : Task S (ThreadTaps R)) (takes : List Side) : Type 0 where
   pub back : takes_of new ≡ takes
   pub puts : puts_of new ≡ puts_of old
   pub same : SameButEnds old new
 
--- the window of a buffer was closed at the clock that gives, and at these ends
+-- the window of a buffer was closed at the task that puts and at the ends `takes`, which came to `after`
 pub record GiverClosed {S R : Type 0} (buffer : ℕ) (old new : Task S (ThreadTaps R)) (takes after : List Side)
     (log : Answers) : Type 0 where
   pub takes_kept : takes_of new ≡ takes_of old
@@ -54,7 +56,7 @@ pub record GiverClosed {S R : Type 0} (buffer : ℕ) (old new : Task S (ThreadTa
   pub closed : WasClosed buffer (puts_of old) (puts_of new) takes after log
   pub falling : Falling after
 
--- the window of a buffer between two clocks of a list was closed
+-- the window of a buffer was closed between two tasks of a list, number `from` and number `to`
 pub record JoinClosed {S R : Type 0} (from to buffer : ℕ) (old new : List (Task S (ThreadTaps R)))
     (log : Answers) : Type 0 where
   pub giver : Task S (ThreadTaps R)
@@ -66,7 +68,7 @@ pub record JoinClosed {S R : Type 0} (from to buffer : ℕ) (old new : List (Tas
   pub are : new ≡ slice_set (slice_set old from next_giver) to next_taker
   pub tasks : TasksClosed buffer giver taker next_giver next_taker log
 
--- both ends of a buffer have a window open with these chunks, and did nothing
+-- both ends of buffer b have a window that opened with these chunks, and made no call in it
 pub record JoinOpen {S R : Type 0} (wire : Wire) (b : ℕ) (chunks : List (List Cell))
     (tasks : List (Task S (ThreadTaps R))) : Type 0 where
   pub queue : TableId
@@ -74,7 +76,7 @@ pub record JoinOpen {S R : Type 0} (wire : Wire) (b : ℕ) (chunks : List (List 
   pub put : (d : Task S (ThreadTaps R)) → HasEnd (puts_of (slice_index_or tasks wire.from d)) b (opened queue chunks)
   pub take : (d : Task S (ThreadTaps R)) → HasEnd (takes_of (slice_index_or tasks wire.to d)) b (opened queue chunks)
 
--- both ends of a buffer have a window with these windows' answers
+-- the ends of buffer b have the windows `put` and `take`, of one queue
 pub record JoinRan {S R : Type 0} (wire : Wire) (b : ℕ) (put take : Window)
     (tasks : List (Task S (ThreadTaps R))) : Type 0 where
   pub capacity : capacity_of put.queue ≡ wire.capacity
@@ -90,7 +92,7 @@ pub record MayClose {S R : Type 0} (wires : List Wire) (tasks : List (Task S (Th
   pub ran : (b : ℕ) → b < length wires → (wire_at wires b).from ≢ (wire_at wires b).to
       → (put : Window) × (take : Window) × JoinRan (wire_at wires b) b put take tasks
 
--- the tasks as they were, but for the windows of their ends
+-- the tasks changed in nothing but the windows of their ends
 pub record SameTasks {S R : Type 0} (old new : List (Task S (ThreadTaps R))) : Type 0 where
   pub many : length new ≡ length old
   pub same : (k : ℕ) (d : Task S (ThreadTaps R)) → k < length old
@@ -106,7 +108,7 @@ pub record SameTasks {S R : Type 0} (old new : List (Task S (ThreadTaps R))) : T
       → (slice_index_or (takes_of (slice_index_or new k d)) p e).buffer
       ≡ (slice_index_or (takes_of (slice_index_or old k d)) p e).buffer
 
--- what a window left in a buffer, with which the next one opens
+-- a window of buffer b was legal, and the next one opens with the chunks that it left
 pub record JoinTurned {S R : Type 0} (wire : Wire) (b : ℕ) (put take : Window)
     (tasks : List (Task S (ThreadTaps R))) : Type 0 where
   pub rest : List (List Cell)
@@ -120,7 +122,7 @@ pub record AllShut {S R : Type 0} (wires : List Wire) (old new : List (Task S (T
       → JoinRan (wire_at wires b) b put take old
       → JoinTurned (wire_at wires b) b put take new
 
--- and the log of each has the answers
+-- the windows of all buffers that join two clocks were closed, and their answers added to the logs
 pub record AllClosed {S R : Type 0} (wires : List Wire) (old new : List (Task S (ThreadTaps R)))
     (logs after : List (List Answers)) : Type 0 where
   pub shut : AllShut wires old new

@@ -10,7 +10,7 @@ use Rattle.clock_threads.specs.Ends.{puts_of as put_ends, takes_of as take_ends}
 abbrev pub engine_of : {S R : Type 0} → Task S (ThreadTaps R) → ClockEngine S
 engine_of task = task.engine
 
--- so many lists of all buffers of a plan, each before any call
+-- `many` times the lists of all buffers of a plan, before any call
 pub record AreLocals (plan : Plan) (many : ℕ) (locals : List (List LocalBuffer)) : Type 0 where
   pub are_many : length locals ≡ many
   pub each : (k : ℕ) (d : List LocalBuffer) → k < length locals → slice_index_or locals k d ≡ map planned plan.buffers
@@ -21,6 +21,7 @@ pub record IsBare {S R : Type 0} (plan : Plan) (task : Task S (ThreadTaps R)) : 
   pub takes : take_ends task ≡ []
   pub local : task.taps.local ≡ map planned plan.buffers
 
+-- the tasks of these engines, without ends and calls
 pub record AreTasks {S R : Type 0} (plan : Plan) (engines : List (ClockEngine S))
     (tasks : List (Task S (ThreadTaps R))) : Type 0 where
   pub engines_are : map engine_of tasks ≡ engines

@@ -14,24 +14,27 @@ use Rattle.clock_threads.specs.declared.wires.Wire.{Wire}
 use Rattle.clock_threads.specs.Wires.{wire_at}
 use Rattle.clock_threads.specs.Records.{windows_upto}
 
+-- by a buffer's number, what its takes got: chunks, or nothing
 abbrev pub Answers : Type 0
 Answers = ℕ → List (Option (List Cell))
 
--- the calls of a tick of a clock, given all answers and what is accepted in it
+-- what says which calls a clock makes in a tick, by all answers and by what is accepted in it
 abbrev pub Meaning : Type 0
 Meaning = Answers → (ℕ → Bool) → ℕ → ℕ → List Call
 
+-- the calls of tick t of clock m in a setting, with these answers
 abbrev pub meant : Setting → Meaning
 meant setting answers accepted m t = calls_of_tick (answered setting answers) accepted m t
 
+-- the answers of each buffer, and then its others
 abbrev pub and_rest : Answers → Answers → Answers
 and_rest answers rest b = answers b ++ rest b
 
--- what was got in the first so many ticks
+-- what the takes of each buffer got in a clock's first t ticks
 abbrev pub got_by : TickCalls → ℕ → Answers
 got_by tick_calls t b = takes_of b (joined_upto tick_calls.calls t)
 
--- what the windows of each buffer got
+-- what the takes of each buffer got in its windows
 abbrev pub answers_of : (ℕ → List Window) → Answers
 answers_of windows b = flat_map (λ (w : Window). w.1) (windows b)
 
@@ -67,8 +70,8 @@ pub record TakeOwn (meant : Meaning) (wires : List Wire) (clocks : ℕ) : Type 0
   pub none : (answers : Answers) (accepted : ℕ → Bool) (m t b : ℕ) → length wires ≤ b
       → takes_of b (meant answers accepted m t) ≡ []
 
--- the clock that has the taking end of a buffer, where so many clocks run: that of its reader, and where that does not
--- run, that of its feed, which then never takes
+-- the clock that has the taking end of a buffer, if `clocks` clocks run: that of its reader, and if that does not run,
+-- that of its feed, which then never takes
 abbrev pub taker : Setting → (clocks b : ℕ) → ℕ
 taker setting clocks b = if nat_lt (reader setting b) clocks then reader setting b else feeder setting b
 

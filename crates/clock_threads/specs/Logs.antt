@@ -7,7 +7,7 @@ use Rattle.clock_threads.specs.declared.task.Task.{Task}
 use Rattle.clock_threads.specs.declared.wires.Wire.{Wire}
 use Rattle.clock_threads.specs.Wires.{wire_at}
 
--- two counts as one
+-- the sum of two counts
 abbrev pub more_counts : Counts → Counts → Counts
 more_counts one other = record {
   accepted = one.accepted + other.accepted;
@@ -20,10 +20,11 @@ more_counts one other = record {
 abbrev pub answers_of_log : List Answers → Answers
 answers_of_log log = record { puts = flat_map puts_of log; takes = flat_map takes_of_window log }
 
+-- how many answers of each sort a log has
 abbrev pub counts_in : List Answers → Counts
 counts_in log = counts_of (answers_of_log log)
 
--- so many logs of no window
+-- `many` logs without a window
 pub record AreNoLogs (many : ℕ) (logs : List (List Answers)) : Type 0 where
   pub are_many : length logs ≡ many
   pub each : (b : ℕ) (d : List Answers) → b < length logs → slice_index_or logs b d ≡ []
@@ -39,7 +40,7 @@ pub record TookLogs (wires : List Wire) (clock : ℕ) (lists logs after : List (
   pub others : (b : ℕ) (d : List Answers) → (wire_at wires b).from ≢ clock
       → slice_index_or after b d ≡ slice_index_or logs b d
 
--- the logs of all buffers with both ends in one of these clocks are those of its lists, and the others are as they were
+-- the logs of the buffers with both ends in one clock are those of that clock's lists, and the others are as they were
 pub record AreCollected {S R : Type 0} (wires : List Wire) (tasks : List (Task S (ThreadTaps R)))
     (logs after : List (List Answers)) : Type 0 where
   pub many : length after ≡ length logs

@@ -21,7 +21,7 @@ use Rattle.clock_threads.specs.declared.wires.Wire.{Wire}
 use Rattle.clock_threads.specs.Wires.{wire_at, kept}
 use Rattle.clock_threads.specs.Ends.{puts_of as put_ends, takes_of as take_ends, JoinOpen}
 
--- the puts and the takes of a buffer in so many ticks from one on
+-- what the puts and the takes of a buffer met in `count` ticks, from tick `from` on
 abbrev pub window_of : Wire → (ℕ → TickCalls) → (b from count : ℕ) → Window
 window_of wire clock_calls b from count = (
   puts_to b (joined_from (clock_calls wire.from).calls from count),
@@ -29,7 +29,7 @@ window_of wire clock_calls b from count = (
       (joined_from (clock_calls wire.to).calls from count),
 )
 
--- the first so many windows of a buffer
+-- the first windows of buffer b, in a run of N ticks in windows of W
 abbrev pub windows_upto : Wire → (ℕ → TickCalls) → (b W N count : ℕ) → List Window
 windows_upto wire clock_calls b W N zero = []
 windows_upto wire clock_calls b W N (suc j) =
@@ -43,8 +43,8 @@ pub record IsWired {S R : Type 0} (wires : List Wire) (k : ℕ) (task : Task S (
   pub takes : (p : ℕ) (d : Side) → p < length (take_ends task) → let b = (slice_index_or (take_ends task) p d).buffer in
       (b < length wires) × ((wire_at wires b).to ≡ k) × ((wire_at wires b).from ≢ k)
 
--- clock k has made so many of N ticks, each of its sinks got a piece for each of them, and its taps stand for the calls
--- on the buffers that are its own alone
+-- clock k has made t of N ticks, each of its sinks got a piece for each of them, and its taps stand for the calls on
+-- the buffers that are its own alone
 pub record ClockGoing {S R : Type 0} (told : S → SinkTold) (wires : List Wire) (N t k : ℕ) (tick_calls : TickCalls)
     (first now : Task S (ThreadTaps R)) : Type 0 where
   pub gone : EngineGone told t tick_calls (held_of told first.engine) now.engine
@@ -57,20 +57,20 @@ pub record ClockGoing {S R : Type 0} (told : S → SinkTold) (wires : List Wire)
   pub capacities : (b : ℕ) (d : LocalBuffer) → b < length wires
       → (slice_index_or now.taps.local b d).capacity ≡ (wire_at wires b).capacity
 
--- the windows of a buffer between clocks so far are one history, and both ends open the next one
+-- these windows of a buffer between clocks are one history, and both ends open the next window
 pub record JoinGoing {S R : Type 0} (wire : Wire) (b : ℕ) (windows : List Window)
     (tasks : List (Task S (ThreadTaps R))) : Type 0 where
   pub chunks : List (List Cell)
   pub run : IsHistory wire.capacity [] windows chunks
   pub opens : JoinOpen wire b chunks tasks
 
--- a list with the answers of these windows, each closed
+-- a clock's list of a buffer has the answers of these windows, which are closed, and no others
 pub record IsLogged (windows : List Window) (list : LocalBuffer) : Type 0 where
   pub closed_are : list.closed ≡ map told_of windows
   pub opens : list.current ≡ no_answers
 
--- The logs so far: that of a buffer between clocks stands here, and that of a buffer with both ends in one clock in the
--- clock's list.
+-- These windows are in the logs: those of a buffer between clocks in `logs`, and those of a buffer with both ends in
+-- one clock in that clock's list.
 pub record LogsGoing {S R : Type 0} (wires : List Wire) (windows : ℕ
     → List Window) (now : List (Task S (ThreadTaps R))) (logs : List (List Answers)) (d : Task S (ThreadTaps R)) : Type
     0 where
@@ -80,7 +80,7 @@ pub record LogsGoing {S R : Type 0} (wires : List Wire) (windows : ℕ
   pub local : (b : ℕ) (e : LocalBuffer) → b < length wires → (wire_at wires b).from ≡ (wire_at wires b).to
       → IsLogged (windows b) (slice_index_or (slice_index_or now (wire_at wires b).from d).taps.local b e)
 
--- so many windows were made and closed
+-- j windows of W ticks were made by all clocks, in a run of N ticks, and were closed
 pub record Going {S R : Type 0} (told : S → SinkTold) (wires : List Wire) (W N j : ℕ)
     (first now : List (Task S (ThreadTaps R))) (logs : List (List Answers)) (d : Task S (ThreadTaps R)) : Type 0 where
   pub clock_calls : ℕ → TickCalls
@@ -91,7 +91,7 @@ pub record Going {S R : Type 0} (told : S → SinkTold) (wires : List Wire) (W N
       → JoinGoing (wire_at wires b) b (windows_upto (wire_at wires b) clock_calls b W N j) now
   pub logged : LogsGoing wires (λ b. windows_upto (wire_at wires b) clock_calls b W N j) now logs d
 
--- the list of a buffer was closed
+-- the window of a buffer was closed in a task's list
 pub record ListClosed {S R : Type 0} (b : ℕ) (old new : Task S (ThreadTaps R)) : Type 0 where
   pub engine : new.engine ≡ old.engine
   pub puts : put_ends new ≡ put_ends old
@@ -105,7 +105,7 @@ pub record ListClosed {S R : Type 0} (b : ℕ) (old new : Task S (ThreadTaps R))
 abbrev pub IsOwn : (wires : List Wire) → (k b : ℕ) → Type 0
 IsOwn wires k b = ((wire_at wires b).from ≡ k) × ((wire_at wires b).to ≡ k)
 
--- task k, of which the lists of its own buffers below `below` were closed, and no others
+-- in task k the windows of its own buffers below `below` were closed, and of no others
 pub record EndedTask {S R : Type 0} (wires : List Wire) (below k : ℕ) (old new : Task S (ThreadTaps R)) : Type 0 where
   pub engine : new.engine ≡ old.engine
   pub puts : put_ends new ≡ put_ends old
@@ -124,14 +124,14 @@ pub record AllEndedTasks {S R : Type 0} (wires : List Wire) (old new : List (Tas
   pub each : (k : ℕ) (d : Task S (ThreadTaps R)) → k < length old
       → EndedTask wires (length wires) k (slice_index_or old k d) (slice_index_or new k d)
 
--- the tasks have the lists of these wires' buffers
+-- each task has a list for each of these wires' buffers
 pub record HaveLists {S R : Type 0} (wires : List Wire) (tasks : List (Task S (ThreadTaps R))) : Type 0 where
   pub few : length wires < 2 ^ 32
   pub places : (b : ℕ) → b < length wires → (wire_at wires b).from < length tasks
   pub lists : (k : ℕ) (d : Task S (ThreadTaps R)) → k < length tasks
       → length (slice_index_or tasks k d).taps.local ≡ length wires
 
--- the engines as they were
+-- the engines of the tasks did not change
 pub record SameEngines {S R : Type 0} (old new : List (Task S (ThreadTaps R))) : Type 0 where
   pub many : length new ≡ length old
   pub each : (k : ℕ) (d : Task S (ThreadTaps R)) → k < length old

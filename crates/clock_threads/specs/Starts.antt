@@ -9,7 +9,7 @@ use Rattle.clock_threads.specs.declared.wires.Wire.{Wire}
 use Rattle.clock_threads.specs.Wires.{wire_at}
 use Rattle.clock_threads.specs.Ends.{puts_of as put_ends, takes_of as take_ends, SameButEnds, JoinOpen}
 
--- a queue for each of the first buffers, with both its ends, in a window that opens with nothing
+-- each of the first `many` buffers has a queue and both its ends, in a window that opens with nothing
 pub record AreQueues (wires : List Wire) (many : ℕ) (queues : List TableId) (passes : List (Window
     × Window)) : Type 0 where
   pub queues_many : length queues ≡ many
@@ -23,18 +23,19 @@ pub record AreBare {S R : Type 0} (tasks : List (Task S (ThreadTaps R))) : Type 
   pub puts : (k : ℕ) (d : Task S (ThreadTaps R)) → k < length tasks → put_ends (slice_index_or tasks k d) ≡ []
   pub takes : (k : ℕ) (d : Task S (ThreadTaps R)) → k < length tasks → take_ends (slice_index_or tasks k d) ≡ []
 
--- an end was added
+-- a task got one more end at which it puts
 pub record PutAdded {S R : Type 0} (old new : Task S (ThreadTaps R)) (side : Side) : Type 0 where
   pub puts : put_ends new ≡ put_ends old ++ side ∷ []
   pub takes : take_ends new ≡ take_ends old
   pub same : SameButEnds old new
 
+-- a task got one more end at which it takes
 pub record TakeAdded {S R : Type 0} (old new : Task S (ThreadTaps R)) (side : Side) : Type 0 where
   pub takes : take_ends new ≡ take_ends old ++ side ∷ []
   pub puts : put_ends new ≡ put_ends old
   pub same : SameButEnds old new
 
--- both ends of a buffer were added, at two clocks
+-- the ends of a buffer were added to two tasks of a list: `put` to number `from`, and `take` to number `to`
 pub record BothAdded {S R : Type 0} (from to : ℕ) (put take : Side) (old new : List (Task S (ThreadTaps R))) : Type 0
   where
     pub giver : Task S (ThreadTaps R)

@@ -10,13 +10,15 @@ use Rattle.clock_ticks.specs.Pieces.{AreKept, GotBetween, GotPieces, RoseAt}
 use Rattle.clock_threads.specs.declared.task.Task.{Task}
 use Rattle.clock_threads.specs.TickCalls.{TickCalls, joined_from, Agree, HasGone, HasGonePart}
 
+-- an engine stands for t ticks and these answers
 abbrev pub stands_for : {S : Type 0} → ClockEngine S → ℕ → (ℕ → List Answer) → Type 0
 stands_for e t answers = EngineStands e.parts t answers
 
+-- an engine stopped in tick t, after these answers and these calls
 abbrev pub stopped_for : {S : Type 0} → ClockEngine S → ℕ → (ℕ → List Answer) → List Call → Type 0
 stopped_for e t answers made = EngineStopped e.parts t answers made
 
--- the same clock of the same plan, with the same sinks
+-- an engine stayed that of its clock and plan, with the same sinks
 pub record IsSameClock {S : Type 0} (told : S → SinkTold) (old new : ClockEngine S) : Type 0 where
   pub setting : setting_of new.parts ≡ setting_of old.parts
   pub clock : new.parts.clock ≡ old.parts.clock
@@ -37,24 +39,26 @@ pub record DoesStand {S : Type 0} (e : ClockEngine S) : Type 0 where
   pub answers : ℕ → List Answer
   pub stand : EngineStands e.parts ticks answers
 
--- it may make so many ticks
+-- a task may make `count` ticks more
 pub record CanRun {S T : Type 0} (told : S → SinkTold) (buffers : T → ℕ) (count : ℕ) (x : Task S T) : Type 0 where
   pub many : buffers x.taps ≡ length x.engine.parts.scene.plan.now.buffers
   pub stands : DoesStand x.engine
   pub few : x.engine.parts.ticks + count ≤ 1000000000
   pub rooms : HaveTicksRoom told x.engine.parts x.engine.outs count
 
+-- an engine has made t ticks with these calls, since its outputs held `first`
 abbrev pub EngineGone : {S : Type 0} → (S → SinkTold) → (t : ℕ) → TickCalls → (ℕ → Option (List ℕ)) → ClockEngine S
     → Type 0
 EngineGone told t tick_calls first e = HasGone (setting_of e.parts) stands_for (held_of told) e.parts.clock t tick_calls
     first e
 
+-- an engine has made t ticks with these calls, since its outputs held `first`, and stopped in the next one
 abbrev pub EngineGonePart : {S : Type 0} → (S → SinkTold) → (t : ℕ) → TickCalls → (ℕ → Option (List ℕ)) → ClockEngine S
     → Type 0
 EngineGonePart told t tick_calls first e = HasGonePart (setting_of e.parts) stopped_for (held_of told) e.parts.clock t
     tick_calls first e
 
--- it made all ticks, and each sink got a piece for each of them
+-- a task that had made t ticks made `count` more, and each sink got a piece for each of them
 pub record WentOn {S T : Type 0} (told : S → SinkTold) (stands : T → List Call
     → Type 0) (count t : ℕ) (tick_calls : TickCalls) (first : ℕ → Option (List ℕ))
     (old new : Task S T) : Type 0 where
@@ -64,8 +68,8 @@ pub record WentOn {S T : Type 0} (told : S → SinkTold) (stands : T → List Ca
   pub pieces : GotPieces told count old.engine.outs new.engine.outs
   pub taps : (calls : List Call) → stands old.taps calls → stands new.taps (calls ++ joined_from after.calls t count)
 
--- it stopped in a tick of this window, after these calls; each sink got a piece for each tick before it, and at most
--- one in it
+-- a task that had made t ticks stopped in one of the next `count`; each sink got a piece for each tick before that one,
+-- and at most one in it
 pub record Halted {S T : Type 0} (told : S → SinkTold) (stands : T → List Call
     → Type 0) (count t : ℕ) (tick_calls : TickCalls) (first : ℕ → Option (List ℕ))
     (old new : Task S T) : Type 0 where
@@ -78,6 +82,7 @@ pub record Halted {S T : Type 0} (told : S → SinkTold) (stands : T → List Ca
   pub taps : (calls : List Call) → stands old.taps calls
       → stands new.taps (calls ++ (joined_from after.calls t made ++ part.made))
 
+-- a task was run for `count` ticks more: it made them all, or it stopped in one of them
 pub record RanTask {S T : Type 0} (told : S → SinkTold) (stands : T → List Call
     → Type 0) (count : ℕ) (old new : Task S T) : Type 0 where
   pub on : (t : ℕ) (tick_calls : TickCalls) (first : ℕ → Option (List ℕ))
@@ -87,6 +92,8 @@ pub record RanTask {S T : Type 0} (told : S → SinkTold) (stands : T → List C
       → EngineGone told t tick_calls first old.engine → (new.engine.parts.stopped ≡ None → ⊥)
       → Halted told stands count t tick_calls first old new
 
+-- what is known of a task that was run for `count` ticks: its clock and its taps stayed, it made these ticks or stopped
+-- in one of them, and what stopped it
 pub record WasRun {S T : Type 0} (told : S → SinkTold) (stands : T → List Call → Type 0) (buffers : T → ℕ) (same : T → T
     → Type 0)
     (count : ℕ) (old new : Task S T) : Type 0 where

@@ -22,7 +22,7 @@ use Rattle.clock_threads.specs.WindowRuns.{StandsOrStopped}
 use Rattle.buffer_sides.specs.Logs.{told as told_of}
 use Rattle.clock_threads.specs.Logs.{counts_in}
 
--- the engine of clock k, which has made no tick, with room for N
+-- the engine of clock k, which has made no tick, and whose sinks have room for N ticks
 pub record IsFresh {S : Type 0} (told : S
     → SinkTold) (setting : Setting) (N k : ℕ) (engine : ClockEngine S) : Type 0 where
   pub over : setting_of engine.parts ≡ setting
@@ -39,6 +39,7 @@ pub record AreEngines {S : Type 0} (told : S
     pub all : length engines ≡ clocks.running
     pub each : (k : ℕ) (d : ClockEngine S) → k < length engines → IsFresh told setting N k (slice_index_or engines k d)
 
+-- the engines of all running clocks, in their order, over some setting of this plan
 pub record AreAlike {S : Type 0} (told : S
     → SinkTold) (plan : Plan) (clocks : ClockMap) (N : ℕ) (engines : List (ClockEngine S)) : Type 0 where
   pub setting : Setting
@@ -71,7 +72,7 @@ pub record AreTold (run : Run) (counts : List Counts) (logs : List (List Answers
   pub logs_are : logs ≡ map (map told_of) run.buffers
   pub counts_are : counts ≡ map counts_in logs
 
--- a run of all ticks, with its counts and logs
+-- a run in which all ticks were made, with its counts and logs
 pub record HasRunAll {S : Type 0} (told : S
     → SinkTold) (setting : Setting) (clocks : ClockMap) (W N : ℕ) (old new : List (ClockEngine S))
     (counts : List Counts) (logs : List (List Answers)) : Type 0 where
@@ -112,8 +113,9 @@ pub record IsWriteEnd {S : Type 0} (told : S
   pub there : slice_get (outputs_of setting clock) place ≡ Some (sink, node)
   pub rose : RoseAt told place before.outs after.outs
 
--- A run came so far, and this is its record: each clock made the windows that were closed whole, and none is past the
--- one that follows them.
+-- The engines have come as far as this record of a run says, which may have been broken off: each clock has made the
+-- ticks of the windows that were closed, and tried none behind the next window. A write that ended the run is one of
+-- the lowest clock that stopped.
 pub record HasRunSome {S : Type 0} (told : S
     → SinkTold) (setting : Setting) (clocks : ClockMap) (W N : ℕ) (old new : List (ClockEngine S)) (end : End) : Type 0
   where

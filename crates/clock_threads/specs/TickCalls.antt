@@ -11,15 +11,15 @@ pub record TickCalls : Type 0 where
   pub calls : ℕ → List Call
   pub accepted : ℕ → ℕ → Bool
 
--- those of so many ticks from one on
+-- the calls of `count` ticks, from tick `from` on
 abbrev pub joined_from : (ℕ → List Call) → (from count : ℕ) → List Call
 joined_from calls from count = joined_upto (λ j. calls (from + j)) count
 
--- what was got in the first so many ticks
+-- what the takes of a buffer got in a clock's first t ticks
 abbrev pub answers_by : TickCalls → ℕ → ℕ → List Answer
 answers_by tick_calls t buffer = answers_in buffer (joined_upto tick_calls.calls t)
 
--- the same in the first so many ticks
+-- in the first t ticks the calls did not change, nor what the buffers accepted
 pub record Agree (t : ℕ) (old new : TickCalls) : Type 0 where
   pub calls : (i : ℕ) → i < t → new.calls i ≡ old.calls i
   pub accepted : (i : ℕ) → i < t → new.accepted i ≡ old.accepted i
@@ -30,7 +30,7 @@ AreTicks setting m t tick_calls =
     (i : ℕ) → i < t → (rest : ℕ → List Answer) → tick_calls.calls i
     ≡ calls_of_tick (with_rest setting (answers_by tick_calls (suc i)) rest) (tick_calls.accepted i) m i
 
--- a clock has made so many ticks
+-- a clock has made t ticks with these calls, and each output has grown by its bytes of them
 pub record HasGone {E : Type 0} (setting : Setting) (stands : E → ℕ → (ℕ → List Answer) → Type 0) (held : E → ℕ
     → Option (List ℕ))
     (m t : ℕ) (tick_calls : TickCalls) (first : ℕ → Option (List ℕ)) (e : E) : Type 0 where
@@ -40,7 +40,7 @@ pub record HasGone {E : Type 0} (setting : Setting) (stands : E → ℕ → (ℕ
       → held e sink ≡ grown (ticks_bytes (with_rest setting (answers_by tick_calls t) rest) output.wide node t)
       (first sink)
 
--- a clock has made so many ticks, and stopped in the next one after these calls: each output has grown by its bytes of
+-- a clock has made t ticks, and stopped in the next one after the calls `made`: each output has grown by its bytes of
 -- these ticks, and by a front of those of the next one
 pub record HasGonePart {E : Type 0} (setting : Setting) (halts : E → ℕ → (ℕ → List Answer) → List Call
     → Type 0) (held : E → ℕ → Option (List ℕ))

@@ -7,6 +7,7 @@ use Rattle.stream_meaning.specs.Instants.{Setting}
 use Rattle.clock_ticks.specs.declared.engine.ClockEngine.{ClockEngine}
 use Rattle.clock_threads.specs.ThreadRuns.{AreEngines}
 
+-- the engines of all running clocks of some plan without buffers
 pub record AreUnbuffered {S : Type 0} (told : S → SinkTold) (N : ℕ) (engines : List (ClockEngine S)) : Type 0 where
   pub plan : Plan
   pub setting : Setting

@@ -10,6 +10,7 @@ use Rattle.clock_threads.specs.TaskRuns.{CanRun, WasRun}
 abbrev pub with_taps : {S T : Type 0} → T → ClockEngine S → Task S T
 with_taps taps engine = record { engine = engine; taps = taps }
 
+-- taps of no buffer: how many buffers they have, for which calls they stand, and which of them are the same
 abbrev pub no_buffers : ⊤ → ℕ
 no_buffers taps = 0
 
@@ -19,11 +20,11 @@ any_calls taps calls = ⊤
 abbrev pub any_taps : ⊤ → ⊤ → Type 0
 any_taps old new = ⊤
 
--- it may make so many ticks
+-- an engine of a plan without buffers may make `count` ticks more
 abbrev pub CanRunUnbuffered : {S : Type 0} → (told : S → SinkTold) → (count : ℕ) → ClockEngine S → Type 0
 CanRunUnbuffered told count engine = CanRun told no_buffers count (with_taps tt engine)
 
--- what it did
+-- what is known of an engine of a plan without buffers that was run for `count` ticks
 abbrev pub WasRunUnbuffered : {S : Type 0} → (told : S → SinkTold) → (count : ℕ) → (old new : ClockEngine S) → Type 0
 WasRunUnbuffered told count old new = WasRun told any_calls no_buffers any_taps count (with_taps tt old)
     (with_taps tt new)

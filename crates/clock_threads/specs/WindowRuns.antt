@@ -34,7 +34,7 @@ pub record IsReady {S R : Type 0} (told : S
       → length (slice_index_or tasks k d).engine.parts.scene.plan.now.buffers ≡ length wires
   pub begun : (d : Task S (ThreadTaps R)) → Going told wires W N 0 tasks tasks logs d
 
--- all ticks were made
+-- all N ticks of each clock were made, in windows of W; `d` stands where a list has no task
 pub record DoneAt {S R : Type 0} (told : S
     → SinkTold) (wires : List Wire) (W N : ℕ) (first now : List (Task S (ThreadTaps R))) (logs : List (List Answers))
     (d : Task S (ThreadTaps R)) : Type 0 where
@@ -43,13 +43,14 @@ pub record DoneAt {S R : Type 0} (told : S
   pub tight : (i : ℕ) → i < windows → start W N i < N
   pub going : Going told wires W N windows first now logs d
 
+-- all N ticks of each clock were made, in windows of W
 abbrev pub RunDone : {S R : Type 0} → (told : S → SinkTold) → List Wire → (W N : ℕ)
     → (first now : List (Task S (ThreadTaps R))) → (logs : List (List Answers)) → Type 0
 RunDone {S} {R} told wires W N first now logs = (d : Task S (ThreadTaps R)) → DoneAt told wires W N first now logs d
 
--- How far a clock came in the window that follows so many: it has made so many ticks, and maybe stopped in the next
--- one, which is still of that window; since the window began it made these calls; and each of its sinks got a piece for
--- each of the ticks, and at most one more where it stopped.
+-- How far a clock came in the window after the first `closed` ones: it has made so many ticks, and maybe stopped in the
+-- next one, which is still of that window; since the window began it made these calls; and each of its sinks got a
+-- piece for each of the ticks, and at most one more where it stopped.
 pub record CameTo {S R : Type 0} (told : S
     → SinkTold) (W N closed : ℕ) (tick_calls : TickCalls) (since : List Call) (first now : Task S (ThreadTaps R)) : Type
     0 where
@@ -70,7 +71,7 @@ StandsOrStopped engine made tried answers =
     ((tried ≡ made) × EngineStands engine.parts made answers)
     ⊎ ((tried ≡ suc made) × (calls : List Call) × EngineStopped engine.parts made answers calls)
 
--- The run came so far: no clock is past the window that follows those that were closed, and all ended the window before
+-- How far a run came: no clock is past the window that follows those that were closed, and all ended the window before
 -- it, or those that did not stop ended it. The windows of each buffer, the open one too, are one history, and a clock's
 -- calls on a buffer of its own are in order.
 pub record PartAt {S R : Type 0} (told : S
@@ -95,6 +96,7 @@ pub record PartAt {S R : Type 0} (told : S
       (on b (joined_upto (clock_calls (wire_at wires b).from).calls (start W N closed)
       ++ since (wire_at wires b).from)) chunks
 
+-- how far a run of N ticks in windows of W came
 abbrev pub RunPart : {S R : Type 0} → (told : S → SinkTold) → List Wire → (W N : ℕ)
     → (first now : List (Task S (ThreadTaps R))) → Type 0
 RunPart {S} {R} told wires W N first now = (d : Task S (ThreadTaps R)) → PartAt told wires W N first now d
@@ -104,7 +106,7 @@ abbrev pub end_by : (clock : ℕ) → TickFault → End
 end_by clock (Refused sink) = Write clock sink
 end_by clock OutOfMemory = NoMemory
 
--- the lowest clock that stopped tells the end
+-- the end is that of the lowest clock that stopped, by its fault
 pub record IsToldByLowest {S R : Type 0} (tasks : List (Task S (ThreadTaps R))) (end : End) : Type 0 where
   pub place : ℕ
   pub within : place < length tasks

@@ -18,7 +18,7 @@ use Rattle.clock_threads.specs.Listed.{listed}
 use Rattle.clock_threads.specs.ThreadRuns.{AreEngines, HasRun}
 use Rattle.clock_threads.specs.EngineTasks.{engine_of}
 
--- the wires are those of a plan's buffers, between so many clocks
+-- the wires are those of a plan's buffers, between `clocks` clocks
 pub record AreLaid (plan : Plan) (clocks : ℕ) (wires : List Wire) : Type 0 where
   pub many : length wires ≡ length plan.buffers
   pub few : length wires < 4294967296
@@ -34,13 +34,15 @@ pub record AreFresh {S : Type 0} (told : S
   pub engines_are : AreEngines told plan clocks N setting engines
   pub wires_are : AreWires setting clocks.running wires
 
+-- the engines of all clocks of some setting of this plan, and the wires of its buffers
 pub record AreSomeFresh {S : Type 0} (told : S
     → SinkTold) (plan : Plan) (wires : List Wire) (N : ℕ) (engines : List (ClockEngine S)) : Type 0 where
   pub setting : Setting
   pub clocks : ClockMap
   pub are : AreFresh told plan wires N setting clocks engines
 
--- all ticks were made; here are the tasks and the logs, before the lists' logs are put to the others
+-- all N ticks of each clock were made, in windows of W: `logs` has the answers of buffers between clocks, and the
+-- tasks' lists those of the others
 pub record HasRunTasks {S R : Type 0} (told : S
     → SinkTold) (wires : List Wire) (setting : Setting) (clocks : ClockMap) (W N : ℕ)
     (old : List (ClockEngine S)) (tasks : List (Task S (ThreadTaps R))) (logs : List (List Answers)) : Type 0 where

@@ -11,14 +11,14 @@ use buffer_ends::{BufferLog, TakeEnd, ThreadTaps, WindowLog};
 use liq_base::Memory;
 use std::alloc::Global;
 
-// Takes the ends out that take.
+// Takes out of a task the ends at which it takes.
 fn lent<'a, O, R>(alloc: Global, task: &mut Task<'_, O, ThreadTaps<'a, R>>) -> Vec<TakeEnd<'a>>
     ensures { WasLent task.old task.new result.items }
 {
     task.taps.lend_takes(alloc)
 }
 
-// Puts them back.
+// Puts back into a task the ends at which it takes.
 fn put_back<'a, O, R>(task: &mut Task<'_, O, ThreadTaps<'a, R>>, takes: Vec<TakeEnd<'a>>)
     requires { Falling takes.items }
     ensures { WasPutBack task.old task.new takes.entry.items }
@@ -26,7 +26,8 @@ fn put_back<'a, O, R>(task: &mut Task<'_, O, ThreadTaps<'a, R>>, takes: Vec<Take
     task.taps.put_back(takes);
 }
 
-// Closes the window of a buffer, with the ends that take of another clock.
+// Closes the window of a buffer at the task that puts, with the ends at which the other clock's task takes. Returns the
+// window's answers.
 fn close_giver<O, R>(
     alloc: Global,
     task: &mut Task<'_, O, ThreadTaps<'_, R>>,
@@ -40,7 +41,7 @@ fn close_giver<O, R>(
     task.taps.close_with(alloc, takes, buffer)
 }
 
-// Closes the window of a buffer between two clocks.
+// Closes the window of a buffer between the clocks `from` and `to`. Returns the window's answers.
 fn close_join<O, R>(
     alloc: Global,
     tasks: &mut [Task<'_, O, ThreadTaps<'_, R>>],
@@ -60,7 +61,7 @@ fn close_join<O, R>(
     log
 }
 
-// Adds the answers of a window to a buffer's log, unless those of another one could not be added.
+// Adds the answers of a window to a buffer's log, unless memory was refused before, by `kept`.
 fn add_window(
     kept: Result<(), Memory>,
     log: &mut BufferLog,

@@ -17,14 +17,14 @@ fn counted(answers: &[bool]) -> (u64, u64)
     (yes, no)
 }
 
-// A sum; refused as memory is where no number is as large.
+// The sum of two numbers; above 2^64 - 1 it is refused, as memory is.
 fn added(one: u64, other: u64) -> Result<u64, Memory>
     ensures { IfOk result (λ sum. sum ≡ one + other) }
 {
     one.checked_add(other).ok_or(Memory)
 }
 
-// Counts, and those of one window more.
+// The sum of these counts and those of a window.
 fn with_window(counts: Counts, window: &WindowLog) -> Result<Counts, Memory>
     ensures { IfOk result (λ sum. sum ≡ more_counts counts (counts_of window.now)) }
 {
@@ -42,7 +42,7 @@ fn with_window(counts: Counts, window: &WindowLog) -> Result<Counts, Memory>
     })
 }
 
-// The counts of these windows.
+// The counts of the answers in these windows.
 fn count_windows(windows: &[WindowLog]) -> Result<Counts, Memory>
     ensures { IfOk result (λ counts. counts ≡ counts_in windows.now) }
 {
@@ -54,14 +54,14 @@ fn count_windows(windows: &[WindowLog]) -> Result<Counts, Memory>
     Ok(counts)
 }
 
-// The counts of a buffer.
+// The counts of a buffer's log.
 fn count_log(log: &BufferLog) -> Result<Counts, Memory>
     ensures { IfOk result (λ counts. counts ≡ counts_in log.now) }
 {
     count_windows(log.windows.as_slice())
 }
 
-// The counts of each buffer.
+// The counts of each buffer's log.
 pub(crate) fn count_logs(alloc: Global, logs: &[BufferLog]) -> Result<Vec<Counts>, Memory>
     ensures { IfOk result (λ counts. counts.items ≡ map counts_in logs.now) }
 {

@@ -11,6 +11,7 @@ use buffer_queue::{BufferQueue, PutPass, TakePass};
 use liq_base::Memory;
 use std::alloc::Global;
 
+// Adds to a clock's task an end at which it puts. Its buffer has a lower number than those of the ends before.
 fn add_put<'q, O, R>(
     task: &mut Task<'_, O, ThreadTaps<'q, R>>,
     end: PutEnd<'q>,
@@ -23,6 +24,7 @@ fn add_put<'q, O, R>(
     task.taps.add_put(end)
 }
 
+// Adds to a clock's task an end at which it takes.
 fn add_take<'q, O, R>(
     task: &mut Task<'_, O, ThreadTaps<'q, R>>,
     end: TakeEnd<'q>,
@@ -35,7 +37,7 @@ fn add_take<'q, O, R>(
     task.taps.add_take(end)
 }
 
-// Hands both ends of a buffer to two clocks.
+// Hands the ends of a buffer to two clocks: `put` to clock `from`, and `take` to clock `to`.
 fn join_one<'q, O, R>(
     tasks: &mut [Task<'_, O, ThreadTaps<'q, R>>],
     from: usize,
@@ -56,7 +58,7 @@ fn join_one<'q, O, R>(
     Ok(())
 }
 
-// Hands both ends of each buffer that joins two clocks to these.
+// Hands both ends of each buffer that joins two clocks to their tasks.
 pub(crate) fn join_all<'q, O, R>(
     wires: &[Wire],
     queues: &'q Vec<BufferQueue>,

@@ -8,7 +8,7 @@ use liq_base::Memory;
 use std::alloc::Global;
 use std::mem;
 
-// So many logs of no window.
+// `count` logs without a window.
 pub(crate) fn no_logs(alloc: Global, count: usize) -> Result<Vec<BufferLog>, Memory>
     ensures { IfOk result (λ logs. AreNoLogs count logs.items) }
 {
@@ -21,7 +21,7 @@ pub(crate) fn no_logs(alloc: Global, count: usize) -> Result<Vec<BufferLog>, Mem
     Ok(logs)
 }
 
-// Puts the logs of the lists of a clock where the buffers with both ends in it have theirs.
+// Moves the logs of a clock's lists to `logs`, for the buffers with both ends in this clock.
 pub(crate) fn take_logs(wires: &[Wire], clock: usize, lists: Vec<BufferLog>, logs: &mut [BufferLog])
     ensures { TookLogs wires.now clock lists.items logs.old logs.new }
 {
@@ -44,7 +44,7 @@ pub(crate) fn take_logs(wires: &[Wire], clock: usize, lists: Vec<BufferLog>, log
     }
 }
 
-// Exchanges a buffer's log for another.
+// Exchanges a buffer's log for another one.
 fn exchange(log: &mut BufferLog, other: &mut BufferLog)
     ensures { log.new ≡ other.old }
 {

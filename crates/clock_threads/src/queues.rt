@@ -8,7 +8,7 @@ use buffer_queue::{BufferQueue, PutPass, TakePass};
 use liq_base::Memory;
 use std::alloc::Global;
 
-// A queue for each buffer, with its ends.
+// The queues of all buffers, by their numbers, and the two ends of each.
 pub(crate) fn make_queues(
     alloc: Global,
     wires: &[Wire],

@@ -16,7 +16,7 @@ use std::alloc::Global;
 use std::sync::Wait;
 use std::thread::Threads;
 
-/// Renders so many ticks, at most 1000000000, of each clock, by a thread for each clock, in windows of so many ticks,
+/// Renders `ticks` ticks, at most 1000000000, of each clock, by a thread for each clock, in windows of `window` ticks,
 /// at least one. The engines are those of all running clocks of this plan, in clock order, and made no tick; before
 /// each tick the gate is entered. A clock that stops does so at its tick; the others end their window, and no further
 /// one begins. The same engines come back in the same order, whatever the end is. Where a sink refused bytes, the end

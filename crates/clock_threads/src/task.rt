@@ -13,7 +13,7 @@ pub struct Task<'a, O, T> {
     pub taps: T,
 }
 
-// So many ticks, each after the gate. A clock with a fault stops at its tick.
+// Makes `count` ticks of a clock, each after the gate is entered. A clock with a fault stops at its tick.
 pub(crate) fn run_ticks<O: Sink, T: Taps, G: Gate>(
     alloc: Global,
     engine: &mut ClockEngine<'_, O>,
@@ -34,7 +34,7 @@ pub(crate) fn run_ticks<O: Sink, T: Taps, G: Gate>(
 }
 
 impl<'a, O: Sink, T: Taps> Task<'a, O, T> {
-    /// So many ticks, each after the gate. A clock with a fault stops at its tick.
+    /// Makes `count` ticks of the clock, each after the gate is entered. A clock with a fault stops at its tick.
     pub fn run<G: Gate>(&mut self, alloc: Global, gate: &G, count: u64)
         requires { CanRun O.told T.buffers count self.old }
         ensures { WasRun O.told T.stands T.buffers T.same count self.old self.new }

@@ -13,7 +13,7 @@ use liq_base::Memory;
 use plan_core::Plan;
 use std::alloc::Global;
 
-// The lists of each clock.
+// The lists of all buffers of a plan, `count` times: for each clock.
 fn locals_of(alloc: Global, plan: &Plan, count: usize) -> Result<Vec<LocalTaps>, Memory>
     ensures { IfOk result (λ locals. AreLocals plan.now count locals.items) }
 {

@@ -15,7 +15,8 @@ use liq_base::{Gate, Sink};
 use std::alloc::Global;
 use std::thread::Threads;
 
-// All clocks make so many ticks, in windows of so many. Where no engine keeps its marks it takes no memory.
+// All clocks make `ticks` ticks, in windows of `window` ticks, over a plan without buffers. Where no engine keeps its
+// marks it takes no memory.
 pub(crate) fn run_unbuffered<O: Sink + Send, G: Gate + Sync, R: Threads + Sync>(
     rt: &R,
     alloc: Global,

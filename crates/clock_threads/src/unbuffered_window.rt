@@ -39,7 +39,8 @@ impl Taps for UnbufferedTaps {
     }
 }
 
-// So many ticks of one engine, each after the gate. An engine with a fault stops at its tick.
+// Makes `count` ticks of one engine over a plan without buffers, each after the gate is entered. An engine with a fault
+// stops at its tick.
 fn run_unbuffered_ticks<O: Sink, G: Gate>(
     alloc: Global,
     engine: &mut ClockEngine<'_, O>,
@@ -58,7 +59,7 @@ fn run_unbuffered_ticks<O: Sink, G: Gate>(
     );
 }
 
-/// Each engine makes so many ticks, over a plan without buffers, at the same time as the others.
+/// Each engine makes `count` ticks, over a plan without buffers, at the same time as the others.
 pub fn run_unbuffered_window<O: Sink + Send, G: Gate + Sync, R: Threads + Sync>(
     rt: &R,
     alloc: Global,

@@ -12,7 +12,7 @@ use liq_base::{Gate, Sink};
 use std::alloc::Global;
 use std::thread::Threads;
 
-// How the run ends, where a clock stopped: the lowest tells.
+// How the run ends, if a clock stopped: at the fault of the lowest clock that did; `None` if none did.
 fn stopped_among<O>(engines: &[ClockEngine<'_, O>]) -> Option<End>
     ensures none { IfNone result ((k : ℕ) (d : _) → k < length engines.now
         → (slice_index_or engines.now k d).parts.stopped ≡ None) }
@@ -26,8 +26,8 @@ fn stopped_among<O>(engines: &[ClockEngine<'_, O>]) -> Option<End>
     None
 }
 
-/// All engines make so many ticks over a plan without buffers, in windows of so many. Where no engine keeps its marks
-/// it takes no memory.
+/// All engines make `ticks` ticks over a plan without buffers, in windows of `window` ticks. Where no engine keeps its
+/// marks it takes no memory.
 pub fn run_unbuffered_windows<O: Sink + Send, G: Gate + Sync, R: Threads + Sync>(
     rt: &R,
     alloc: Global,

@@ -9,7 +9,7 @@ use std::alloc::Global;
 use std::thread;
 use std::thread::Threads;
 
-/// Each task makes so many ticks, at the same time as the others.
+/// Each task makes `count` ticks, at the same time as the others.
 pub fn run_window<O: Sink + Send, T: Taps + Send, G: Gate + Sync, R: Threads + Sync>(
     rt: &R,
     alloc: Global,

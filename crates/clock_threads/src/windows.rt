@@ -27,7 +27,7 @@ pub(crate) fn end_of(clock: u32, fault: TickFault) -> End
     }
 }
 
-// How the run ends, where a clock stopped: the lowest tells.
+// How the run ends, if a clock stopped: at the fault of the lowest clock that did; `None` if none did.
 fn stopped_in<O, R>(tasks: &[Task<'_, O, ThreadTaps<'_, R>>]) -> Option<End>
     ensures none { IfNone result ((k : ℕ) (d : _) → k < length tasks.now
         → (slice_index_or tasks.now k d).engine.parts.stopped ≡ None) }
@@ -50,7 +50,7 @@ fn tell_joins<G: Gate>(wires: &[Wire], gate: &G) {
     }
 }
 
-/// All clocks make so many ticks, in windows of so many. The gate is told first which clocks a buffer joins.
+/// All clocks make `ticks` ticks, in windows of `window` ticks. The gate is told first which clocks a buffer joins.
 pub fn run_windows<O: Sink + Send, G: Gate + Sync, R: Threads + Wait + Sync>(
     rt: &R,
     alloc: Global,

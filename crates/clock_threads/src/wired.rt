@@ -26,7 +26,7 @@ use std::alloc::Global;
 use std::sync::Wait;
 use std::thread::Threads;
 
-// The ends are handed out, and all windows are run.
+// Hands out the ends of the buffers, and makes all windows.
 fn run_tasks<'q, O: Sink + Send, G: Gate + Sync, R: Threads + Wait + Sync>(
     rt: &R,
     alloc: Global,
@@ -62,7 +62,7 @@ fn run_tasks<'q, O: Sink + Send, G: Gate + Sync, R: Threads + Wait + Sync>(
     run_windows(rt, alloc, wires, tasks, logs, ticks, window, gate)
 }
 
-// The answer of a run of which no log is told.
+// The result of a run with this end, without counts and logs.
 pub(crate) fn ended(alloc: Global, end: End) -> RunEnd
     ensures end { result.end ≡ end }
     ensures none { (result.counts.items ≡ []) × (result.logs.items ≡ []) }
@@ -74,7 +74,7 @@ pub(crate) fn ended(alloc: Global, end: End) -> RunEnd
     }
 }
 
-// The answer of a run with these logs.
+// The result of a run: with these logs and their counts if it is done, and otherwise without.
 fn told(alloc: Global, logs: Vec<BufferLog>, end: End) -> RunEnd
     ensures done { result.end ≡ Done → (end ≡ Done) × (result.logs.items ≡ logs.items)
         × (result.counts.items ≡ map counts_in logs.items) }
@@ -89,7 +89,8 @@ fn told(alloc: Global, logs: Vec<BufferLog>, end: End) -> RunEnd
     }
 }
 
-// All clocks make so many ticks over these wires, in windows of so many. The engines come back, whatever the end is.
+// All clocks make `ticks` ticks over these wires, in windows of `window` ticks. The engines come back, whatever the end
+// is.
 pub(crate) fn run_wired<'a, O: Sink + Send, G: Gate + Sync, R: Threads + Wait + Sync>(
     rt: &R,
     alloc: Global,

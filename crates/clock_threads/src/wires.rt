@@ -11,7 +11,8 @@ use liq_base::Memory;
 use plan_core::{BufferPlan, Plan};
 use std::alloc::Global;
 
-/// The main clock of a buffer's feed, that of its reader, and how many chunks it holds at most.
+/// The main clock of a buffer's feed, that of its reader, and how many chunks it holds at most. If the reader's clock
+/// does not run, `to` is the feed's.
 #[derive(Clone, Copy, Debug, Drop)]
 pub struct Wire {
     pub from: u32,
@@ -19,7 +20,7 @@ pub struct Wire {
     pub capacity: u32,
 }
 
-// The buffer of a number.
+// The buffer of this number.
 fn buffer_at(buffers: &[BufferPlan], number: usize) -> &BufferPlan
     requires { number < length buffers.now }
     ensures { (d : ThePlan) → result.now ≡ slice_index_or buffers.now number d }
@@ -27,7 +28,7 @@ fn buffer_at(buffers: &[BufferPlan], number: usize) -> &BufferPlan
     &buffers[number]
 }
 
-// The wire of a buffer between the clocks of two nodes.
+// The wire of a buffer with node `feed` at its feed and node `reads` as its reader.
 fn wire_of(plan: &Plan, clocks: &ClockMap, feed: u32, reads: u32, buffer: &BufferPlan) -> Wire
     ensures { (other : Setting)
         → IsWireAt (over plan.now clocks.now.of other) clocks.now.running feed reads buffer.now.capacity result }

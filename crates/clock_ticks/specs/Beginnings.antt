@@ -29,13 +29,13 @@ pub record AreNewStates (plan : Plan) (clocks : List NodeClock) (m n : ℕ) (sta
   pub each : (i : ℕ) (node : Node) (state : NodeState) → slice_get plan.nodes i ≡ Some node
       → slice_get states i ≡ Some state → IsNewState plan clocks m i node state
 
--- an output before the first tick
+-- an output before the first tick: it has no gaps, and room for the bytes of a tick
 pub record IsNewPort (setting : Setting) (port : Port) : Type 0 where
   pub kind : port.kind ≡ kind_of setting port.node
   pub wide : port.wide ≡ is_wide setting port.sink
   pub room : setting.plan.frame * block_length port.wide port.kind ≤ port.piece.room
   pub gaps : port.gaps ≡ 0
 
--- a feed before the first tick
+-- a feed before the first tick: it has room for the cells of a tick
 pub record IsNewFeed (frame : ℕ) (feed : FeedPort) : Type 0 where
   pub room : frame ≤ feed.frame.room

@@ -46,6 +46,7 @@ outputs_from setting m i (Feed buffer node ∷ sinks) = outputs_from setting m (
 abbrev pub outputs_of : Setting → ℕ → List (ℕ × ℕ)
 outputs_of setting m = outputs_from setting m 0 setting.plan.sinks
 
+-- the number of an output among the sinks of the plan, and its node
 abbrev pub output_of : Port → ℕ × ℕ
 output_of port = (port.sink, port.node)
 
@@ -60,10 +61,12 @@ feeds_from setting m (Feed buffer node ∷ sinks) =
 abbrev pub feeds_of : Setting → ℕ → List (ℕ × ℕ)
 feeds_of setting m = feeds_from setting m setting.plan.sinks
 
+-- the buffer and the node of a feed
 abbrev pub feed_of : FeedPort → ℕ × ℕ
 feed_of feed = (feed.buffer, feed.node)
 
--- an engine with the state, outputs and feeds of another one
+-- an engine with the states, outputs, feeds and marks of another one, which made so many ticks and was stopped by this
+-- fault, or by none
 abbrev pub after_tick : EngineParts → (other : EngineParts) → (ticks : ℕ) → Option TickFault → EngineParts
 after_tick parts other ticks stopped = record {
   scene = parts.scene;
@@ -78,13 +81,13 @@ after_tick parts other ticks stopped = record {
   stopped = stopped;
 }
 
--- these are the clocks of a plan's nodes that `assign` answers
+-- these are the clocks of a plan's nodes, by the plan's clock map
 pub record AreClocksOf (plan : Plan) (clocks : List NodeClock) : Type 0 where
   pub map : ClockMap
   pub assigned : IsClockMap plan map
   pub are : clocks ≡ map.of
 
--- the parts of an engine of main clock m fit together
+-- the parts of an engine fit together
 pub record AreParts (parts : EngineParts) : Type 0 where
   pub plan : IsWellFormed parts.scene.plan.now
   pub nodes : AreNodes parts.scene.plan.now.nodes
@@ -114,9 +117,9 @@ pub record IsWhole {S : Type 0} (engine : Engine S) : Type 0 where
   pub parts : AreParts engine.parts
   pub sinks : length engine.outs ≡ length engine.parts.ports.items
 
--- an engine that stands for so many ticks and these answers: no tick of it had a fault; whatever answers follow, its
--- readers have taken exactly these, and its state is the one that the instants imply. No answers are those of buffers
--- that its clock does not read. An engine that keeps its marks has those of the ticks, and so has one without ticks
+-- an engine stands for so many ticks and these answers: no tick of it had a fault; whatever answers follow, its readers
+-- have taken exactly these, and its state is the one that the instants imply. Buffers that its clock does not read have
+-- no answers. If it keeps its marks, or made no tick, it has the marks of the ticks
 pub record EngineStands (parts : EngineParts) (ticks : ℕ) (answers : ℕ → List Answer) : Type 0 where
   pub made : parts.ticks ≡ ticks
   pub runs : parts.stopped ≡ None
@@ -132,8 +135,8 @@ pub record EngineStands (parts : EngineParts) (ticks : ℕ) (answers : ℕ → L
       → slice_get parts.cues.lists.items k ≡ Some list
       → list.marks.items ≡ map mark_of (cues (with_rest (setting_of parts) answers rest) port.node ticks)
 
--- an engine that stopped in tick t, before which it stood for these answers, after these calls: they are the first ones
--- of the tick's, whatever answers follow theirs; and its ticks and gaps are those of the t ticks before
+-- an engine stopped in tick t after the calls `made`, before which it stood for these answers: the calls are the first
+-- ones of the tick's, whatever answers follow theirs; its ticks and gaps are those of the t ticks before
 pub record EngineStopped (parts : EngineParts) (t : ℕ) (answers : ℕ → List Answer) (made : List Call) : Type 0 where
   pub ticks_are : parts.ticks ≡ t
   pub fault : TickFault
@@ -160,7 +163,7 @@ held_in told (output ∷ outputs) (out ∷ outs) sink = if nat_eq output.0 sink 
 abbrev pub held_of : {S : Type 0} → (S → SinkTold) → Engine S → ℕ → Option (List ℕ)
 held_of told engine = held_in told (outputs_of (setting_of engine.parts) engine.parts.clock) engine.outs
 
--- what changes in a tick
+-- what changes in a tick of an engine, and its taps
 abbrev pub hearing_of : {T : Type 0} → EngineParts → T → Hearing T
 hearing_of parts taps = record {
   state = parts.state;

@@ -23,7 +23,8 @@ use Rattle.clock_ticks.specs.declared.cues.Cues.{Cues}
 use Rattle.clock_ticks.specs.Cues.{HasMarked, HasMarkedSome, marks_if}
 use Rattle.clock_ticks.specs.Standing.{ClockStateStands}
 
--- what holds of a setting, whatever its answers are
+-- what is known of a setting, whatever its answers are: the slots and the calls of its sub-clocks, that no buffer has
+-- two readers, and which nodes are demanded of themselves
 pub record IsMeant (setting : Setting) (sub : ℕ → ℕ → List Slot) (own : List Bool) : Type 0 where
   pub meaning : IsMeaning setting sub
   pub down : GoDown setting sub
@@ -34,7 +35,7 @@ pub record IsMeant (setting : Setting) (sub : ℕ → ℕ → List Slot) (own : 
 abbrev pub slot_in : Setting → (sub : ℕ → ℕ → List Slot) → NodeClock → (i n : ℕ) → Slot
 slot_in setting sub clock i n = offer (moment_after setting sub clock (first_instants setting sub clock n)) i
 
--- the calls of so many instants from n on
+-- the calls of `count` instants of a clock, from instant n on
 abbrev pub calls_from : Setting → (sub : ℕ → ℕ → List Slot) → NodeClock → (n count : ℕ) → List Call
 calls_from setting sub clock n count = joined_upto
     (λ j. calls_of setting sub clock (first_instants setting sub clock (n + j))) count
@@ -49,12 +50,12 @@ pub record Outcome : Type 0 where
   pub calls : List Call
   pub state : ClockState
 
--- such an outcome
+-- the outcome with these slots, calls and states
 abbrev pub outcome : (ℕ → List Slot) → List Call → ClockState → Outcome
 outcome slots calls state = record { slots = slots; calls = calls; state = state }
 
--- so many instants more came to this: the states stand for them too, and the slots of the nodes that their own clock
--- demands of itself, and the calls, are theirs
+-- a clock that had made n instants made `count` more, with this outcome: the states stand for them too, and the slots
+-- of the nodes that the clock demands of themselves, and the calls, are theirs
 pub record HasMadeInstants (setting : Setting) (sub : ℕ → ℕ
     → List Slot) (own : List Bool) (clock : NodeClock) (n count : ℕ) (front : ℕ → List Answer)
     (made : Outcome) : Type 0 where
@@ -72,7 +73,7 @@ pub record Hearing (T : Type 0) : Type 0 where
   pub start : ℕ
   pub taps : T
 
--- such a hearing
+-- the hearing of these states, outputs, feeds, marks and taps, in a tick that begins at instant `start`
 abbrev pub hearing_by : {T : Type 0} → ClockState → List Port → List FeedPort → Cues → (start : ℕ) → T → Hearing T
 hearing_by state ports feeds cues start taps = record {
   state = state;
@@ -93,8 +94,8 @@ pub record CanHear (scene : Scene) (ports : List Port) (feeds : List FeedPort) (
   pub marks : length cues.lists.items ≡ length ports
   pub late : start + scene.plan.now.frame < 2 ^ 64
 
--- so many instants of a tick were made, by these calls, and the outputs, feeds and marks have heard the slots of their
--- nodes; whatever instants the states stood for, these are the next ones
+-- `count` instants of a tick were made, with calls that the taps got, and the outputs, feeds and marks have heard the
+-- slots of their nodes; whatever instants the states stood for, these are the next ones
 pub record Heard {T : Type 0} (stands : T → List Call
     → Type 0) (scene : Scene) (clock : NodeClock) (own : List Bool) (count : ℕ)
     (before after : Hearing T) : Type 0 where
@@ -116,7 +117,7 @@ pub record Heard {T : Type 0} (stands : T → List Call
       → ClockStateStands (setting_over scene other) sub clock n front before.state
       → HasMadeInstants (setting_over scene other) sub own clock n count front (outcome slots more after.state)
 
--- memory was refused within a tick of so many instants: these are its first calls
+-- memory was refused in a tick of `total` instants, after its first calls: whatever instants the states stood for
 pub record HeardSome {T : Type 0} (stands : T → List Call
     → Type 0) (scene : Scene) (clock : NodeClock) (own : List Bool) (total : ℕ)
     (before after : Hearing T) : Type 0 where
@@ -134,7 +135,7 @@ pub record HeardSome {T : Type 0} (stands : T → List Call
       → ClockStateStands (setting_over scene other) sub clock n front before.state
       → IsBegin made (calls_from (setting_over scene other) sub clock n total)
 
--- the slots of node i in the latest segment, which had so many instants behind its first one
+-- the slots of node i in the latest segment, which had `many` instants after its first one
 abbrev pub segment_of : ClockStates → (many i : ℕ) → List Slot
 segment_of all many i =
     segment_slots (part_at all.latest.parts.items i).slot many (samples_of all.room.left.items i many)
@@ -145,11 +146,11 @@ pub record Tapped (T : Type 0) : Type 0 where
   pub state : ClockState
   pub taps : T
 
--- such states, and such taps
+-- these states with these taps
 abbrev pub tapped : {T : Type 0} → ClockState → T → Tapped T
 tapped state taps = record { state = state; taps = taps }
 
--- a segment was made: an instant, and so many that go on as it did
+-- a segment was made, an instant and `many` that go on as it did: whatever instants the states stood for
 pub record SegmentMade {T : Type 0} (stands : T → List Call
     → Type 0) (scene : Scene) (clock : NodeClock) (own : List Bool) (many : ℕ)
     (before after : Tapped T) : Type 0 where
@@ -162,7 +163,7 @@ pub record SegmentMade {T : Type 0} (stands : T → List Call
       → HasMadeInstants (setting_over scene other) sub own clock n (suc many) front
       (outcome (segment_of after.state.clocks many) more after.state)
 
--- memory was refused in its first instant
+-- memory was refused in the first instant of a segment, after its first calls: whatever instants the states stood for
 pub record SegmentBroken {T : Type 0} (stands : T → List Call
     → Type 0) (scene : Scene) (clock : NodeClock) (own : List Bool)
     (old : ClockState) (taps_old taps_new : T) : Type 0 where

@@ -10,7 +10,7 @@ pub record GotOnePiece {S : Type 0} (told : S → SinkTold) (below : ℕ) (old n
       → (taken : List ℕ) × TookPiece taken (told before) (told after)
   pub others : (k : ℕ) → below ≤ k → slice_get new k ≡ slice_get old k
 
--- some first sinks did
+-- some sinks, from the first one on, took a piece each, or a part of one, and the others are as they were
 pub record GotSomePieces {S : Type 0} (told : S → SinkTold) (old new : List S) : Type 0 where
   pub count : ℕ
   pub got : GotOnePiece told count old new
@@ -34,12 +34,12 @@ pub record HasGot (pieces : ℕ) (old new : SinkTold) : Type 0 where
   pub faults_grew : old.faults ≤ new.faults
   pub appends_are : new.appends ≡ iterate one_more_append pieces old.appends
 
--- each sink got so many
+-- each sink got so many pieces
 pub record GotPieces {S : Type 0} (told : S → SinkTold) (pieces : ℕ) (old new : List S) : Type 0 where
   pub each : (k : ℕ) (before after : S) → slice_get old k ≡ Some before → slice_get new k ≡ Some after
       → HasGot pieces (told before) (told after)
 
--- each sink got at least and at most so many
+-- each sink got at least `least` and at most `most` pieces
 pub record GotBetween {S : Type 0} (told : S → SinkTold) (least most : ℕ) (old new : List S) : Type 0 where
   pub each : (k : ℕ) (before after : S) → slice_get old k ≡ Some before → slice_get new k ≡ Some after
       → (pieces : ℕ) × (least ≤ pieces) × (pieces ≤ most) × HasGot pieces (told before) (told after)

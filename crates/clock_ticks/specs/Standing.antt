@@ -11,18 +11,18 @@ use Rattle.clock_nodes.specs.Scenes.{IsScene}
 use Rattle.nested_instants.specs.Clocks.{AreClockStates, HasLevels, HasRanks, Progress, RanAsNeeded, Stand}
 use Rattle.clock_ticks.specs.declared.clock_state.ClockState.{ClockState}
 
--- it is no sub-clock
+-- the clock is a main clock
 abbrev pub IsMain : NodeClock → Type 0
 IsMain clock = (k : ℕ) → clock ≡ Sub k → ⊥
 
--- states for the nodes of a scene
+-- the states are for the nodes of a scene, and the time has its rate and its frame
 pub record IsClockState (scene : Scene) (state : ClockState) : Type 0 where
   pub below : AreClockStates scene state.clocks
   pub rate : state.time.rate ≡ scene.plan.now.rate
   pub frame : state.time.frame ≡ scene.plan.now.frame
 
--- a clock can make instants: these are the states of the nodes, it is no sub-clock, sub-clocks nest no deeper than
--- there are nodes, and it is told of each node whether its own clock demands it of itself
+-- a main clock can make instants: these are the states of the nodes, sub-clocks nest no deeper than there are nodes,
+-- and `own` has an entry for each node
 pub record CanMake (scene : Scene) (clock : NodeClock) (own : List Bool) (state : ClockState) : Type 0 where
   pub scene_is : IsScene scene
   pub in_own : length own ≡ length scene.plan.now.nodes
@@ -30,8 +30,8 @@ pub record CanMake (scene : Scene) (clock : NodeClock) (own : List Bool) (state 
   pub levels : HasLevels scene.clocks.now clock (length scene.plan.now.nodes)
   pub state_is : IsClockState scene state
 
--- they stand for the first n instants of a clock, and for as many of the sub-clocks below it as its crossfades asked
--- for; all readers have taken these answers by them
+-- the states stand for the first n instants of a clock, and for as many of the sub-clocks below it as its crossfades
+-- asked for; in them all readers have taken the answers `front`
 pub record ClockStateStands (setting : Setting) (sub : ℕ → ℕ → List Slot) (clock : NodeClock) (n : ℕ) (front : ℕ
     → List Answer) (state : ClockState) : Type 0 where
   pub rank : NodeClock → ℕ

@@ -18,7 +18,7 @@ abbrev pub HasEnds : EngineParts → Type 0
 HasEnds parts = HasReader parts.scene.plan.now parts.scene.clocks.now (Main parts.clock)
     ⊎ ((0 < length (feeds_of (setting_of parts) parts.clock)) ⊎ (parts.cues.keeping ≡ true))
 
--- the length of the piece of a tick, of an output with this number and node
+-- how many bytes the piece of a tick has, of an output with this number and node
 abbrev pub piece_size : Setting → (sink node : ℕ) → ℕ
 piece_size setting sink node = setting.plan.frame * block_length (is_wide setting sink) (kind_of setting node)
 
@@ -28,7 +28,7 @@ pub record HaveTickRoom {S : Type 0} (told : S → SinkTold) (parts : EnginePart
       → slice_get outs k ≡ Some out
       → HasRoom (told out).room (piece_size (setting_of parts) sink node)
 
--- the same for the pieces of so many ticks
+-- each sink that tells its room has room for the pieces of so many ticks
 pub record HaveTicksRoom {S : Type 0} (told : S
     → SinkTold) (parts : EngineParts) (outs : List S) (ticks : ℕ) : Type 0 where
   pub each : (k sink node : ℕ) (out : S) → slice_get (outputs_of (setting_of parts) parts.clock) k ≡ Some (sink, node)
@@ -64,8 +64,8 @@ pub record HasMade {S T : Type 0} (told : S → SinkTold) (taps_stand : T → Li
       (held_in told (outputs_of (setting_of new) new.clock) outs_new)
   pub taps : (calls : List Call) → taps_stand taps_old calls → taps_stand taps_new (calls ++ more)
 
--- the same of a tick that answers a fault: the calls that were made are the first ones of the tick's, each output has
--- grown by a part of its bytes, and the engine stopped in this tick
+-- a tick that answers a fault has made the first ones of its calls; whatever engine and taps stood for, each output has
+-- grown by a part of its bytes, the engine stopped in this tick, and the taps stand for these calls too
 pub record HasFailed {S T : Type 0} (told : S → SinkTold) (taps_stand : T → List Call
     → Type 0) (old new : EngineParts) (outs_old outs_new : List S)
     (taps_old taps_new : T) : Type 0 where

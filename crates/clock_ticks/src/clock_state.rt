@@ -22,9 +22,9 @@ pub struct ClockState {
     pub segments: u64,
 }
 
-/// Makes a segment of a clock: an instant, and behind it instants that go on as it did, at most so many; and answers
-/// how many these are. `own` tells of each node whether its own clock demands it of itself. Whatever instants the
-/// states stood for, they stand for those of the segment too.
+/// Makes a segment of a clock: an instant, and then at most `most` instants that go on as it did. Returns how many
+/// these are. `own` says of each node whether its own clock demands it of itself. Whatever instants the states stood
+/// for, they stand for those of the segment too.
 pub fn make_segment<T: Taps>(
     scene: &Scene<'_>,
     clock: NodeClock,

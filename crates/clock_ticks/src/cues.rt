@@ -38,7 +38,7 @@ pub struct Cues {
     pub lists: Vec<CueList>,
 }
 
-/// The marks of so many outputs, none of which are kept.
+/// Lists for the marks of `count` outputs; no marks are kept.
 pub fn cues_of(alloc: Global, count: usize) -> Result<Cues, Memory>
     ensures keeping { IfOk result (λ cues. cues.keeping ≡ false) }
     ensures size { IfOk result (λ cues. length cues.lists.items ≡ count) }
@@ -58,7 +58,7 @@ pub fn cues_of(alloc: Global, count: usize) -> Result<Cues, Memory>
     })
 }
 
-/// Begins a tick.
+/// Begins a tick: the marks that each output has are those before it.
 pub fn begin_cues(cues: &mut Cues)
     ensures keeping { cues.new.keeping ≡ cues.old.keeping }
     ensures size { length cues.new.lists.items ≡ length cues.old.lists.items }
@@ -70,15 +70,15 @@ pub fn begin_cues(cues: &mut Cues)
     }
 }
 
-// The same for one output.
+// Begins a tick of one output: the marks that it has are those before it.
 fn begin_list(list: &mut CueList)
     ensures { HasMarked [] list.old list.new }
 {
     list.before = list.marks.len();
 }
 
-/// Where marks are kept, each output gets that of its node at the latest instant, which is this one, if a track begins
-/// there. Where memory is refused some got theirs.
+/// If marks are kept, each output gets the mark of its node at the latest instant, which is `at`, if a track begins
+/// there. If memory is refused, some got theirs.
 pub fn mark_all(
     cues: &mut Cues,
     ports: &[Port],
@@ -103,7 +103,8 @@ pub fn mark_all(
     mark_lists(&mut cues.lists, ports, at, clocks)
 }
 
-// The same, where marks are kept.
+// Each output gets the mark of its node at the latest instant, which is `at`, if a track begins there. Where memory is
+// refused some got theirs.
 fn mark_lists(
     lists: &mut Vec<CueList>,
     ports: &[Port],
@@ -129,7 +130,7 @@ fn mark_lists(
     Ok(())
 }
 
-// The mark of this slot, if it begins a track.
+// Adds the mark of a slot at instant `at` to those of an output, if the slot begins a track.
 fn mark_list(list: &mut CueList, at: u64, slot: Option<Cell>) -> Result<(), Memory>
     ensures kept { OnOk result (HasKept (marks_of at (slot ∷ [])) list.old list.new) }
     ensures refused { OnErr result (HasKept [] list.old list.new) }
@@ -147,7 +148,7 @@ fn mark_list(list: &mut CueList, at: u64, slot: Option<Cell>) -> Result<(), Memo
     Ok(())
 }
 
-/// The marks of whole ticks, where a fault may have stopped the engine.
+/// The marks of an output in whole ticks: all, or if a fault stopped the engine, those before the tick in which it did.
 pub fn whole_marks(list: &CueList, stopped: Option<TickFault>) -> &[CueMark]
     ensures runs { stopped ≡ None → result.now ≡ list.now.marks.items }
     ensures stopped { (fault : Fault) → stopped ≡ Some fault → result.now ≡ take list.now.before list.now.marks.items }
@@ -158,7 +159,7 @@ pub fn whole_marks(list: &CueList, stopped: Option<TickFault>) -> &[CueMark]
     }
 }
 
-// The first so many marks.
+// The first `count` marks, or all if there are fewer.
 fn first_marks(marks: &[CueMark], count: usize) -> &[CueMark]
     ensures { result.now ≡ take count marks.now }
 {

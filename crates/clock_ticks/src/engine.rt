@@ -44,6 +44,7 @@ pub struct EngineParts<'a> {
 
     /// The number of its main clock.
     pub clock: u32,
+    /// The second of the week in which its first instant lies.
     pub start: WeekSecond,
 
     /// For each node, whether its own clock demands it of itself: the nodes of sinks, and the children of crossfades.
@@ -61,6 +62,7 @@ pub struct EngineParts<'a> {
 
     /// How many ticks were made.
     pub ticks: u64,
+    /// The fault that stopped it, if one did.
     pub stopped: Option<TickFault>,
 }
 
@@ -85,7 +87,7 @@ impl<'a, O> Model for ClockEngine<'a, O> {
     ghost invariant = { λ e. IsWhole (record { parts = e.parts; outs = e.outs.items }) };
 }
 
-// The parts of a new engine.
+// The parts of a new engine of main clock `clock`, whose first instant lies in second `start` of the week.
 fn make_parts<'a>(
     alloc: Global,
     scene: Scene<'a>,
@@ -133,7 +135,7 @@ fn make_parts<'a>(
     })
 }
 
-// Makes the instants of a tick.
+// Makes the instants of the next tick; outputs, feeds and marks hear their nodes.
 fn run_parts<T: Taps>(parts: &mut EngineParts<'_>, taps: &mut T) -> Result<(), Memory>
     requires parts { AreParts parts.old }
     requires few { parts.old.ticks < 1000000000 }
@@ -172,7 +174,7 @@ fn run_parts<T: Taps>(parts: &mut EngineParts<'_>, taps: &mut T) -> Result<(), M
     )
 }
 
-// The same, and a fault stops the engine.
+// Makes the instants of the next tick. If memory is refused, the engine has stopped.
 fn run_or_stop<T: Taps>(parts: &mut EngineParts<'_>, taps: &mut T) -> Result<(), TickFault>
     requires parts { AreParts parts.old }
     requires few { parts.old.ticks < 1000000000 }
@@ -207,7 +209,7 @@ fn run_or_stop<T: Taps>(parts: &mut EngineParts<'_>, taps: &mut T) -> Result<(),
     }
 }
 
-// Gives the chunks of the tick; a fault stops the engine.
+// Gives the chunk of each feed to its buffer. If memory is refused, the engine has stopped.
 fn give_or_stop<T: Taps>(
     alloc: Global,
     parts: &mut EngineParts<'_>,
@@ -233,7 +235,7 @@ fn give_or_stop<T: Taps>(
     }
 }
 
-// The gaps of an output in whole ticks, where a fault may have stopped the engine.
+// The gaps of an output in whole ticks: all, or if a fault stopped the engine, those before the tick in which it did.
 fn whole_gaps(port: &Port, stopped: Option<TickFault>) -> u64
     ensures runs { stopped ≡ None → result ≡ port.now.gaps }
     ensures stopped { (fault : Fault) → stopped ≡ Some fault → result ≡ port.now.gaps_before }
@@ -245,9 +247,9 @@ fn whole_gaps(port: &Port, stopped: Option<TickFault>) -> u64
 }
 
 impl<'a, O: Sink> ClockEngine<'a, O> {
-    /// An engine of a running main clock that made no tick: over a plan, its clocks, its
-    /// files, and one sink for each output of the clock, in sink order. It keeps no marks. Where memory is refused the
-    /// sinks come back.
+    /// An engine of a running main clock that made no tick: over a plan, its clocks, its files, and one sink for each
+    /// output of the clock, in sink order. Its first instant lies in second `start` of the week. It keeps no marks. If
+    /// memory is refused, the sinks come back.
     pub fn new(
         alloc: Global,
         plan: &'a Plan,
@@ -412,7 +414,7 @@ impl<'a, O> ClockEngine<'a, O> {
         self.parts.clock
     }
 
-    /// The fault that stopped the engine.
+    /// The fault that stopped the engine; `None` if none did.
     pub fn stopped(&self) -> Option<TickFault>
         ensures { result ≡ self.now.parts.stopped }
     {
@@ -426,9 +428,9 @@ impl<'a, O> ClockEngine<'a, O> {
         self.parts.ticks
     }
 
-    /// How many cells the reader that is this node wants more at the next tick, where it is one of the main clock;
-    /// nothing of another node. Who asks may go by it, and is told by the answers of the takes whether it was so: no
-    /// clause says it.
+    /// How many cells the reader that is this node wants more at the next tick, if it is one of the main clock; `None`
+    /// for any other node. No clause says it: a caller may go by it, and the answers of the takes show whether it was
+    /// so.
     pub fn missing(&self, node: u32) -> Option<u64> {
         let of = *self.parts.scene.clocks.get(node as usize)?;
         if !is_main(of, self.parts.clock) {
@@ -440,7 +442,7 @@ impl<'a, O> ClockEngine<'a, O> {
         }
     }
 
-    /// How many segments were made: an instant of the clock each, and behind it a stretch of instants that were made at
+    /// How many segments were made: an instant of the clock each, and after it a stretch of instants that were made at
     /// once, as they go on as it did.
     pub fn segments(&self) -> u64
         ensures { result ≡ self.now.parts.state.segments }

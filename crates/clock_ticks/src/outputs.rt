@@ -15,7 +15,7 @@ use liq_base::Memory;
 use plan_core::SinkPlan;
 use std::alloc::Global;
 
-/// The outputs of a main clock, in sink order.
+/// The outputs of main clock `clock` before the first tick, in sink order.
 pub fn ports_of(alloc: Global, scene: &Scene<'_>, clock: u32) -> Result<Vec<Port>, Memory>
     requires in_clocks { length scene.now.clocks.now ≡ length scene.now.plan.now.nodes }
     requires frame { scene.now.plan.now.frame ≤ 65536 }
@@ -40,7 +40,7 @@ pub fn ports_of(alloc: Global, scene: &Scene<'_>, clock: u32) -> Result<Vec<Port
     Ok(ports)
 }
 
-// The output of a node, wide or not, as the plan's sink of this number says.
+// The output that is sink `sink` of the plan, before the first tick; its samples have three bytes if it is wide.
 fn port_of(
     alloc: Global,
     scene: &Scene<'_>,
@@ -68,7 +68,7 @@ fn port_of(
     })
 }
 
-/// The feeds of a main clock, in sink order.
+/// The feeds of main clock `clock` before the first tick, in sink order.
 pub fn feeds_of(alloc: Global, scene: &Scene<'_>, clock: u32) -> Result<Vec<FeedPort>, Memory>
     requires in_clocks { length scene.now.clocks.now ≡ length scene.now.plan.now.nodes }
     requires frame { scene.now.plan.now.frame ≤ 65536 }
@@ -91,7 +91,7 @@ pub fn feeds_of(alloc: Global, scene: &Scene<'_>, clock: u32) -> Result<Vec<Feed
     Ok(feeds)
 }
 
-// The feed of a node.
+// The feed of a node into this buffer, before the first tick.
 fn feed_port(alloc: Global, scene: &Scene<'_>, buffer: u32, node: u32) -> Result<FeedPort, Memory>
     requires frame { scene.now.plan.now.frame ≤ 65536 }
     ensures feed { IfOk result (λ feed. feed_of feed ≡ (buffer, node)) }

@@ -26,8 +26,8 @@ use plan_core::{Node, Plan, SinkPlan};
 use std::alloc::Global;
 use stream_meaning::Part;
 
-/// The states of all clocks before the first instant, where this is the time of the first one, and those of nodes that
-/// the main clock of this number does not drive are idle.
+/// The states of all clocks before the first instant, which is at `time`. Nodes that main clock `clock` does not drive
+/// have idle states.
 pub fn clocks_of(
     alloc: Global,
     scene: &Scene<'_>,
@@ -82,8 +82,7 @@ fn latest_of(alloc: Global, scene: &Scene<'_>, clock: u32) -> Result<Latest, Mem
     })
 }
 
-// The states of the nodes before the first instant, where those that the main clock of this number does not drive are
-// idle.
+// The states of the nodes before the first instant. Nodes that main clock `clock` does not drive have idle states.
 fn states_of(alloc: Global, scene: &Scene<'_>, clock: u32) -> Result<Vec<NodeState>, Memory>
     requires rate { 0 < scene.now.plan.now.rate }
     requires nodes { AreNodes scene.now.plan.now.nodes }
@@ -99,7 +98,7 @@ fn states_of(alloc: Global, scene: &Scene<'_>, clock: u32) -> Result<Vec<NodeSta
     Ok(states)
 }
 
-// Whether this is the main clock of this number.
+/// Whether `of` is main clock `clock`.
 pub fn is_main(of: NodeClock, clock: u32) -> bool
     ensures { result ≡ same_clock of (NodeClock.Main clock) }
 {
@@ -121,7 +120,7 @@ pub fn own_roots(alloc: Global, scene: &Scene<'_>) -> Result<Vec<bool>, Memory>
     Ok(own)
 }
 
-// The times of so many sub-clocks before their first instant.
+// The times of `count` sub-clocks before their first instant, which is at `first`.
 fn times_of(alloc: Global, first: WeekTime, count: usize) -> Result<Vec<WeekTime>, Memory>
     ensures size { IfOk result (λ times. length times.items ≡ count) }
     ensures each { IfOk result (λ times. (k : ℕ) (time : Time) → slice_get times.items k ≡ Some time → time ≡ first) }
@@ -130,7 +129,7 @@ fn times_of(alloc: Global, first: WeekTime, count: usize) -> Result<Vec<WeekTime
     Ok(times)
 }
 
-// Room for the children of each node.
+// The largest number of children that a node of the plan has.
 fn most_children(plan: &Plan) -> usize
     ensures { HasRoomFor plan.now result }
 {
@@ -141,7 +140,8 @@ fn most_children(plan: &Plan) -> usize
     most
 }
 
-// The state of node i. One that the clock does not drive takes no memory.
+// The state of node i before the first instant. If main clock `clock` does not drive the node, it is idle and takes no
+// memory.
 fn state_of(
     alloc: Global,
     scene: &Scene<'_>,
@@ -175,7 +175,7 @@ fn is_driven(clocks: &[NodeClock], clock: u32, i: u32) -> bool
     true
 }
 
-// The clock of a node.
+// The clock of node i; main clock 0 if there is no such node.
 fn clock_at(clocks: &[NodeClock], i: u32) -> NodeClock
     ensures { result ≡ slice_index_or clocks.now i (NodeClock.Main 0) }
 {
@@ -195,7 +195,7 @@ fn node_of(sink: &SinkPlan) -> u32
     }
 }
 
-// The same, where no node is demanded before.
+// Sets for each node, none of which is set before, whether its own clock demands it of itself.
 fn demand_roots(scene: &Scene<'_>, own: &mut [bool])
     requires in_clocks { length scene.now.clocks.now ≡ length own.old }
     requires sinks { All (λ sink. sink_node sink < length own.old) scene.now.plan.now.sinks }
@@ -208,7 +208,7 @@ fn demand_roots(scene: &Scene<'_>, own: &mut [bool])
     keep_roots(scene, own);
 }
 
-// Demands the nodes of sinks.
+// Sets the node of each of these sinks as demanded.
 fn demand_sinks(sinks: &[SinkPlan], demanded: &mut [bool])
     requires { All (λ sink. sink_node sink < length demanded.old) sinks.now }
     ensures { (i : ℕ) → slice_index_or demanded.new i false
@@ -219,7 +219,7 @@ fn demand_sinks(sinks: &[SinkPlan], demanded: &mut [bool])
     }
 }
 
-// Where the nodes of sinks are demanded, demands those that each node's own clock demands of itself.
+// Sets for each node whether its own clock demands it of itself. Before, the nodes of sinks are set and no others.
 fn keep_roots(scene: &Scene<'_>, own: &mut [bool])
     requires in_clocks { length scene.now.clocks.now ≡ length own.old }
     requires demanded { (i : ℕ) → slice_index_or own.old i false

@@ -30,7 +30,7 @@ fn put_one<R: Wait>(
     }
 }
 
-// Takes a chunk, and answers its sample.
+// Takes a chunk, and answers its sample; nothing where the queue is empty.
 fn take_one<R: Wait>(
     rt: &R,
     queue: &BufferQueue,
@@ -45,7 +45,7 @@ fn take_one<R: Wait>(
     }
 }
 
-// Closes a window, whose calls were answered so.
+// Closes a window. `puts` says of each put whether it was accepted, and `takes` of each take whether it got a chunk.
 fn close(
     rt: &impl Abort,
     alloc: Global,
@@ -86,7 +86,7 @@ fn check_window<R: Abort + Wait>(
     close(rt, alloc, queue, put, take, &[true, false], &[true, false])
 }
 
-// It keeps what is put behind a window for the next.
+// A queue keeps what is put after a window for the next one.
 fn check_next_window<R: Abort + Wait>(
     rt: &R,
     alloc: Global,
@@ -110,11 +110,13 @@ fn one_call_after_another(rt: HostRuntime) -> Result<(), Fail> {
     check_next_window(&rt, rt.alloc(), &mut queue, &mut put, &mut take)
 }
 
+// How many chunks one thread puts and the other one takes.
 const CHUNKS: i16 = 1000;
 
+// How often each thread tries at most.
 const TRIES: u32 = 20_000_000;
 
-// Puts the chunks in order, and says whether it did.
+// Puts the chunks in order, and returns whether all were accepted.
 fn put_all<R: Wait>(rt: &R, alloc: Global, queue: &BufferQueue, pass: &mut PutPass) -> bool
     requires { pass.old.queue ≡ queue.now }
 {
@@ -135,7 +137,7 @@ fn put_all<R: Wait>(rt: &R, alloc: Global, queue: &BufferQueue, pass: &mut PutPa
     false
 }
 
-// Takes the chunks, and says whether they came in order.
+// Takes the chunks, and returns whether all came, in order.
 fn take_all<R: Wait>(rt: &R, queue: &BufferQueue, pass: &mut TakePass) -> bool
     requires { pass.old.queue ≡ queue.now }
 {

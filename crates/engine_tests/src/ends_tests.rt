@@ -48,7 +48,7 @@ fn take_one(taps: &mut LocalTaps) -> Result<bool, Memory>
     Ok(chunk.is_some())
 }
 
-// A buffer of one chunk in one window.
+// A buffer of one chunk accepts one chunk of two, and gives one in two takes, in one window.
 fn check(rt: &impl Abort, alloc: Global, taps: &mut LocalTaps) -> Result<(), Fail>
     requires { length taps.old ≡ 1 }
     ensures { length taps.new ≡ 1 }

@@ -31,6 +31,7 @@ fn fill(frame: &mut Frame)
     frame.lay(&[SOFT.left], &[SOFT.right], false, SOFT.title);
 }
 
+// A chunk has the two cells, one of each title.
 fn check_chunk(rt: &impl Abort, chunk: &Chunk) {
     assert_eq!(rt; chunk.len(), 2);
     assert_eq!(rt; chunk.cell(0), LOUD);
@@ -38,6 +39,7 @@ fn check_chunk(rt: &impl Abort, chunk: &Chunk) {
     assert_eq!(rt; chunk.runs().len(), 2);
 }
 
+// The chunk of a frame has the two cells.
 fn check(rt: &impl Abort, alloc: Global, frame: &Frame) -> Result<(), Memory> {
     match Chunk::from_frame(alloc, frame)? {
         Some(chunk) => check_chunk(rt, &chunk),

@@ -89,7 +89,7 @@ fn a_blank_of_two_samples(rt: HostRuntime) -> Result<(), Fail> {
     Ok(())
 }
 
-// Gives a crossfade that wants it a sample.
+// Feeds a sample to a crossfade, which wants one.
 fn give(rt: &impl Abort, state: &mut NodeState, library: &Library, left: i16, first: bool)
     requires { Fits library.now 1 state.old }
     ensures { Fits library.now 1 state.new }

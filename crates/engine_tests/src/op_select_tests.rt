@@ -3,6 +3,7 @@ use frame_core::Cell;
 use op_select::{Rule, SelectState};
 use std::process::Abort;
 
+// A fallback that is track-sensitive, and one that is not.
 const MINDS: Rule = Rule::First { sensitive: true };
 
 const FREE: Rule = Rule::First { sensitive: false };
@@ -45,6 +46,7 @@ const ROWS: &[Row] = &[
     (Rule::Turns, Some(1), 4, 0, true, None),
 ];
 
+// Each row has its answer.
 fn check(rt: &impl Abort, rows: &[Row]) {
     for row in rows {
         let (rule, last, left, right, eligible, used) = *row;

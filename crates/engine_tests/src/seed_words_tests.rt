@@ -2,6 +2,7 @@
 use seed_words::SeedWords;
 use std::process::Abort;
 
+// Each row: a seed, and its first four words.
 const WORDS: &[(u64, u32, u32, u32, u32)] = &[
     (0, 298703107, 4236525527, 336081875, 1056616254),
     (1, 866585574, 2109535214, 3403630417, 296513984),
@@ -15,6 +16,7 @@ const WORDS: &[(u64, u32, u32, u32, u32)] = &[
     ),
 ];
 
+// Each seed has its words; a peek takes none.
 fn check(rt: &impl Abort, rows: &[(u64, u32, u32, u32, u32)]) {
     for row in rows {
         let (seed, first, second, third, fourth) = *row;

@@ -59,6 +59,7 @@ const ONCE: &[Row] = &[
     Row::Node(Small::Fallback, &[0, 1]),
 ];
 
+// The bytes that `ONCE` writes in six instants.
 const GONE_ON: &[u8] = &[
     1, 0, 1, 0, 2, 0, 2, 0, 3, 0, 3, 0, 0, 0, 0, 0, 0, 0, 0, 0, 0, 0, 0, 0,
 ];
@@ -70,17 +71,19 @@ const ROTATED: &[Row] = &[
     Row::Node(Small::Rotate, &[0, 1]),
 ];
 
-// The same by chance.
+// The file and two zeros, each again and again, by chance.
 const DRAWN: &[Row] = &[
     Row::Node(Small::Single, &[]),
     Row::Node(Small::Blank(2), &[]),
     Row::Node(Small::Random(3), &[0, 1]),
 ];
 
+// The bytes that `ROTATED` writes in a tick of eight instants.
 const TURNS: &[u8] = &[
     1, 0, 1, 0, 2, 0, 2, 0, 3, 0, 3, 0, 0, 0, 0, 0, 0, 0, 0, 0, 1, 0, 1, 0, 2, 0, 2, 0, 3, 0, 3, 0,
 ];
 
+// The bytes that `DRAWN` writes in a tick of eight instants.
 const DRAWS: &[u8] = &[
     0, 0, 0, 0, 0, 0, 0, 0, 0, 0, 0, 0, 0, 0, 0, 0, 0, 0, 0, 0, 0, 0, 0, 0, 1, 0, 1, 0, 2, 0, 2, 0,
 ];
@@ -119,6 +122,7 @@ const TICKS: &[Ticks] = &[
     (8, DRAWN, 1, 4, Some(DRAWS)),
 ];
 
+// Each row has its segments, and its bytes, where they are told.
 fn check(rt: &impl Abort, alloc: Global, table: &[Ticks]) -> Result<(), Fail> {
     for row in table {
         let (frame, rows, ticks, segments, held) = *row;

@@ -82,7 +82,7 @@ pub(crate) struct Want {
     pub(crate) held: Option<&'static [u8]>,
 }
 
-// So many ticks are made, in so many segments.
+// So many ticks can be made, in so many segments.
 fn check_ticks(
     rt: &impl Abort,
     alloc: Global,
@@ -99,7 +99,7 @@ fn check_ticks(
     assert!(rt; engine.segments() == want.segments);
 }
 
-// One sink holds these bytes, where they are told.
+// The one sink holds these bytes, where they are told.
 fn check_held(rt: &impl Abort, outs: &[MemSink], held: Option<&[u8]>) {
     assert_eq!(rt; outs.len(), 1);
     for out in outs {
@@ -109,7 +109,7 @@ fn check_held(rt: &impl Abort, outs: &[MemSink], held: Option<&[u8]>) {
     }
 }
 
-// Ticks of the clock 0 over these clocks.
+// Ticks of main clock 0, which writes this node, show what they should.
 fn check_clock(
     rt: &impl Abort,
     alloc: Global,
@@ -139,7 +139,7 @@ fn check_clock(
     }
 }
 
-// The same over the clocks that the plan has.
+// Ticks of a plan that writes this node, over the clocks that it has and this library, show what they should.
 fn check_library(
     rt: &impl Abort,
     alloc: Global,
@@ -159,7 +159,7 @@ fn check_library(
     check_clock(rt, alloc, plan, &clocks, node, library, &mut taps, want)
 }
 
-// Ticks of a plan that writes this node, over the file, which its first node plays.
+// Ticks of a plan that writes this node show what they should. Its first node plays the file.
 fn check_plan(
     rt: &impl Abort,
     alloc: Global,
@@ -181,7 +181,7 @@ fn last(rows: &[Row]) -> u32 {
     u32::try_from(rows.len().saturating_sub(1)).unwrap_or(0)
 }
 
-/// Ticks of so many instants of the plan of these nodes, which writes the last one.
+/// Ticks of `frame` instants show what they should. The plan has these nodes, and writes the last one.
 pub(crate) fn check_rows(
     rt: &impl Abort,
     alloc: Global,

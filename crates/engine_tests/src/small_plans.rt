@@ -97,7 +97,7 @@ const ONE_CHUNK: BufferPlan = BufferPlan {
     capacity: 1,
 };
 
-// Adds a node, and answers its number, or none where it may not stand there or memory is refused.
+// Adds a node, and answers its number; nothing where it may not stand there or memory is refused.
 fn push(alloc: Global, draft: &mut CheckedDraft, row: Row) -> Result<Option<u32>, AllocError> {
     match row {
         Row::Node(small, children) => {
@@ -118,7 +118,7 @@ fn push_all(alloc: Global, draft: &mut CheckedDraft, rows: &[Row]) -> Result<(),
     Ok(())
 }
 
-/// The plan of these stereo nodes at 8000 samples a second, in ticks of so many, with an output of this node.
+/// The plan of these stereo nodes at 8000 samples a second, in ticks of `frame` samples, with an output of this node.
 pub(crate) fn plan_of(
     rt: &impl Abort,
     alloc: Global,

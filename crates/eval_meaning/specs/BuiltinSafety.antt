@@ -16,7 +16,7 @@ use Rattle.script_values.specs.Values as value
 use Rattle.script_values.specs.Values.{Value}
 use Rattle.builtin_calls.specs.Builtins.{builtin}
 
--- the nodes that are there stay
+-- the nodes of `before` are in `after` with the same numbers
 abbrev pub Grows : List Node → List Node → Type 0
 Grows before after = (n : ℕ) (node : Node) → slice_get before n ≡ Some node → slice_get after n ≡ Some node
 
@@ -34,23 +34,25 @@ abbrev mutual
   IsA ns (value.ListValue vs) g = (t : Ground) × (g ≡ list t) × AllAre ns vs t
   IsA ns (value.TupleValue vs) g = (ts : Grounds) × (g ≡ tuple ts) × EachIs ns vs ts
 
+  -- each of these values has the type t over the nodes ns
   pub AllAre : List Node → value.ValueTree value.ManyValues → Ground → Type 0
   AllAre ns value.no_values t = ⊤
   AllAre ns (value.more_values v vs) t = IsA ns v t × AllAre ns vs t
 
+  -- the values have these types in order over the nodes ns
   pub EachIs : List Node → value.ValueTree value.ManyValues → Grounds → Type 0
   EachIs ns value.no_values ts = ts ≡ ground.no_more
   EachIs ns (value.more_values v vs) ts = (t : Ground) × (us : Grounds) × (ts ≡ ground.and_more t us) × IsA ns v t
       × EachIs ns vs us
 
--- arguments of these types, each behind the same label
+-- arguments with these labels, whose values have these types over the nodes ns
 abbrev pub AreA : List Node → List Argument → List (arguments.GivenArgument Ground) → Type 0
 AreA ns [] [] = ⊤
 AreA ns [] (h ∷ hs) = ⊥
 AreA ns (g ∷ gs) [] = ⊥
 AreA ns (g ∷ gs) (h ∷ hs) = (g.0 ≡ h.0) × IsA ns g.1 h.1 × AreA ns gs hs
 
--- every fault but that of a value of a wrong type
+-- a stop that a script's author is told of: any but that of a value of a wrong type
 abbrev pub IsTold : Stop → Type 0
 IsTold faults.Memory = ⊤
 IsTold faults.BadSetting = ⊤
@@ -61,20 +63,22 @@ IsTold (faults.SameOutput name) = ⊤
 IsTold (faults.TooLarge limit) = ⊤
 IsTold faults.Stuck = ⊥
 
--- a step without a state that is not stuck
+-- a step that has no state is not stuck: it gives a value for which P holds, or a fault that is told
 abbrev pub NotStuck : {A : Type 0} → (A → Type 0) → Result A Stop → Type 0
 NotStuck P (Ok x) = P x
 NotStuck P (Err e) = IsTold e
 
--- not stuck, no node is lost, and what is made is such over the nodes behind it
+-- a step is not stuck: it gives a fault that is told, or something for which Q holds over the nodes behind it, and none
+-- of the nodes ns is lost
 abbrev pub Safe : {A : Type 0} → List Node → (List Node → A → Type 0) → Result (A × Machine) Stop → Type 0
 Safe ns Q (Ok x) = Grows ns x.1.plan.nodes × Q x.1.plan.nodes x.0
 Safe ns Q (Err e) = IsTold e
 
+-- a value has the type g over the nodes ns
 abbrev pub Of : Ground → List Node → Value → Type 0
 Of g ns v = IsA ns v g
 
--- each call of a builtin with arguments of its types is not stuck
+-- each call of a builtin with arguments of its types gives a value of its type, or a fault that is told
 abbrev pub BuiltinsAreSafe : Type 0
 BuiltinsAreSafe = (b : Builtin) (at : ℕ) (ks : List Kind) (gs : List (arguments.GivenArgument Ground)) (g : Ground)
     → IsCallOf b gs ks g

@@ -9,7 +9,7 @@ use Rattle.typing_rules.specs.declared.uses.Target.TheVariants as target
 use Rattle.typing_rules.specs.Kinds.{target_said}
 use Rattle.typing_rules.specs.Uses.{use_at}
 
--- whether an expression, or one of a list of them, has a call in it, evaluated or not
+-- whether a tree has a call in it, whether or not evaluation comes to it
 abbrev pub holds_call : {s : Sort} → Tree s → Bool
 holds_call none = false
 holds_call (more t ts) = holds_call t || holds_call ts
@@ -33,19 +33,19 @@ holds_call (Arg at label f) = holds_call f
 -- numbers, texts, names, predicates, formats
 holds_call t = false
 
--- the builtin is `set`
+-- whether a builtin is `set`
 abbrev pub is_set : Builtin → Bool
 is_set builtin.Set = true
 is_set b = false
 
--- what the name means is the builtin `set`
+-- whether a name means the builtin `set`
 abbrev pub means_set : Option Target → Bool
 means_set (Some (target.Builtin b)) = is_set b
 means_set (Some (target.Def t)) = false
 means_set (Some (target.Slot t)) = false
 means_set None = false
 
--- the statement is a call of `set` in whose arguments nothing is called
+-- whether a statement is a call of `set` in whose arguments nothing is called
 abbrev pub is_setting : List Use → Tree APart → Bool
 is_setting uses (CallPart (NamedCall at name args)) = means_set (target_said (use_at at uses)) && not (holds_call args)
 is_setting uses (BindPart b) = false

@@ -8,16 +8,17 @@ use Rattle.script_values.specs.Outcomes.{ascribed}
 use Rattle.script_values.specs.Slots.{Argument}
 use Rattle.builtin_calls.specs.Builtins.{builtin}
 
--- the state behind what was evaluated, if there is one
+-- P holds of the state behind a step, if the step has no fault
 abbrev pub HoldsBehind : {A E : Type 0} → (Machine → Type 0) → Result (A × Machine) E → Type 0
 HoldsBehind P (Ok x) = P x.1
 HoldsBehind P (Err e) = ⊤
 
+-- P holds of the state that counting leaves, if it has no fault
 abbrev pub Leaves : {E : Type 0} → (Machine → Type 0) → Result Machine E → Type 0
 Leaves P (Ok m) = P m
 Leaves P (Err e) = ⊤
 
--- counting keeps it, and so does each call of a builtin with its sources noted, and noting those of a call of a def
+-- P is kept by counting work, by each call of a builtin with its sources noted, and by noting the sources of a call
 pub record IsKept (P : Machine → Type 0) : Type 0 where
   pub counts : (n : ℕ) (m : Machine) → P m → Leaves P (count_work n m)
   pub builtins : (b : Builtin) (at : ℕ) (kinds : List Kind) (given : List Argument) (m : Machine) → P m

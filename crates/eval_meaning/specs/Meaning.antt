@@ -22,24 +22,24 @@ use Rattle.builtin_calls.specs.Builtins.{builtin}
 use Rattle.eval_meaning.specs.Preds.{or_pred}
 use Rattle.script_values.specs.Slots.{Argument, SlotValue, value_at_token}
 
--- a call of the def at this token, with these kinds and arguments
+-- what a call of the def at a token makes, with these open kinds and arguments
 abbrev pub Caller : Type 0
 Caller = ℕ → List Kind → List Argument → Machine → Outcome
 
--- what is known where an expression stands: what names stand for, the values of bindings, and the open kinds of the def
--- around
+-- what is known where an expression stands: what names stand for, the values of bindings, the open kinds of the def
+-- around, and what a call of a def makes
 pub record Surroundings : Type 0 where
   pub uses : List Use
   pub slots : List SlotValue
   pub kinds : List Kind
   pub call : Caller
 
--- the value of a binding, which counts its size
+-- the value of a binding, if it has one; its size counts as work
 abbrev pub value_at : Option Value → Machine → Outcome
 value_at None m = Err Stuck
 value_at (Some v) m = count_work (size v) m >>= λ c. Ok (v, c)
 
--- the value that a name has, where it names a value
+-- the value of a name by its use; stuck where the name is no binding's
 unfoldable pub named : Surroundings → Option Use → Machine → Outcome
 named s None m = Err Stuck
 named s (Some u) m =
@@ -49,21 +49,21 @@ named s (Some u) m =
       | target.Builtin b ↦ Err Stuck
     ]
 
--- what a call makes, by what its name means
+-- what a call at token `at` makes of these kinds and arguments, by what its name means
 abbrev pub applied_to : Surroundings → Target → ℕ → Option (List Kind) → List Argument → Machine → Outcome
 applied_to s target at None given m = Err Stuck
 applied_to s (target.Slot t) at (Some kinds) given m = Err Stuck
 applied_to s (target.Def t) at (Some kinds) given m = s.call t kinds given m
 applied_to s (target.Builtin b) at (Some kinds) given m = builtin b at kinds given m
 
--- A call of what a name stands for, at this token. The sources that it makes are its own; those of its arguments were
+-- A call at token `at` of what a name stands for. The sources that it makes are its own; those of its arguments were
 -- made before.
 unfoldable pub applied : Surroundings → Option Use → ℕ → List Argument → Machine → Outcome
 applied s None at given m = Err Stuck
 applied s (Some u) at given m = ascribed at m (applied_to s u.target at (kinds_of s.kinds u.kinds) given m)
 
--- the format that `%wav` names at this token: its samples have 16 bits without a size and with 16, they are wide with
--- 24, and no other size is one
+-- the format that `%wav` at this token names: of 16 bits a sample without a size and with 16, of 24 with 24; any other
+-- size is a bad value
 abbrev pub format : ℕ → Option ℤ → Result Value Stop
 format at None = Ok (value.FormatValue false)
 format at (Some n) =
@@ -75,60 +75,74 @@ format at (Some n) =
       ]
     ]
 
--- an operator on the value to its left and the operand to its right, which was evaluated
+-- an operator on the value v to its left and on what the operand to its right gave; it counts 1
 abbrev pub operator_applied : (Value → Value → Result Value Stop) → Value → Outcome → Outcome
 operator_applied operator v right = right >>= λ x. count_work 1 x.1 >>= λ c. operator v x.0 >>= λ u. Ok (u, c)
 
 -- Operands are evaluated from the left. Work is counted when a Prim begins, and when an operator is about to be
 -- applied.
 unfoldable mutual
+  -- the value of an expression, or of a number behind a minus
   pub full : Surroundings → Tree AFull → Machine → Outcome
   full s (Negative at n) m = count_work 1 m >>= λ c. negative at n >>= λ v. Ok (v, c)
   full s (Plain e) m = expr s e m
 
+  -- the value of an expression
   pub expr : Surroundings → Tree AnExpr → Machine → Outcome
   expr s (Expr a rest) m = conjunction s a m >>= λ x. ors s rest x.0 x.1
 
+  -- the value v with further parts joined to it by `or`
   pub ors : Surroundings → Tree (Many AnAnd) → Value → Machine → Outcome
   ors s none v m = Ok (v, m)
   ors s (more a rest) v m = operator_applied either v (conjunction s a m) >>= λ x. ors s rest x.0 x.1
 
+  -- the value of a part of an `or`
   pub conjunction : Surroundings → Tree AnAnd → Machine → Outcome
   conjunction s (And n rest) m = negation s n m >>= λ x. ands s rest x.0 x.1
 
+  -- the value v with further parts joined to it by `and`
   pub ands : Surroundings → Tree (Many ANot) → Value → Machine → Outcome
   ands s none v m = Ok (v, m)
   ands s (more n rest) v m = operator_applied both v (negation s n m) >>= λ x. ands s rest x.0 x.1
 
+  -- the value of a comparison, or with `not` its opposite
   pub negation : Surroundings → Tree ANot → Machine → Outcome
   negation s (Not true inner) m = compare s inner m >>= λ x. count_work 1 x.1 >>= λ c. opposite x.0 >>= λ u. Ok (u, c)
   negation s (Not false inner) m = compare s inner m
 
+  -- the value of a sum, or the truth of its comparison with another one
   pub compare : Surroundings → Tree ACompare → Machine → Outcome
   compare s (Alone left) m = sum s left m
   compare s (Compared left at o right) m = sum s left m >>= λ x. sum s right x.1 >>= λ y. count_work 1 y.1 >>= λ c.
       compared o x.0 y.0 >>= λ u. Ok (u, c)
 
+  -- the value of a sum
   pub sum : Surroundings → Tree ASum → Machine → Outcome
   sum s (Sum p rest) m = product s p m >>= λ x. addends s rest x.0 x.1
 
+  -- the value v with further terms of a sum added or subtracted
   pub addends : Surroundings → Tree (Many AnAdded) → Value → Machine → Outcome
   addends s none v m = Ok (v, m)
   addends s (more a rest) v m = plus s a v m >>= λ x. addends s rest x.0 x.1
 
+  -- the value v with one term of a sum added or subtracted
   pub plus : Surroundings → Tree AnAdded → Value → Machine → Outcome
   plus s (Added at minus p) v m = operator_applied (added minus at) v (product s p m)
 
+  -- the value of a product
   pub product : Surroundings → Tree AProduct → Machine → Outcome
   product s (Product p rest) m = operand s p m >>= λ x. factors s rest x.0 x.1
 
+  -- the value v multiplied or divided by further factors
   pub factors : Surroundings → Tree (Many AMultiplied) → Value → Machine → Outcome
   factors s none v m = Ok (v, m)
   factors s (more a rest) v m = times s a v m >>= λ x. factors s rest x.0 x.1
 
+  -- the value v multiplied or divided by one factor
   pub times : Surroundings → Tree AMultiplied → Value → Machine → Outcome
   times s (Multiplied at divide p) v m = operator_applied (multiplied divide at) v (operand s p m)
 
+  -- the value of an operand
   pub operand : Surroundings → Tree AnOperand → Machine → Outcome
   operand s (Constant at n) m = count_work 1 m >>= λ c. Ok (literal_value n, c)
   operand s (Quoted at text) m = count_work 1 m >>= λ c. Ok (value.TextValue text, c)
@@ -145,12 +159,12 @@ unfoldable mutual
   operand s (Braces at pred) m = count_work 1 m >>= λ c. Ok (value.PredValue (or_pred pred), c)
   operand s (PlaceFormat at bits) m = count_work 1 m >>= λ c. format at bits >>= λ v. Ok (v, c)
 
-  -- the values so far, and those of more
+  -- the values vs and behind them those of further parts
   pub fulls : Surroundings → Tree (Many AFull) → List Value → Machine → Result (List Value × Machine) Stop
   fulls s none vs m = Ok (vs, m)
   fulls s (more f rest) vs m = full s f m >>= λ x. fulls s rest (vs ++ x.0 ∷ []) x.1
 
-  -- only the chosen branch is evaluated
+  -- the value of an `if`; only the chosen branch is evaluated
   pub choice : Surroundings → Tree AnIf → Machine → Outcome
   choice s (If at c t e) m = full s c m >>= λ x. truth_of x.0 >>= λ b. elim b
       [ true ↦ full s t x.1 | false ↦ full s e x.1 ]
@@ -159,79 +173,82 @@ unfoldable mutual
   pub call : Surroundings → Tree ACall → Machine → Outcome
   call s (NamedCall at name args) m = arguments s args [] m >>= λ x. applied s (use_at at s.uses) at x.0 x.1
 
+  -- the arguments `given` and behind them those of further parts
   pub arguments : Surroundings → Tree (Many AnArg) → List Argument → Machine → Result (List Argument × Machine) Stop
   arguments s none given m = Ok (given, m)
   arguments s (more a rest) given m = argued s a m >>= λ x. arguments s rest (given ++ x.0 ∷ []) x.1
 
+  -- an argument with its label
   pub argued : Surroundings → Tree AnArg → Machine → Result (Argument × Machine) Stop
   argued s (Arg at label f) m = full s f m >>= λ x. Ok ((label, x.0), x.1)
 
--- values in parentheses, behind the count
+-- values in parentheses, behind the count of 1: none is the value of `()`, one is itself, several are a tuple
 abbrev pub grouped : Surroundings → Tree (Many AFull) → Machine → Outcome
 grouped s none m = Ok (value.UnitValue, m)
 grouped s (more f none) m = full s f m
 grouped s (more f (more g rest)) m = fulls s (more f (more g rest)) [] m >>= λ z. Ok (value.TupleValue (many z.0), z.1)
 
+-- a list of values, behind the count of 1
 abbrev pub all_of : Surroundings → Tree (Many AFull) → Machine → Outcome
 all_of s parts m = fulls s parts [] m >>= λ z. Ok (value.ListValue (many z.0), z.1)
 
--- What a parameter takes of the arguments: its slot and the arguments that are left. A default is evaluated among the
--- names before the def.
+-- The binding of a parameter whose name stands at this token by the argument that it takes, and the arguments that are
+-- left; stuck without one.
 abbrev pub taken_slot : ℕ → Option (Value × List Argument) → Machine
     → Result ((SlotValue × List Argument) × Machine) Stop
 taken_slot at None m = Err Stuck
 taken_slot at (Some x) m = Ok (((at, x.0), x.1), m)
 
--- the value of a parameter: what was given for it, or else its default
+-- the binding of a parameter by the argument that it takes or else by its default, and the arguments that are left
 abbrev pub slot_or_default : ℕ → Option (Value × List Argument) → List Argument → Outcome → Machine
     → Result ((SlotValue × List Argument) × Machine) Stop
 slot_or_default at None given default m = default >>= λ x. Ok (((at, x.0), given), x.1)
 slot_or_default at (Some x) given default m = Ok (((at, x.0), x.1), m)
 
--- the value of one parameter, and the arguments that are left
+-- the binding of one parameter, and the arguments that are left; a default is evaluated among the names before the def
 unfoldable pub parameter : Surroundings → Tree AParam → List Argument → Machine
     → Result ((SlotValue × List Argument) × Machine) Stop
 parameter s (Param at name) given m = taken_slot at (argument None given) m
 parameter s (Labelled at name) given m = taken_slot at (argument (Some name) given) m
 parameter s (Optional at name d) given m = slot_or_default at (argument (Some name) given) given (full s d m) m
 
--- the values of all parameters, in the order in which they stand
+-- the bindings `slots` and behind them those of further parameters, in the order in which they stand
 unfoldable pub parameters : Surroundings → Tree (Many AParam) → List Argument → List SlotValue → Machine
     → Result (List SlotValue × Machine) Stop
 parameters s none given slots m = Ok (slots, m)
 parameters s (more p ps) given slots m = parameter s p given m >>= λ x. parameters s ps x.0.1 (slots ++ x.0.0 ∷ []) x.1
 
--- the same scope with these bindings before the others
+-- the same surroundings with these bindings before the others
 abbrev pub with_slots : Surroundings → List SlotValue → Surroundings
 with_slots s slots = record s { slots = slots ++ s.slots }
 
--- the value that a binding within a def makes
+-- the binding that an inner binding of a def makes, behind the bindings `slots`
 unfoldable pub inner : Surroundings → Tree AnInner → List SlotValue → Machine → Result (SlotValue × Machine) Stop
 inner s (Inner (Bind at name f) semicolon) slots m = full (with_slots s slots) f m >>= λ x. Ok ((at, x.0), x.1)
 
--- the values of all bindings within a def, each over those before it
+-- the bindings `slots` and behind them those that further inner bindings make, each over those before it
 unfoldable pub inners : Surroundings → Tree (Many AnInner) → List SlotValue → Machine
     → Result (List SlotValue × Machine) Stop
 inners s none slots m = Ok (slots, m)
 inners s (more i is) slots m = inner s i slots m >>= λ x. inners s is (slots ++ x.0 ∷ []) x.1
 
--- the body of a def, in the scope of the names before it
+-- the result of a def for a call with these arguments, among the names before the def
 unfoldable pub body : Surroundings → Tree ADef → List Argument → Machine → Outcome
 body s (Def at name params equals bindings result) given m =
     parameters s params given [] m >>= λ x. inners s bindings x.0 x.1 >>= λ y. expr (with_slots s y.0) result y.1
 
--- what no call changes: the script, what its names stand for, and the values of its bindings so far
+-- what no call changes: the script, what its names stand for, and the bindings of the statements before
 pub record World : Type 0 where
   pub script : Script
   pub uses : List Use
   pub globals : List SlotValue
 
--- what a call makes of the def that it means
+-- the result of a def for a call with these arguments; stuck without a def
 abbrev pub run : Surroundings → Option (Tree ADef) → List Argument → Machine → Outcome
 run s None given m = Err Stuck
 run s (Some d) given m = body s d given m
 
--- A call of a def, where so many more may run. With each call the body is evaluated anew.
+-- A call of the def at token t, where n more calls may run within each other. Each call evaluates the body anew.
 unfoldable pub call_by : World → ℕ → Caller
 call_by w zero t kinds given m = Err (TooLarge Calls)
 call_by w (suc n) t kinds given m = run (record {

@@ -4,36 +4,42 @@ use Rattle.script_grammar.specs.Tree.{Tree, Many, none, more, APOr, APAnd, APNot
 use Rattle.time_pred.specs.Predicates as pred
 use Rattle.time_pred.specs.Predicates.{Predicate}
 
--- one part stands for itself, more parts for all of them or for any of them
+-- a predicate alone, or with further parts one that holds where any of them holds
 abbrev pub any_of : Predicate → pred.PredicateTree pred.PredicateParts → Predicate
 any_of p pred.no_parts = p
 any_of p (pred.first_part q qs) = pred.Any (pred.first_part p (pred.first_part q qs))
 
--- one predicate stays itself; several must all hold
+-- a predicate alone, or with further parts one that holds where all of them hold
 abbrev pub all_of : Predicate → pred.PredicateTree pred.PredicateParts → Predicate
 all_of p pred.no_parts = p
 all_of p (pred.first_part q qs) = pred.All (pred.first_part p (pred.first_part q qs))
 
 -- the predicate that a text in braces means
 unfoldable mutual
+  -- the predicate of parts joined by `or`
   pub or_pred : Tree APOr → Predicate
   or_pred (POr first rest) = any_of (and_pred first) (and_preds rest)
 
+  -- the predicates of the parts of an `or`
   pub and_preds : Tree (Many APAnd) → pred.PredicateTree pred.PredicateParts
   and_preds none = pred.no_parts
   and_preds (more p ps) = pred.first_part (and_pred p) (and_preds ps)
 
+  -- the predicate of parts joined by `and`
   pub and_pred : Tree APAnd → Predicate
   and_pred (PAnd first rest) = all_of (not_pred first) (not_preds rest)
 
+  -- the predicates of the parts of an `and`
   pub not_preds : Tree (Many APNot) → pred.PredicateTree pred.PredicateParts
   not_preds none = pred.no_parts
   not_preds (more p ps) = pred.first_part (not_pred p) (not_preds ps)
 
+  -- the predicate of an atom, perhaps behind `not`
   pub not_pred : Tree APNot → Predicate
   not_pred (PNot true atom) = pred.Negated (atom_pred atom)
   not_pred (PNot false atom) = atom_pred atom
 
+  -- the predicate of an atom: a truth, a mark, an interval, or parentheses
   pub atom_pred : Tree APAtom → Predicate
   atom_pred TrueAtom = pred.Always
   atom_pred FalseAtom = pred.Never

@@ -14,12 +14,13 @@ use Rattle.eval_meaning.specs.BuiltinSafety.{AreA, Grows, IsA, Of, Safe}
 use Rattle.eval_meaning.specs.Meaning.{Surroundings}
 use Rattle.eval_meaning.specs.Scripts.{Ending}
 
--- each binding with a type has a value of it
+-- each binding that has a type also has a value of this type over the nodes ns
 abbrev pub HaveValues : List Node → TypesByToken → List SlotValue → Type 0
 HaveValues ns types slots = (at : ℕ) (g : Ground) → type_at at types ≡ Some g
     → (v : Value) × (value_at_token at slots ≡ Some v) × IsA ns v g
 
--- evaluation in a scope and typing in a sight look up the same
+-- evaluation in the surroundings s and typing in the sight t look up the same: targets, kinds, values of the right
+-- types, and calls that are not stuck
 pub record Knows (s : Surroundings) (t : Sight) (ns : List Node) : Type 0 where
   pub target : (at : ℕ) → target_said (use_at at s.uses) ≡ t.target at
   pub kinds : (at : ℕ) → t.kinds at ≡ kinds_in (use_at at s.uses) s.kinds
@@ -29,7 +30,7 @@ pub record Knows (s : Surroundings) (t : Sight) (ns : List Node) : Type 0 where
       → (given : List Argument) (m : Machine) → Grows ns m.plan.nodes → AreA m.plan.nodes given gs
       → Safe m.plan.nodes (Of g) (s.call u ks given m)
 
--- a script's evaluation is not stuck
+-- evaluation ends with a plan or with a fault that is told
 abbrev pub IsNotStuck : {A : Type 0} → Result A Ending → Type 0
 IsNotStuck (Ok x) = ⊤
 IsNotStuck (Err (Some fault)) = ⊤

@@ -18,7 +18,8 @@ use Rattle.script_values.specs.Slots.{SlotValue}
 use Rattle.eval_meaning.specs.Calls.{is_setting}
 use Rattle.eval_meaning.specs.Meaning.{Surroundings, full, call, choice, call_by}
 
--- the scope of a statement: the bindings so far, no open kinds, and 16 calls that may run
+-- the surroundings of a statement: the bindings of those before it, no open kinds, and 16 calls that may run within
+-- each other
 abbrev pub top_scope : Script → List Use → List SlotValue → Surroundings
 top_scope script uses globals = record {
   uses = uses;
@@ -27,8 +28,8 @@ top_scope script uses globals = record {
   call = call_by (record { script = script; uses = uses; globals = globals }) MAX_CALLS;
 }
 
--- what a statement makes of the bindings and of the state. A call or an `if` that is a whole statement counts nothing
--- itself
+-- What a statement makes of the bindings and of the state. A call or an `if` that is a whole statement counts nothing
+-- itself.
 unfoldable pub statement : Surroundings → Tree APart → List SlotValue → Machine
     → Result (List SlotValue × Machine) Stop
 statement s (BindPart (Bind at name f)) slots m = full s f m >>= λ x. Ok (slots ++ (at, x.0) ∷ [], x.1)
@@ -40,26 +41,26 @@ statement s (IfPart i) slots m = choice s i m >>= λ x. Ok (slots, x.1)
 abbrev pub Ending : Type 0
 Ending = Option EvalFault
 
--- the first fault ends the script, and a fault of a statement is told with its number
+-- a step, and the next one over what it gives; the first fault ends the script
 abbrev pub and_then : {A B : Type 0} → Result A Ending → (A → Result B Ending) → Result B Ending
 and_then (Ok x) f = f x
 and_then (Err e) f = Err e
 
--- a fault of statement n ends the evaluation there
+-- what statement n gives, or its fault as the one of the script
 abbrev pub ending_in : {A : Type 0} → ℕ → Result A Stop → Result A Ending
 ending_in n (Ok x) = Ok x
 ending_in n (Err e) = Err (fault_in n e)
 
--- whether a tick of this duration, in millionths of a second, has a length that a tick may have
+-- whether a tick of this duration, in millionths of a second, has from 1 to MAX_FRAME samples at this rate
 abbrev pub is_tick : ℤ → ℕ → Bool
 is_tick duration rate = int_le (pos 0) duration
     && (nat_le 1 (samples_in duration rate) && nat_le (samples_in duration rate) MAX_FRAME)
 
--- the samples of a tick of this duration, where it is one
+-- how many samples a tick of this duration has, in millionths of a second; none if it is no length for a tick
 abbrev pub tick_of : ℤ → ℕ → Option ℕ
 tick_of duration rate = elim (is_tick duration rate) [ true ↦ Some (samples_in duration rate) | false ↦ None ]
 
--- the settings are over: the plan has its tick, or the last setting was bad
+-- the settings are over: the plan has a tick of `frame` samples, or without one the last setting was bad
 abbrev pub closed : Machine → Option ℕ → Result Machine Ending
 closed m (Some frame) = Ok (record m {
   plan = record m.plan { frame = frame };
@@ -72,28 +73,28 @@ closed m None = Err (Some (told.BadSetting m.settings.last))
 unfoldable pub settings_ended : Machine → Result Machine Ending
 settings_ended m = closed m (tick_of m.settings.duration.millionths m.plan.rate)
 
--- the settings end before the first statement that is none
+-- the settings end before the first statement that is none of them
 abbrev pub settings_settled : Bool → Machine → Result Machine Ending
 settings_settled true m = Ok m
 settings_settled false m = elim m.settings.allowed [ true ↦ settings_ended m | false ↦ Ok m ]
 
--- the state in the statement of this number
+-- the state in statement n
 abbrev pub numbered : ℕ → Machine → Machine
 numbered n m = record m { settings = record m.settings { statement = n } }
 
--- what the statement of this number makes of them, with the end of the settings before it
+-- what statement n makes of the bindings and of the state, with the end of the settings before it
 unfoldable pub turned : Script → List Use → Tree APart → ℕ → List SlotValue → Machine
     → Result (List SlotValue × Machine) Ending
 turned script uses part n slots m = and_then (settings_settled (is_setting uses part) m)
     (λ b. ending_in n (statement (top_scope script uses slots) part slots (numbered n b)))
 
--- the statements behind the first n, with the bindings so far
+-- the state behind the statements that follow the first n, over the bindings of these
 unfoldable pub statements : Script → List Use → Tree (Many AStmt) → ℕ → List SlotValue → Machine → Result Machine Ending
 statements script uses none n slots m = settings_settled false m
 statements script uses (more (Stmt part semicolon) rest) n slots m = and_then (turned script uses part (n + 1) slots m)
     (λ x. statements script uses rest (n + 1) x.0 x.1)
 
--- a script without an output has no plan
+-- the plan of the state behind all statements; without an output there is none
 abbrev pub plan_of : Machine → Result Plan Ending
 plan_of m =
     elim (list_any is_output m.plan.sinks) [
@@ -101,7 +102,7 @@ plan_of m =
       | false ↦ Err (Some told.NoOutput)
     ]
 
--- the state behind the statements of a script, or its first fault
+-- the state behind all statements of a script, or its first fault
 abbrev pub ran : Script → List Use → Result Machine Ending
 ran script uses = statements script uses script 0 [] first_machine
 
@@ -109,7 +110,7 @@ ran script uses = statements script uses script 0 [] first_machine
 abbrev pub evaluation : Script → List Use → Result Plan Ending
 evaluation script uses = and_then (ran script uses) plan_of
 
--- the plan behind the statements, with the calls of its sources
+-- the plan of the state behind all statements, with the calls of its sources
 abbrev pub sources_of : Machine → Result (Plan × List ℕ) Ending
 sources_of m = and_then (plan_of m) (λ plan. Ok (plan, m.calls))
 
@@ -118,7 +119,7 @@ sources_of m = and_then (plan_of m) (λ plan. Ok (plan, m.calls))
 abbrev pub sources : Script → List Use → Result (Plan × List ℕ) Ending
 sources script uses = and_then (ran script uses) sources_of
 
--- want of memory is free, and any other fault is the defined one
+-- evaluation returned this fault: memory may be refused at any time, and any other fault is the defined one
 abbrev pub Ends : {Y : Type 0} → EvalFault → Result Y Ending → Type 0
 Ends told.Memory meant = ⊤
 Ends (told.BadSetting n) meant = meant ≡ Err (Some (told.BadSetting n))
@@ -129,6 +130,7 @@ Ends told.NoOutput meant = meant ≡ Err (Some told.NoOutput)
 Ends (told.SameOutput name) meant = meant ≡ Err (Some (told.SameOutput name))
 Ends (told.TooLarge limit) meant = meant ≡ Err (Some (told.TooLarge limit))
 
+-- what evaluation returned, seen by `view`, is the defined result, but that memory may be refused
 abbrev pub Answers : {X Y : Type 0} → (X → Y) → Result X EvalFault → Result Y Ending → Type 0
 Answers view (Ok x) meant = meant ≡ Ok (view x)
 Answers view (Err e) meant = Ends e meant

@@ -10,11 +10,12 @@ use Rattle.script_values.specs.declared.slots.Slot.{Slot}
 use Rattle.typing_rules.specs.Scripts.{def_token}
 use Rattle.typing_rules.specs.declared.uses.Use.{Use}
 
--- the table has, for each token, the first place in the list at which the test finds it
+-- the table has, for each token, the index of the first item of the list that passes the test with it; none where none
+-- passes
 abbrev pub IsTable : {X : Type 0} → (ℕ → X → Bool) → List (Option ℕ) → List X → Type 0
 IsTable test places xs = (at : ℕ) → at_token at places ≡ position (test at) xs
 
--- each token that passes has this place now, unless it had one, and every other token has what it had
+-- each token that passes the test has this index now, unless it had one, and every other token has what it had
 abbrev pub Notes : (ℕ → Bool) → List (Option ℕ) → ℕ → List (Option ℕ) → Type 0
 Notes test old place new = (at : ℕ) → at_token at new ≡ option_or (at_token at old) (cond (test at) (Some place) None)
 
@@ -33,13 +34,13 @@ def_if at (Stmt (BindPart b) semicolon) = None
 def_if at (Stmt (CallPart c) semicolon) = None
 def_if at (Stmt (IfPart i) semicolon) = None
 
--- whether the statement is the def whose name stands at the token
+-- whether a statement is the def whose name stands at the token
 abbrev pub names : Tree AStmt → ℕ → Bool
 names (Stmt (DefPart d) semicolon) at = nat_eq (def_token d) at
 names (Stmt (BindPart b) semicolon) at = false
 names (Stmt (CallPart c) semicolon) at = false
 names (Stmt (IfPart i) semicolon) at = false
 
--- the same of a statement of the program
+-- whether a statement of the program is the def whose name stands at the token
 abbrev pub is_def : ℕ → ProgramStmt → Bool
 is_def at s = names (view_stmt s) at

@@ -10,6 +10,7 @@ use Rattle.script_values.specs.Values.{Value}
 use Rattle.script_values.specs.Views.{view_slot}
 use Rattle.eval_meaning.specs.Meaning.{Surroundings, World, call_by}
 
+-- the script with its uses and the values of the bindings of its statements, as a program's scope has them
 abbrev pub world_of : program.Scope → World
 world_of s = record {
   script = view_script s.defs.now.script.now;
@@ -17,6 +18,7 @@ world_of s = record {
   globals = map view_slot s.globals.now.all.items;
 }
 
+-- what an expression sees in a program's scope: bindings of the def first, then those of statements
 abbrev pub scope_of : program.Scope → Surroundings
 scope_of s = record {
   uses = s.uses.now.all.now;
@@ -25,7 +27,7 @@ scope_of s = record {
   call = call_by (world_of s) s.calls;
 }
 
--- the scope without the bindings of the def
+-- what an expression sees in a program's scope without the bindings of the def around
 abbrev pub base_of : program.Scope → Surroundings
 base_of s = record {
   uses = s.uses.now.all.now;
@@ -34,11 +36,11 @@ base_of s = record {
   call = call_by (world_of s) s.calls;
 }
 
--- a call of the def at this token
+-- what a call of the def at this token makes, with these open kinds and arguments
 abbrev pub called : program.Scope → ℕ → List Kind → List (GivenArgument Value) → Machine → Outcome
 called s at kinds given m = call_by (world_of s) s.calls at kinds given m
 
--- kinds before those that are still to be read
+-- the kinds ks with further ones behind them, if there are these
 abbrev pub prefixed : List Kind → Option (List Kind) → Option (List Kind)
 prefixed ks None = None
 prefixed ks (Some js) = Some (ks ++ js)

@@ -9,7 +9,7 @@ use liq_base::{Memory, TokenTable};
 use script_grammar::tree::{Def, Script, Stmt, StmtPart};
 use std::alloc::Global;
 
-/// A script, with a table of the statement of each def.
+/// A script, with a table that has for the token of a def's name the index of its statement.
 #[derive(Drop)]
 pub struct Defs<'a> {
     pub script: &'a Script,
@@ -18,7 +18,7 @@ pub struct Defs<'a> {
 }
 
 impl<'a> Defs<'a> {
-    /// The defs of a script, with their table.
+    /// The defs of a script, with a table of their statements.
     pub fn new(alloc: Global, script: &'a Script) -> Result<Defs<'a>, Memory>
         ensures { IfOk result (λ d. d.script.now ≡ script.entry.now) }
     {
@@ -29,7 +29,7 @@ impl<'a> Defs<'a> {
         Ok(Defs { script, places })
     }
 
-    /// The def whose name stands at this token.
+    /// The def whose name stands at token `at`; `None` if there is none.
     pub fn find(&self, at: u32) -> Option<&'a Def>
         ensures { option_map (λ d. view_def d.now) result ≡ def_at at (view_script self.now.script.now) }
     {
@@ -39,7 +39,7 @@ impl<'a> Defs<'a> {
     }
 }
 
-// Notes the place of a statement, if it is a def.
+// Notes the index of a statement by the token of its name, if it is a def.
 fn note_def(places: &mut TokenTable<u32>, stmt: &Stmt, place: usize) -> Result<(), Memory>
     ensures { OnOk result (Notes (names (view_stmt stmt.now)) places.old place places.new) }
 {
@@ -49,6 +49,7 @@ fn note_def(places: &mut TokenTable<u32>, stmt: &Stmt, place: usize) -> Result<(
     }
 }
 
+/// The def that a statement is, if its name stands at token `at`.
 fn def_of(stmt: &Stmt, at: u32) -> Option<&Def>
     ensures { option_map (λ d. view_def d.now) result ≡ def_if at (view_stmt stmt.now) }
 {

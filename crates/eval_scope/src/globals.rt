@@ -10,7 +10,7 @@ use liq_base::{Memory, TokenTable};
 use script_values::{Slot, Value};
 use std::alloc::Global;
 
-/// The values of the bindings of statements, with a table of the place of each token's first.
+/// The values of the bindings of statements, with a table that has for a token the index of its first binding.
 #[derive(Drop)]
 pub struct Globals {
     pub all: Vec<Slot>,
@@ -29,7 +29,7 @@ impl Globals {
         }
     }
 
-    /// Adds a binding behind the others.
+    /// Adds a binding behind the others. Where memory is refused, the list of them is as it was.
     pub fn push(&mut self, slot: Slot) -> Result<(), Memory>
         ensures { OnOk result (self.new.all.items ≡ self.old.all.items ++ slot ∷ []) }
     {
@@ -45,7 +45,7 @@ impl Globals {
         }
     }
 
-    /// The value of the binding at this token.
+    /// The value of the first binding whose name stands at token `at`; `None` if there is none.
     pub fn find(&self, at: u32) -> Option<&Value>
         ensures { option_map (λ v. view_value v.now) result ≡ value_at_token at (map view_slot self.now.all.items) }
     {

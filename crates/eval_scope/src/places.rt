@@ -5,8 +5,8 @@ ghost use Rattle.eval_scope.specs.Places.{Notes};
 
 use liq_base::{Memory, TokenTable};
 
-/// Notes the place of a token, unless it has one. Where memory runs out, or the place has no number of 32 bits, no
-/// place changes.
+/// Notes the index `place` for token `at`, unless it has one. Where memory runs out, or the index has no 32 bits,
+/// nothing changes.
 pub fn note(places: &mut TokenTable<u32>, at: u32, place: usize) -> Result<(), Memory>
     ensures noted { OnOk result (Notes (nat_eq at) places.old place places.new) }
     ensures err { OnErr result ((t : ℕ) → at_token t places.new ≡ at_token t places.old) }

@@ -16,8 +16,8 @@ use script_values::{Machine, Slot, Stop, Value, copy, count_value, slot_at};
 use std::alloc::Global;
 use typing_rules::{KindOf, Target};
 
-/// Where an expression stands: the defs of the script, what its names stand for, the values of bindings, and the open
-/// kinds of the def around. So many more calls of defs may run.
+/// Where an expression stands: the defs of the script, what its names mean, the bindings of statements and those of the
+/// def around, that def's open kinds, and how many calls of defs may still run within each other.
 #[derive(Clone, Copy)]
 pub struct Scope<'a> {
     pub defs: &'a Defs<'a>,
@@ -28,7 +28,7 @@ pub struct Scope<'a> {
     pub calls: usize,
 }
 
-/// The value of the name at this token.
+/// The value of the name that is used at token `at`.
 #[tactic(auto, unfolding(eval_meaning::specs::Meaning::named))]
 pub fn named(
     alloc: Global,
@@ -49,7 +49,7 @@ pub fn named(
     }
 }
 
-/// The kinds of a use, where the def around has these.
+/// The kinds of a use, where `given` are the open kinds of the def around; `None` where one of these is not there.
 pub fn kinds_of(
     alloc: Global,
     given: &[Kind],
@@ -67,7 +67,8 @@ pub fn kinds_of(
     Ok(Some(kinds))
 }
 
-/// The format that `%wav` names: of 16 bits without a size and with 16, of 24 with 24, and of no other size.
+/// The format that `%wav` at token `at` names: of 16 bits without a size and with 16, of 24 with 24; any other size is
+/// a bad value.
 pub fn format(at: u32, size: Option<i64>) -> Result<Value, Stop>
     ensures { Gives (λ v. view_value v) result (format at size) }
 {
@@ -85,6 +86,7 @@ pub fn format(at: u32, size: Option<i64>) -> Result<Value, Stop>
     }
 }
 
+/// A copy of the value of the binding whose name stands at token `at`. Its size counts as work.
 fn slot_value(
     alloc: Global,
     scope: &Scope<'_>,
@@ -104,7 +106,8 @@ fn slot_value(
     }
 }
 
-// The value of a binding, of the def first.
+// The value of the binding whose name stands at token `at`: first of those of the def around, then of those of
+// statements.
 fn lookup<'a>(scope: &Scope<'a>, at: u32) -> Option<&'a Value>
     ensures { option_map (λ v. view_value v.now) result ≡ value_at_token at (scope_of scope.now).slots }
 {
@@ -114,6 +117,7 @@ fn lookup<'a>(scope: &Scope<'a>, at: u32) -> Option<&'a Value>
     }
 }
 
+/// A kind of a use, where `given` are the open kinds of the def around; `None` where it is not there.
 fn kind_at(given: &[Kind], wanted: KindOf) -> Option<Kind>
     ensures { result ≡ known_kind given.now wanted }
 {

@@ -8,7 +8,7 @@ use liq_base::{Memory, TokenTable};
 use std::alloc::Global;
 use typing_rules::Use;
 
-/// The uses of a script, with a table of the place of each token's first.
+/// The uses of a script, with a table that has for a token the index of its first use.
 #[derive(Drop)]
 pub struct Uses<'a> {
     pub all: &'a [Use],
@@ -17,7 +17,7 @@ pub struct Uses<'a> {
 }
 
 impl<'a> Uses<'a> {
-    /// These uses, with their table.
+    /// The uses of a script, with a table of their tokens.
     pub fn new(alloc: Global, all: &'a [Use]) -> Result<Uses<'a>, Memory>
         ensures { IfOk result (λ u. u.all.now ≡ all.entry.now) }
     {
@@ -28,7 +28,7 @@ impl<'a> Uses<'a> {
         Ok(Uses { all, places })
     }
 
-    /// The use that stands for the name at this token.
+    /// What the name at token `at` stands for; `None` if there is no use of it.
     pub fn find(&self, at: u32) -> Option<&'a Use>
         ensures { option_map (λ u. u.now) result ≡ use_at at self.now.all.now }
     {

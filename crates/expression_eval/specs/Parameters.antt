@@ -13,39 +13,39 @@ use Rattle.script_values.specs.Values.{Value, UnitValue}
 use Rattle.script_values.specs.View.{view_value}
 use Rattle.eval_meaning.specs.Meaning.{Surroundings, full}
 
--- what a parameter of the program takes, if it takes an argument
+-- the argument that a parameter takes, if it takes one
 abbrev pub view_taken : Option AValue → Option Value
 view_taken o = option_map view_value o
 
--- the value of the argument at a place
+-- the value of the argument at an index; that of `()` if there is none
 abbrev pub value_at : List AGiven → ℕ → Value
 value_at gs place = get_or (map (λ g. view_value g.value) gs) place UnitValue
 
--- no place is this one
+-- none of these indexes is i
 abbrev pub Lacks : ℕ → List (Option ℕ) → Type 0
 Lacks i [] = ⊤
 Lacks i (None ∷ os) = Lacks i os
 Lacks i (Some j ∷ os) = (j ≢ i) × Lacks i os
 
--- no place stands there twice
+-- no index is among these twice
 abbrev pub AreApart : List (Option ℕ) → Type 0
 AreApart [] = ⊤
 AreApart (None ∷ os) = AreApart os
 AreApart (Some i ∷ os) = Lacks i os × AreApart os
 
--- what stands at every other place is as it was
+-- the value at every index but this one is as it was
 abbrev pub AreKept : Option ℕ → (ℕ → Value) → (ℕ → Value) → Type 0
 AreKept None old new = (j : ℕ) → new j ≡ old j
 AreKept (Some i) old new = (j : ℕ) → j ≢ i → new j ≡ old j
 
--- the slot of a parameter that takes this
+-- the binding of a parameter by the argument that it takes, or else by its default
 unfoldable pub filled : Surroundings → Tree AParam → Option Value → Machine → Result (SlotValue × Machine) Stop
 filled s p (Some v) m = Ok ((token_of p, v), m)
 filled s (Param at name) None m = Err Stuck
 filled s (Labelled at name) None m = Err Stuck
 filled s (Optional at name d) None m = full s d m >>= λ x. Ok ((at, x.0), x.1)
 
--- the slots of parameters that take these, behind others
+-- the bindings `slots` and behind them those of further parameters, of which each takes its argument or its default
 unfoldable pub all_filled : Surroundings → Tree (Many AParam) → List (Option Value) → List SlotValue → Machine
     → Result (List SlotValue × Machine) Stop
 all_filled s none os slots m = Ok (slots, m)

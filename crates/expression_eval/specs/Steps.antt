@@ -9,7 +9,7 @@ use Rattle.script_values.specs.Values.{Value}
 use Rattle.script_values.specs.declared.fault.Stop.{Stop}
 use Rattle.script_values.specs.declared.machine.Machine.{Machine}
 
--- what was made, behind the count of 1
+-- what was made, once 1 of work is counted
 abbrev pub after_count : Result Value Stop → Machine → Outcome
 after_count made m = count_work 1 m >>= λ c. made >>= λ v. Ok (v, c)
 
@@ -21,6 +21,6 @@ operation (operator.Sum minus at) = added minus at
 operation (operator.Product divide at) = multiplied divide at
 operation (operator.Comparison op) = compared op
 
--- a value that a call at this token made, with its sources noted of this state, before which there were so many
+-- the value v, behind a call at token `at` whose sources are noted from number `before` on
 abbrev pub noted_value : (at before : ℕ) → Value → Machine → Outcome
 noted_value at before v m = Ok (v, noted_by at before m)

@@ -15,11 +15,11 @@ use script_values::{Given, Value, argument};
 use std::alloc::Global;
 use std::mem;
 
-/// So many arguments of a call are looked through for each parameter; more of them by a table.
+/// Up to this many arguments of a call are searched anew for each parameter; of more a table is made.
 const FEW_ARGUMENTS: usize = 16;
 
-/// What each parameter takes of these arguments, if it takes one: the first one behind its label, or the first without
-/// one, as `docs/evaluation.md` says under "Order". Memory may be wanting, and nothing else.
+/// For each parameter the argument that it takes, if it takes one: the first with its label, or the first without one,
+/// as `docs/evaluation.md` says under "Order". Memory may be wanting, and nothing else.
 pub fn taken_arguments(
     alloc: Global,
     params: &[Param],
@@ -37,7 +37,7 @@ pub fn taken_arguments(
     Ok(taken)
 }
 
-/// Looks through the arguments that are left, for each parameter. Puts what it takes behind the others.
+/// Adds to `taken` what each of these parameters takes of the arguments in `rest`, which it searches one after another.
 fn take_in_turn(
     params: &[Param],
     rest: &mut Vec<Given>,
@@ -54,7 +54,7 @@ fn take_in_turn(
     Ok(())
 }
 
-/// The same with many arguments, which are found by a table of their labels.
+/// For each parameter the argument that it takes, found by a table of the arguments' labels.
 fn taken_by_table(
     alloc: Global,
     params: &[Param],
@@ -70,7 +70,7 @@ fn taken_by_table(
     Ok(taken)
 }
 
-/// The place of the argument that each parameter takes, if it takes one.
+/// For each parameter the index of the argument that it takes, if it takes one.
 fn places_taken(
     alloc: Global,
     params: &[Param],
@@ -86,7 +86,7 @@ fn places_taken(
     Ok(places)
 }
 
-/// Puts the places of the arguments that parameters take out of the table behind the others.
+/// Adds to `places` the index of the argument that each of these parameters takes out of the table.
 fn find_places(
     params: &[Param],
     labels: &mut Labels<'_>,
@@ -102,7 +102,7 @@ fn find_places(
     Ok(())
 }
 
-/// Moves the values at these places behind the others.
+/// Adds to `taken` the values of the arguments at these indexes.
 fn take_all(
     places: &[Option<usize>],
     given: &mut [Given],
@@ -119,7 +119,7 @@ fn take_all(
     Ok(())
 }
 
-/// The value of the argument at a place, in whose stead `Value::Nothing` stands there now.
+/// Takes the value of the argument at index `place`, if there is an index, and leaves `Value::Nothing` in its stead.
 fn take_value(given: &mut [Given], place: Option<usize>) -> Option<Value>
     ensures value { view_taken result ≡ option_map (value_at given.old) place }
     ensures others { AreKept place (value_at given.old) (value_at given.new) }
@@ -128,7 +128,8 @@ fn take_value(given: &mut [Given], place: Option<usize>) -> Option<Value>
     Some(take_at(given, place))
 }
 
-/// The same of a place, behind the last of which `Value::Nothing` is.
+/// Takes the value of the argument at index `place`, and leaves `Value::Nothing` in its stead. Past the last argument
+/// the value is `Value::Nothing`.
 fn take_at(given: &mut [Given], place: usize) -> Value
     ensures value { view_value result ≡ value_at given.old place }
     ensures others { AreKept (Some place) (value_at given.old) (value_at given.new) }
@@ -140,7 +141,7 @@ fn take_at(given: &mut [Given], place: usize) -> Value
     mem::replace(&mut one.value, Value::Nothing)
 }
 
-/// The labels of arguments, in order.
+/// The labels of arguments, in order; `None` for one without a label.
 fn labels_of(alloc: Global, given: &[Given]) -> Result<Vec<Option<&str>>, Memory>
     ensures same { IfOk result (λ labels. map seen_label labels.items ≡ map (λ g. g.label) given.now) }
 {
@@ -151,7 +152,7 @@ fn labels_of(alloc: Global, given: &[Given]) -> Result<Vec<Option<&str>>, Memory
     Ok(labels)
 }
 
-/// The name in a label.
+/// The name that a label is, if there is one.
 fn name_of(label: &Option<Text>) -> Option<&str>
     ensures same { seen_label result ≡ label.entry.now }
 {
@@ -161,7 +162,7 @@ fn name_of(label: &Option<Text>) -> Option<&str>
     }
 }
 
-/// The label that the argument of a parameter has, if it has one.
+/// The label of the argument that a parameter takes; `None` if the parameter takes one without a label.
 fn label_of(param: &Param) -> Option<&str>
     ensures same { seen_label result ≡ the_label_of (parameter_of (view_param param.entry.now)) }
 {

@@ -1,4 +1,6 @@
 // Comparisons, sums and products.
+// `left` says how many levels deeper evaluation may go; where it is used up, memory counts as wanting. The place `out`
+// gets a value or the first fault.
 ghost use Rattle.std.specs.Prelude.{map};
 ghost use Rattle.script_grammar.specs.View.{listed, view_compare, view_sum, view_added, view_product, view_multiplied};
 ghost use Rattle.script_values.specs.Gives.{Gives};
@@ -16,6 +18,8 @@ use script_values::{Machine, Stop, Value};
 use std::alloc::Global;
 
 /// comparison: sum ((`==` | `!=` | `<` | `<=` | `>` | `>=`) sum)?
+///
+/// Puts the truth of a comparison into `out`, or the value of a sum alone.
 #[cycle(value)]
 pub fn compare(
     alloc: Global,
@@ -38,7 +42,9 @@ pub fn compare(
     }
 }
 
-/// (`==` | `!=` | `<` | `<=` | `>` | `>=`) sum, behind the value in the place
+/// (`==` | `!=` | `<` | `<=` | `>` | `>=`) sum
+///
+/// Compares the value in `out`, if it is no fault, with the sum to its right.
 #[cycle(value)]
 #[inline(never)]
 fn compare_with(
@@ -59,6 +65,8 @@ fn compare_with(
 }
 
 /// sum: product ((`+` | `-`) product)*
+///
+/// Puts the value of a sum into `out`.
 #[cycle(value)]
 fn sum(
     alloc: Global,
@@ -75,7 +83,9 @@ fn sum(
     addends(alloc, scope, left, machine, &node.rest, out);
 }
 
-/// ((`+` | `-`) product)*, behind the value in the place
+/// ((`+` | `-`) product)*
+///
+/// Adds these products to the value in `out`, or takes them from it, one after another.
 #[cycle(value)]
 fn addends(
     alloc: Global,
@@ -96,7 +106,9 @@ fn addends(
     }
 }
 
-/// (`+` | `-`) product, behind the value in the place
+/// (`+` | `-`) product
+///
+/// Adds this product to the value in `out`, or takes it from it.
 #[cycle(value)]
 #[inline(never)]
 fn added(
@@ -119,6 +131,8 @@ fn added(
 }
 
 /// product: operand ((`*` | `/`) operand)*
+///
+/// Puts the value of a product into `out`.
 #[cycle(value)]
 fn product(
     alloc: Global,
@@ -135,7 +149,9 @@ fn product(
     factors(alloc, scope, left, machine, &node.rest, out);
 }
 
-/// ((`*` | `/`) operand)*, behind the value in the place
+/// ((`*` | `/`) operand)*
+///
+/// Multiplies the value in `out` by these operands, or divides it by them, one after another.
 #[cycle(value)]
 fn factors(
     alloc: Global,
@@ -156,7 +172,9 @@ fn factors(
     }
 }
 
-/// (`*` | `/`) operand, behind the value in the place
+/// (`*` | `/`) operand
+///
+/// Multiplies the value in `out` by this operand, or divides it by it.
 #[cycle(value)]
 #[inline(never)]
 fn multiplied(

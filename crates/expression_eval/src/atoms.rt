@@ -12,8 +12,8 @@ use script_grammar::tree::Operand;
 use script_values::{Machine, Stop, Value, literal};
 use std::alloc::Global;
 
-/// The value of an operand without parts, behind its count. Of one with parts it makes none, as if memory were wanting:
-/// the descent sends none here.
+/// The value of an operand without parts; it counts 1, and a name the size of its value. Of an operand with parts it
+/// makes none, as if memory were wanting: the descent sends none here.
 #[inline(never)]
 #[tactic(auto, unfolding(eval_meaning::specs::Meaning::operand))]
 pub fn atom(

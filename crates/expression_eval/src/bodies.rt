@@ -1,4 +1,5 @@
 // The bodies of defs: their parameters, their inner bindings and their results.
+// `left` says how many levels deeper evaluation may go; where it is used up, memory counts as wanting.
 ghost use Rattle.std.specs.Prelude.{[], None, map};
 ghost use Rattle.script_grammar.specs.View.{listed, view_def, view_param, view_inner};
 ghost use Rattle.script_values.specs.Gives.{Gives};
@@ -18,7 +19,7 @@ use std::alloc::Global;
 
 /// def: `def` NameOpen (param (`,` param)*)? `)` `=`? inner* expression `end`
 ///
-/// Its result, for a call with these arguments. Where `left` is used up, memory is wanting.
+/// The result of a def for a call with these arguments.
 #[cycle(value)]
 #[tactic(auto, unfolding(eval_meaning::specs::Meaning::body))]
 pub fn body(
@@ -52,7 +53,7 @@ pub fn body(
 
 /// param (`,` param)*
 ///
-/// The bindings of the parameters, by the arguments that they take.
+/// The bindings of the parameters of a def, by the arguments that they take.
 #[cycle(value)]
 fn parameters(
     alloc: Global,
@@ -72,7 +73,7 @@ fn parameters(
 
 /// param (`,` param)*
 ///
-/// The same of parameters that take these, in order.
+/// The bindings of parameters, of which each takes the value in `taken` at its place, or else its default.
 #[cycle(value)]
 fn filled_parameters(
     alloc: Global,
@@ -100,7 +101,7 @@ fn filled_parameters(
 
 /// param: Name | `~` Name | `~` Name `=` value
 ///
-/// Its binding, by the argument that it takes, if it takes one, or else by its default.
+/// The binding of a parameter by the argument that it takes, or else by its default.
 #[cycle(value)]
 #[tactic(auto, unfolding(crate::specs::Parameters::filled))]
 fn parameter(
@@ -162,7 +163,7 @@ fn missing_parameter(
 
 /// inner*
 ///
-/// The inner bindings of a def, each behind the ones before it.
+/// Adds the inner bindings of a def to `slots`, each evaluated behind the ones before it.
 #[cycle(value)]
 fn inners(
     alloc: Global,
@@ -185,7 +186,7 @@ fn inners(
 
 /// inner: binding `;`?
 ///
-/// Its binding, in the scope of the parameters and of the inner bindings before it.
+/// The binding that an inner binding of a def makes, behind the parameters and the inner bindings in `slots`.
 #[cycle(value)]
 #[tactic(auto, unfolding(eval_meaning::specs::Meaning::inner))]
 fn inner(

@@ -1,4 +1,6 @@
 // Calls, their arguments, and what they call.
+// `left` says how many levels deeper evaluation may go; where it is used up, memory counts as wanting. The place `out`
+// gets a value or the first fault.
 ghost use Rattle.std.specs.Prelude.{[], map};
 ghost use Rattle.typing_rules.specs.Kinds.{kinds_of};
 ghost use Rattle.typing_rules.specs.Uses.{use_at};
@@ -23,7 +25,7 @@ use typing_rules::{Target, Use};
 
 /// call: NameOpen (argument (`,` argument)*)? `)`
 ///
-/// Its value, or its first fault.
+/// The value of a call, or its first fault.
 pub fn call(
     alloc: Global,
     scope: &Scope<'_>,
@@ -41,7 +43,8 @@ pub fn call(
 
 /// call: NameOpen (argument (`,` argument)*)? `)`
 ///
-/// The arguments are evaluated as they are written, and then what the name stands for is called.
+/// Puts the value of a call into `out`. Its arguments are evaluated as they are written, and then what the name stands
+/// for is called.
 #[cycle(value)]
 #[inline(never)]
 pub fn put_call(
@@ -63,7 +66,7 @@ pub fn put_call(
 
 /// argument (`,` argument)*
 ///
-/// The values one after another, each with its label. `None` at the first fault, which is in the place then.
+/// The values of arguments in order, each with its label. `None` at the first fault, which is then in `out`.
 #[cycle(value)]
 fn arguments(
     alloc: Global,
@@ -86,7 +89,7 @@ fn arguments(
     Some(given)
 }
 
-/// A call, at this token, of what the name there stands for. The sources that it makes are noted as its own.
+/// Calls what the name at token `at` stands for, and notes the sources that the call makes as its own.
 #[cycle(value)]
 #[inline(never)]
 #[tactic(auto, unfolding(eval_meaning::specs::Meaning::applied))]
@@ -113,7 +116,7 @@ fn applied(
     }
 }
 
-/// The same of what a use says: a def or a builtin. No source is noted yet.
+/// Calls the def or builtin that a use says, whose name stands at token `at`, and notes no source.
 #[cycle(value)]
 fn applied_to(
     alloc: Global,
@@ -138,7 +141,7 @@ fn applied_to(
     }
 }
 
-/// A call of the def at this token, with these kinds and arguments. Where no more calls may run within each other, it
+/// Calls the def at token `at`, with these open kinds and arguments. Where no more calls may run within each other, it
 /// is refused.
 #[cycle(value)]
 fn call_def(

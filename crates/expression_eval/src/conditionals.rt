@@ -1,4 +1,6 @@
 // Conditionals: one of two values.
+// `left` says how many levels deeper evaluation may go; where it is used up, memory counts as wanting. The place `out`
+// gets a value or the first fault.
 ghost use Rattle.script_grammar.specs.View.{view_if};
 ghost use Rattle.script_values.specs.Gives.{Gives};
 ghost use Rattle.eval_meaning.specs.Meaning.{choice};
@@ -14,7 +16,7 @@ use std::alloc::Global;
 
 /// if: `if` value `then` value `else` value `end`
 ///
-/// Its value, or its first fault.
+/// The value of an `if`, or its first fault.
 pub fn choice(
     alloc: Global,
     scope: &Scope<'_>,
@@ -32,7 +34,7 @@ pub fn choice(
 
 /// if: `if` value `then` value `else` value `end`
 ///
-/// Of the two branches only the chosen one is evaluated.
+/// Puts the value of an `if` into `out`. Of the two branches only the chosen one is evaluated.
 #[cycle(value)]
 #[inline(never)]
 pub fn put_choice(

@@ -15,7 +15,7 @@ use script_grammar::tree::{
 };
 use typing_rules::{Builtin, Target};
 
-/// Whether the statement is a call of the builtin `set` that holds no other call, evaluated or not.
+/// Whether the statement is a call of the builtin `set` that has no other call in it, evaluated or not.
 pub fn is_setting(uses: &Uses<'_>, part: &StmtPart) -> bool
     ensures { result ≡ is_setting uses.now.all.now (view_part part.now) }
 {
@@ -25,6 +25,7 @@ pub fn is_setting(uses: &Uses<'_>, part: &StmtPart) -> bool
     }
 }
 
+// Whether a call is one of `set` that has no other call in it.
 fn is_setting_call(uses: &Uses<'_>, call: &Call) -> bool
     ensures { result ≡ is_setting uses.now.all.now (view_part (a_call call.now)) }
 {
@@ -34,6 +35,7 @@ fn is_setting_call(uses: &Uses<'_>, call: &Call) -> bool
     false
 }
 
+// Whether the name at token `at` means the builtin `set`.
 fn means_set(uses: &Uses<'_>, at: u32) -> bool
     ensures { result ≡ means_set (target_said (use_at at uses.now.all.now)) }
 {
@@ -43,6 +45,7 @@ fn means_set(uses: &Uses<'_>, at: u32) -> bool
     }
 }
 
+// Whether a target is the builtin `set`.
 fn is_set(target: Target) -> bool
     ensures { result ≡ means_set (Some target) }
 {
@@ -52,6 +55,8 @@ fn is_set(target: Target) -> bool
     }
 }
 
+// Whether there is a call in these arguments. `full_holds`, `expr_holds` and the like ask it of a part of an
+// expression.
 fn args_hold(args: &[Arg]) -> bool
     ensures { result ≡ list_any (λ x. holds_call (view_arg x)) args.now }
 {
@@ -63,6 +68,7 @@ fn args_hold(args: &[Arg]) -> bool
     false
 }
 
+// Whether a value has a call in it.
 #[cycle(holds)]
 fn full_holds(node: &Full) -> bool
     ensures { result ≡ holds_call (view_full node.now) }
@@ -73,6 +79,7 @@ fn full_holds(node: &Full) -> bool
     }
 }
 
+// Whether one of these values has a call in it.
 #[cycle(holds)]
 fn fulls_hold(parts: &[Full]) -> bool
     ensures { result ≡ list_any (λ x. holds_call (view_full x)) parts.now }
@@ -85,6 +92,7 @@ fn fulls_hold(parts: &[Full]) -> bool
     false
 }
 
+// Whether an expression has a call in it.
 #[cycle(holds)]
 fn expr_holds(node: &Expr) -> bool
     ensures { result ≡ holds_call (view_expr node.now) }
@@ -95,6 +103,7 @@ fn expr_holds(node: &Expr) -> bool
     ands_hold(&node.rest)
 }
 
+// Whether one of these parts of an `or` has a call in it.
 #[cycle(holds)]
 fn ands_hold(parts: &[And]) -> bool
     ensures { result ≡ list_any (λ x. holds_call (view_and x)) parts.now }
@@ -107,6 +116,7 @@ fn ands_hold(parts: &[And]) -> bool
     false
 }
 
+// Whether a part of an `or` has a call in it.
 #[cycle(holds)]
 fn and_holds(node: &And) -> bool
     ensures { result ≡ holds_call (view_and node.now) }
@@ -117,6 +127,7 @@ fn and_holds(node: &And) -> bool
     nots_hold(&node.rest)
 }
 
+// Whether one of these parts of an `and` has a call in it.
 #[cycle(holds)]
 fn nots_hold(parts: &[Not]) -> bool
     ensures { result ≡ list_any (λ x. holds_call (view_not x)) parts.now }
@@ -129,6 +140,7 @@ fn nots_hold(parts: &[Not]) -> bool
     false
 }
 
+// Whether a part of an `and` has a call in it.
 #[cycle(holds)]
 fn not_holds(node: &Not) -> bool
     ensures { result ≡ holds_call (view_not node.now) }
@@ -136,6 +148,7 @@ fn not_holds(node: &Not) -> bool
     compare_holds(&node.inner)
 }
 
+// Whether a comparison has a call in it.
 #[cycle(holds)]
 fn compare_holds(node: &Compare) -> bool
     ensures { result ≡ holds_call (view_compare node.now) }
@@ -151,6 +164,7 @@ fn compare_holds(node: &Compare) -> bool
     }
 }
 
+// Whether a sum has a call in it.
 #[cycle(holds)]
 fn sum_holds(node: &Sum) -> bool
     ensures { result ≡ holds_call (view_sum node.now) }
@@ -161,6 +175,7 @@ fn sum_holds(node: &Sum) -> bool
     addends_hold(&node.rest)
 }
 
+// Whether one of these terms of a sum has a call in it.
 #[cycle(holds)]
 fn addends_hold(parts: &[Added]) -> bool
     ensures { result ≡ list_any (λ x. holds_call (view_added x)) parts.now }
@@ -173,6 +188,7 @@ fn addends_hold(parts: &[Added]) -> bool
     false
 }
 
+// Whether a product has a call in it.
 #[cycle(holds)]
 fn product_holds(node: &Product) -> bool
     ensures { result ≡ holds_call (view_product node.now) }
@@ -183,6 +199,7 @@ fn product_holds(node: &Product) -> bool
     factors_hold(&node.rest)
 }
 
+// Whether one of these factors of a product has a call in it.
 #[cycle(holds)]
 fn factors_hold(parts: &[Multiplied]) -> bool
     ensures { result ≡ list_any (λ x. holds_call (view_multiplied x)) parts.now }
@@ -195,6 +212,7 @@ fn factors_hold(parts: &[Multiplied]) -> bool
     false
 }
 
+// Whether an operand is a call or has one in it.
 #[cycle(holds)]
 fn operand_holds(node: &tree::Operand) -> bool
     ensures { result ≡ holds_call (view_operand node.now) }
@@ -215,6 +233,7 @@ fn operand_holds(node: &tree::Operand) -> bool
     }
 }
 
+// Whether an `if` has a call in it, in the condition or in a branch.
 #[cycle(holds)]
 fn if_holds(node: &If) -> bool
     ensures { result ≡ holds_call (view_if node.now) }

@@ -1,4 +1,6 @@
 // Expressions: parts joined by `or` and `and`, each perhaps behind `not`.
+// `left` says how many levels deeper evaluation may go; where it is used up, memory counts as wanting. The place `out`
+// gets a value or the first fault.
 ghost use Rattle.std.specs.Prelude.{map};
 ghost use Rattle.script_grammar.specs.View.{listed, view_expr, view_and, view_not};
 ghost use Rattle.script_values.specs.Gives.{Gives};
@@ -16,6 +18,8 @@ use script_values::{Machine, Stop, Value};
 use std::alloc::Global;
 
 /// expression: and (`or` and)*
+///
+/// Puts the value of an expression into `out`.
 #[cycle(value)]
 pub fn expr(
     alloc: Global,
@@ -32,7 +36,9 @@ pub fn expr(
     ors(alloc, scope, left, machine, &node.rest, out);
 }
 
-/// (`or` and)*, behind the value in the place
+/// (`or` and)*
+///
+/// Joins these parts to the value in `out` by `or`, one after another.
 #[cycle(value)]
 fn ors(
     alloc: Global,
@@ -53,7 +59,9 @@ fn ors(
     }
 }
 
-/// `or` and, behind the value in the place
+/// `or` and
+///
+/// Joins this part to the value in `out` by `or`.
 #[cycle(value)]
 #[inline(never)]
 fn or_one(
@@ -73,6 +81,8 @@ fn or_one(
 }
 
 /// and: not (`and` not)*
+///
+/// Puts the value of a part of an `or` into `out`.
 #[cycle(value)]
 fn conjunction(
     alloc: Global,
@@ -89,7 +99,9 @@ fn conjunction(
     ands(alloc, scope, left, machine, &node.rest, out);
 }
 
-/// (`and` not)*, behind the value in the place
+/// (`and` not)*
+///
+/// Joins these parts to the value in `out` by `and`, one after another.
 #[cycle(value)]
 fn ands(
     alloc: Global,
@@ -110,7 +122,9 @@ fn ands(
     }
 }
 
-/// `and` not, behind the value in the place
+/// `and` not
+///
+/// Joins this part to the value in `out` by `and`.
 #[cycle(value)]
 #[inline(never)]
 fn and_one(
@@ -130,6 +144,8 @@ fn and_one(
 }
 
 /// not: `not`? comparison
+///
+/// Puts the value of a comparison into `out`, or with `not` its opposite.
 #[cycle(value)]
 fn negation(
     alloc: Global,

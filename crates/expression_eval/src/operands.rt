@@ -1,4 +1,6 @@
 // Operands that hold values: calls, `if`, and values in round and square brackets.
+// `left` says how many levels deeper evaluation may go; where it is used up, memory counts as wanting. The place `out`
+// gets a value or the first fault.
 ghost use Rattle.std.specs.Prelude.{◌≤◌, length, map};
 ghost use Rattle.script_grammar.specs.View.{listed, view_full, view_operand};
 ghost use Rattle.script_values.specs.Gives.{Gives};
@@ -18,7 +20,8 @@ use std::alloc::Global;
 
 /// operand: call | if | `(` .. `)` | `[` .. `]` | one that holds no value
 ///
-/// Each arm that goes down ends in its call, so that nothing of this function is on the stack behind it.
+/// Puts the value of an operand into `out`. Each arm that goes down ends in its call, so that nothing of this function
+/// is on the stack behind it.
 #[cycle(value)]
 pub fn operand(
     alloc: Global,
@@ -61,9 +64,10 @@ pub fn operand(
     }
 }
 
-/// `(` (value (`,` value)*)? `)`, behind its count
+/// `(` (value (`,` value)*)? `)`
 ///
-/// No value is the one of `()`, one is itself, and several are a tuple.
+/// Puts what stands in parentheses into `out`, once 1 is counted: no value is the one of `()`, one is itself, and
+/// several are a tuple.
 #[cycle(value)]
 #[inline(never)]
 fn grouped(
@@ -84,7 +88,9 @@ fn grouped(
     }
 }
 
-/// `(` value (`,` value)+ `)`, behind its count
+/// `(` value (`,` value)+ `)`
+///
+/// Puts a tuple of two or more values into `out`, once 1 is counted.
 #[cycle(value)]
 fn pair(
     alloc: Global,
@@ -104,7 +110,9 @@ fn pair(
     }
 }
 
-/// `[` (value (`,` value)*)? `]`, behind its count
+/// `[` (value (`,` value)*)? `]`
+///
+/// Puts a list of values into `out`, once 1 is counted.
 #[cycle(value)]
 #[inline(never)]
 fn list(

@@ -14,7 +14,7 @@ use script_values::{Machine, Stop, Value, count};
 use std::alloc::Global;
 use time_pred::{Pred, SharedPred};
 
-/// The value of a predicate in braces, which counts 1.
+/// The value of a predicate in braces; it counts 1.
 pub fn counted_pred(alloc: Global, machine: &mut Machine, node: &POr) -> Result<Value, Stop>
     ensures { Gives (λ v. (view_value v, machine.new)) result
         (after_count (Ok (a_pred (or_pred (view_por node.now)))) machine.old) }
@@ -24,6 +24,7 @@ pub fn counted_pred(alloc: Global, machine: &mut Machine, node: &POr) -> Result<
     Ok(Value::Pred(SharedPred::new(alloc, made)?))
 }
 
+// The predicate of parts joined by `or`.
 #[cycle(pred)]
 fn any_part(alloc: Global, node: &POr) -> Result<Pred, Memory>
     ensures { IfOk result (λ p. view_pred p ≡ or_pred (view_por node.now)) }
@@ -31,6 +32,7 @@ fn any_part(alloc: Global, node: &POr) -> Result<Pred, Memory>
     any_of(alloc, &node.parts)
 }
 
+// The predicate of a list of parts joined by `or`; a single one stays itself.
 #[cycle(pred)]
 #[tactic(auto, unfolding(eval_meaning::specs::Preds::or_pred, eval_meaning::specs::Preds::and_preds, eval_meaning::specs::Preds::and_pred, eval_meaning::specs::Preds::not_preds, eval_meaning::specs::Preds::not_pred, eval_meaning::specs::Preds::atom_pred))]
 fn any_of(alloc: Global, parts: &[PAnd]) -> Result<Pred, Memory>
@@ -44,6 +46,7 @@ fn any_of(alloc: Global, parts: &[PAnd]) -> Result<Pred, Memory>
     }
 }
 
+// The predicate of two or more parts joined by `or`.
 #[cycle(pred)]
 fn several_any(alloc: Global, parts: &[PAnd]) -> Result<Pred, Memory>
     requires { 2 ≤ length parts.now }
@@ -53,6 +56,7 @@ fn several_any(alloc: Global, parts: &[PAnd]) -> Result<Pred, Memory>
     Ok(Pred::Any(made))
 }
 
+// The predicate of each of these conjunctions.
 #[cycle(pred)]
 fn each_and(alloc: Global, parts: &[PAnd]) -> Result<Vec<Pred>, Memory>
     ensures { IfOk result (λ made. map view_pred made.items ≡ map (λ a. and_pred (view_pand a)) parts.now) }
@@ -64,6 +68,7 @@ fn each_and(alloc: Global, parts: &[PAnd]) -> Result<Vec<Pred>, Memory>
     Ok(made)
 }
 
+// The predicate of parts joined by `and`.
 #[cycle(pred)]
 fn all_parts(alloc: Global, node: &PAnd) -> Result<Pred, Memory>
     ensures { IfOk result (λ p. view_pred p ≡ and_pred (view_pand node.now)) }
@@ -71,6 +76,7 @@ fn all_parts(alloc: Global, node: &PAnd) -> Result<Pred, Memory>
     all_of(alloc, &node.parts)
 }
 
+// The predicate of a list of parts joined by `and`; a single one stays itself.
 #[cycle(pred)]
 #[tactic(auto, unfolding(eval_meaning::specs::Preds::or_pred, eval_meaning::specs::Preds::and_preds, eval_meaning::specs::Preds::and_pred, eval_meaning::specs::Preds::not_preds, eval_meaning::specs::Preds::not_pred, eval_meaning::specs::Preds::atom_pred))]
 fn all_of(alloc: Global, parts: &[PNot]) -> Result<Pred, Memory>
@@ -84,6 +90,7 @@ fn all_of(alloc: Global, parts: &[PNot]) -> Result<Pred, Memory>
     }
 }
 
+// The predicate of two or more parts joined by `and`.
 #[cycle(pred)]
 fn several_all(alloc: Global, parts: &[PNot]) -> Result<Pred, Memory>
     requires { 2 ≤ length parts.now }
@@ -93,6 +100,7 @@ fn several_all(alloc: Global, parts: &[PNot]) -> Result<Pred, Memory>
     Ok(Pred::All(made))
 }
 
+// The predicate of each of these parts of an `and`.
 #[cycle(pred)]
 fn each_not(alloc: Global, parts: &[PNot]) -> Result<Vec<Pred>, Memory>
     ensures { IfOk result (λ made. map view_pred made.items ≡ map (λ n. not_pred (view_pnot n)) parts.now) }
@@ -104,6 +112,7 @@ fn each_not(alloc: Global, parts: &[PNot]) -> Result<Vec<Pred>, Memory>
     Ok(made)
 }
 
+// The predicate of a part of an `and`, perhaps behind `not`.
 #[cycle(pred)]
 #[tactic(auto, unfolding(eval_meaning::specs::Preds::not_pred))]
 fn one_part(alloc: Global, node: &PNot) -> Result<Pred, Memory>
@@ -117,6 +126,7 @@ fn one_part(alloc: Global, node: &PNot) -> Result<Pred, Memory>
     }
 }
 
+// The predicate of an atom: a truth, a mark, an interval, or parentheses.
 #[cycle(pred)]
 #[tactic(auto, unfolding(eval_meaning::specs::Preds::atom_pred))]
 fn atom(alloc: Global, node: &PAtom) -> Result<Pred, Memory>

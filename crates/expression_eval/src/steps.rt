@@ -22,13 +22,13 @@ use std::alloc::Global;
 use std::mem;
 use std::rc::Rc;
 
-/// An operator on two values, with what it needs beside them.
+/// An operator on two values, with the token `at` at which a bad value is told.
 #[derive(Clone, Copy)]
 pub enum Operator {
-    /// Whether one of two holds.
+    /// `or` of two truth values.
     Or,
 
-    /// Whether both hold.
+    /// `and` of two truth values.
     And,
 
     /// A sum, or with `minus` a difference.
@@ -37,19 +37,19 @@ pub enum Operator {
     /// A product, or with `divide` a quotient.
     Product { divide: bool, at: u32 },
 
-    /// Whether two numbers compare so.
+    /// The truth of a comparison.
     Comparison(CompareOp),
 }
 
-/// Writes a result into its place. What was there ends.
+/// Writes a result into `out`. What was there is dropped.
 pub fn put(out: &mut Result<Value, Stop>, made: Result<Value, Stop>)
     ensures { out.new ≡ made }
 {
     *out = made;
 }
 
-/// What an operator makes of the value in the place and of its right operand, behind its count. A fault that is there
-/// stays.
+/// Puts what an operator makes of the value in `out` and of its right operand into `out`, and counts 1. A fault that is
+/// there stays.
 #[inline(never)]
 pub fn operate(
     machine: &mut Machine,
@@ -65,6 +65,7 @@ pub fn operate(
     }
 }
 
+/// What an operator makes of its left operand and of what the right one gave; it counts 1.
 fn operated(
     machine: &mut Machine,
     operator: Operator,
@@ -79,7 +80,7 @@ fn operated(
     }
 }
 
-/// `not` of the value in the place, behind its count. A fault that is there stays.
+/// Puts `not` of the value in `out` into `out`, and counts 1. A fault that is there stays.
 #[inline(never)]
 pub fn negate(machine: &mut Machine, out: &mut Result<Value, Stop>)
     ensures { Goes (λ v. after_count (opposite v) machine.old) out.old out.new machine.new }
@@ -90,7 +91,7 @@ pub fn negate(machine: &mut Machine, out: &mut Result<Value, Stop>)
     }
 }
 
-/// The truth of the value in the place. `None` where there is none, and then the fault is in the place.
+/// The truth of the value in `out`. `None` where there is none, and then the fault is in `out`.
 #[inline(never)]
 pub fn truth(out: &mut Result<Value, Stop>) -> Option<bool>
     ensures { Tells out.old result out.new }
@@ -108,7 +109,7 @@ pub fn truth(out: &mut Result<Value, Stop>) -> Option<bool>
     }
 }
 
-/// Counts 1. `false` where that is too much, and then the fault is in the place.
+/// Counts 1. False where that is too much work, and then the fault is in `out`.
 #[inline(never)]
 pub fn step(machine: &mut Machine, out: &mut Result<Value, Stop>) -> bool
     ensures { GoesOn result machine.new out.new (count_work 1 machine.old) }
@@ -122,7 +123,7 @@ pub fn step(machine: &mut Machine, out: &mut Result<Value, Stop>) -> bool
     }
 }
 
-/// What a call at this token made, with its sources noted, where there were so many sources before it.
+/// What a call at token `at` made. Notes its sources, those from number `before` on.
 #[inline(never)]
 pub fn noted(
     machine: &mut Machine,
@@ -138,6 +139,7 @@ pub fn noted(
     }
 }
 
+/// The value that a call at token `at` made. Notes its sources, those from number `before` on.
 fn noted_value(machine: &mut Machine, at: u32, before: usize, value: Value) -> Result<Value, Stop>
     ensures { Gives (λ v. (view_value v, machine.new)) result (noted_value at before (view_value value) machine.old) }
 {
@@ -145,7 +147,7 @@ fn noted_value(machine: &mut Machine, at: u32, before: usize, value: Value) -> R
     Ok(value)
 }
 
-/// Moves the value in the place behind the others. `false` where there is none, and then a fault is in the place.
+/// Moves the value in `out` to the end of `values`. False where there is none, and then a fault is in `out`.
 #[inline(never)]
 pub fn kept_value(values: &mut Vec<Value>, out: &mut Result<Value, Stop>) -> bool
     ensures { GoesBehind (λ v. v) out.old result (map view_value values.old.items) (map view_value values.new.items)
@@ -160,8 +162,8 @@ pub fn kept_value(values: &mut Vec<Value>, out: &mut Result<Value, Stop>) -> boo
     }
 }
 
-/// Moves the value in the place behind the arguments, with its label. `false` where there is none, and then a fault is
-/// in the place.
+/// Moves the value in `out` to the end of the arguments, with its label. False where there is none, and then a fault is
+/// in `out`.
 #[inline(never)]
 pub fn kept_argument(
     alloc: Global,
@@ -181,6 +183,7 @@ pub fn kept_argument(
     }
 }
 
+/// Adds an argument with a copy of this label.
 fn labelled(
     alloc: Global,
     label: &Option<Text>,
@@ -195,7 +198,7 @@ fn labelled(
     Ok(())
 }
 
-/// The number below zero, behind its count.
+/// The value of a number behind the minus at token `at`; it counts 1.
 pub fn counted_negative(machine: &mut Machine, at: u32, number: Literal) -> Result<Value, Stop>
     ensures { Gives (λ v. (view_value v, machine.new)) result (after_count (negative at number) machine.old) }
 {
@@ -204,7 +207,7 @@ pub fn counted_negative(machine: &mut Machine, at: u32, number: Literal) -> Resu
     Ok(made)
 }
 
-/// A value that is there, behind the count of 1.
+/// This value; it counts 1.
 pub fn counted_value(machine: &mut Machine, value: Value) -> Result<Value, Stop>
     ensures { Gives (λ v. (view_value v, machine.new)) result (after_count (Ok (view_value value)) machine.old) }
 {
@@ -212,7 +215,7 @@ pub fn counted_value(machine: &mut Machine, value: Value) -> Result<Value, Stop>
     Ok(value)
 }
 
-/// A text of the script, behind the count of 1.
+/// The value of a text of the script; it counts 1.
 pub fn counted_text(alloc: Global, machine: &mut Machine, text: &Text) -> Result<Value, Stop>
     ensures { Gives (λ v. (view_value v, machine.new)) result (after_count (Ok (a_text text.now)) machine.old) }
 {
@@ -221,7 +224,7 @@ pub fn counted_text(alloc: Global, machine: &mut Machine, text: &Text) -> Result
     Ok(Value::Text(Rc::new(alloc, text)?))
 }
 
-/// The format that `%wav` names, behind the count of 1.
+/// The format that `%wav` at token `at` names; it counts 1.
 pub fn counted_format(machine: &mut Machine, at: u32, size: Option<i64>) -> Result<Value, Stop>
     ensures { Gives (λ v. (view_value v, machine.new)) result (after_count (format at size) machine.old) }
 {
@@ -230,6 +233,7 @@ pub fn counted_format(machine: &mut Machine, at: u32, size: Option<i64>) -> Resu
     Ok(made)
 }
 
+/// What an operator makes of two values; it counts 1.
 fn counted_operation(
     machine: &mut Machine,
     operator: Operator,
@@ -244,6 +248,7 @@ fn counted_operation(
     Ok(made)
 }
 
+/// What an operator makes of two values.
 fn operation(operator: Operator, left: &Value, right: &Value) -> Result<Value, Stop>
     ensures { Gives (λ v. view_value v) result (operation operator (view_value left.now) (view_value right.now)) }
 {
@@ -256,6 +261,7 @@ fn operation(operator: Operator, left: &Value, right: &Value) -> Result<Value, S
     }
 }
 
+/// `not` of a truth value; it counts 1.
 fn counted_opposite(machine: &mut Machine, value: &Value) -> Result<Value, Stop>
     ensures { Gives (λ v. (view_value v, machine.new)) result
         (after_count (opposite (view_value value.now)) machine.old) }

@@ -22,7 +22,7 @@ use std::alloc::Global;
 
 /// value: expression | `-` Int | `-` Number
 ///
-/// Its value, or its first fault.
+/// The value, or its first fault.
 #[cycle(value)]
 pub fn full(
     alloc: Global,
@@ -41,7 +41,8 @@ pub fn full(
 
 /// value: expression | `-` Int | `-` Number
 ///
-/// Where `left` is used up, memory is wanting. An expression that is one operand is evaluated straight as that operand.
+/// Puts the value into `out`. Where `left` is used up, memory is wanting. An expression that is one operand is
+/// evaluated straight as that operand.
 #[cycle(value)]
 #[tactic(auto, unfolding(eval_meaning::specs::Meaning::full))]
 pub fn put_full(
@@ -70,7 +71,7 @@ pub fn put_full(
 
 /// value (`,` value)*
 ///
-/// The values one after another. `None` at the first fault, which is in the place then.
+/// The values in order. `None` at the first fault, which is then in `out`.
 #[cycle(value)]
 pub fn fulls(
     alloc: Global,

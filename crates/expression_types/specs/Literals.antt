@@ -4,6 +4,7 @@ use Rattle.script_grammar.specs.declared.tree.Literal.TheVariants as literal
 use Rattle.type_terms.specs.Term.{Term, base_term}
 use Rattle.type_terms.specs.declared.ty.Base.TheVariants as base
 
+-- the type of a literal: int or decimal
 abbrev pub literal_term : Literal → Term
 literal_term (literal.Int n) = base_term base.Int
 literal_term (literal.Number d) = base_term base.Decimal

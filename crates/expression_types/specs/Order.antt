@@ -44,10 +44,11 @@ tokens_used (Arg at label f) = tokens_used f
 tokens_used (If at c t e) = tokens_used c ++ tokens_used t ++ tokens_used e
 tokens_used t = []
 
--- a token, what its name means, and how many open kinds that has
+-- what is told of a use: its token, what the name means, and how many open kinds that has
 abbrev pub Said : Type 0
 Said = ℕ × Option Target × Option ℕ
 
+-- a use that was found: its token, what it means, and how many kinds it has
 abbrev pub said_of : Found → Said
 said_of f = (f.at, Some f.target, Some (length f.kinds))
 
@@ -55,14 +56,15 @@ said_of f = (f.at, Some f.target, Some (length f.kinds))
 abbrev pub open_kinds : KnownDef → ℕ
 open_kinds d = length (open_numbers 0 (scheme_of d.general).kinds)
 
--- A parameter or a value has none, a def those of its general type, and a builtin those of its row.
+-- how many open kinds a target has: a parameter or a value none, a def those of its general type, and a builtin those
+-- of its row
 abbrev pub kinds_count : List KnownDef → Option Target → Option ℕ
 kinds_count ds None = None
 kinds_count ds (Some (target.Slot t)) = Some 0
 kinds_count ds (Some (target.Def t)) = option_map open_kinds (def_seen t ds)
 kinds_count ds (Some (target.Builtin b)) = Some (signature b).kinds
 
--- what is to be said at a token
+-- what a use at token t is to say, by the names that are seen
 abbrev pub said_at : Names → ℕ → Said
 said_at ns t = (t, (env_of ns).targets t, kinds_count ns.defs.now ((env_of ns).targets t))
 
@@ -70,12 +72,12 @@ said_at ns t = (t, (env_of ns).targets t, kinds_count ns.defs.now ((env_of ns).t
 abbrev pub AreAdded : Names → List ℕ → List Found → List Found → Type 0
 AreAdded ns ts old new = map said_of new ≡ map said_of old ++ map (said_at ns) ts
 
--- the same where a type was answered
+-- where there is an answer, the uses at these tokens were added to the old ones
 abbrev pub AreAddedIf : {A : Type 0} → Names → List ℕ → List Found → List Found → Option A → Type 0
 AreAddedIf ns ts old new None = ⊤
 AreAddedIf ns ts old new (Some n) = AreAdded ns ts old new
 
--- the same where it is true
+-- where the answer is true, the uses at these tokens were added to the old ones
 abbrev pub AreAddedWhere : Names → List ℕ → List Found → List Found → Bool → Type 0
 AreAddedWhere ns ts old new false = ⊤
 AreAddedWhere ns ts old new true = AreAdded ns ts old new

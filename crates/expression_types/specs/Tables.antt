@@ -13,11 +13,12 @@ use Rattle.expression_types.specs.declared.environment.Known.TheVariants as know
 abbrev pub targets_of : List (Option Target) → Targets
 targets_of m t = at_token t m
 
--- the number of the variable of a statement's value at a token, and of the newest such value
+-- the number of the type variable of a statement's value, if its name stands at token t
 abbrev pub number_known : ℕ → Known → Option ℕ
 number_known t (known.Value n) = cond (nat_eq n.at t) (Some n.var) None
 number_known t (known.Function i) = None
 
+-- the number of the type variable of the newest value whose name stands at token t
 abbrev pub newest_number : ℕ → List Known → Option ℕ
 newest_number t [] = None
 newest_number t (k ∷ ks) = option_or (newest_number t ks) (number_known t k)
@@ -27,6 +28,6 @@ abbrev pub def_seen : ℕ → List KnownDef → Option KnownDef
 def_seen t [] = None
 def_seen t (d ∷ ds) = cond (nat_eq d.at t) (Some d) (def_seen t ds)
 
--- the table has at each token the place of the first def there
+-- the table has at each token the index of the first def whose name stands there
 abbrev pub ArePlaces : List (Option ℕ) → List KnownDef → Type 0
 ArePlaces places ds = (t : ℕ) → at_token t places ≡ position (λ d. nat_eq d.at t) ds

@@ -15,7 +15,7 @@ use std::alloc::Global;
 use type_steps::{is_number, is_number_of_many, new_type, same};
 use type_terms::{Subst, Ty};
 
-/// The type of a sum, perhaps compared with another.
+/// The type of a sum, perhaps compared with another: the number of its type variable, or `None` where it has no type.
 #[cycle(value)]
 pub fn type_compare(
     alloc: Global,
@@ -52,7 +52,7 @@ pub fn type_compare(
     }
 }
 
-/// Makes one side of a comparison have the type of the other.
+/// Makes the right side of a comparison have type variable `n`, the type of the left; false where it cannot.
 #[cycle(value)]
 fn join_sum(
     alloc: Global,
@@ -80,7 +80,7 @@ fn join_sum(
     }
 }
 
-/// The type of products joined by `+` and `-`.
+/// The type of products joined by `+` and `-`: the number of its type variable, or `None` where there is no type.
 #[cycle(value)]
 fn type_sum(
     alloc: Global,
@@ -110,7 +110,7 @@ fn type_sum(
     }
 }
 
-/// Makes one term of a sum have the type of another.
+/// Makes one term of a sum have type variable `n`, the type of the first; false where that cannot be.
 #[cycle(value)]
 fn join_added(
     alloc: Global,
@@ -138,7 +138,7 @@ fn join_added(
     }
 }
 
-/// Makes the terms of a sum have the type of the first.
+/// Makes the other terms of a sum have type variable `n`, the type of the first; false where that cannot be.
 #[cycle(value)]
 fn join_addends(
     alloc: Global,
@@ -166,7 +166,7 @@ fn join_addends(
     Ok(true)
 }
 
-/// The type of operands joined by `*` and `/`.
+/// The type of operands joined by `*` and `/`: the number of its type variable, or `None` where there is no type.
 #[cycle(value)]
 fn type_product(
     alloc: Global,
@@ -196,7 +196,7 @@ fn type_product(
     }
 }
 
-/// Makes one factor of a product have the type of another.
+/// Makes one factor of a product have type variable `n`, the type of the first; false where that cannot be.
 #[cycle(value)]
 fn join_multiplied(
     alloc: Global,
@@ -224,7 +224,7 @@ fn join_multiplied(
     }
 }
 
-/// Makes the factors of a product have the type of the first.
+/// Makes the other factors of a product have type variable `n`, the type of the first; false where that cannot be.
 #[cycle(value)]
 fn join_factors(
     alloc: Global,

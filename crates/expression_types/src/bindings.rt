@@ -9,7 +9,7 @@ use liq_base::{Memory, TokenTable};
 use std::alloc::Global;
 use std::marker::Model;
 
-/// What statements have bound, the newest last, and by its token the variable of the newest value.
+/// What statements have bound, the newest last, and by its token the type variable of the newest value.
 #[derive(Drop)]
 pub struct Bindings {
     all: Vec<Known>,
@@ -29,7 +29,7 @@ impl Model for Bindings {
     ghost invariant = { λ b. (t : ℕ) → at_token t b.vars ≡ newest_number t b.all.items };
 }
 
-/// Notes the variable of a value by its token. Where memory runs out nothing changes.
+/// Notes the type variable of a value by its token; of a def nothing. Where memory runs out nothing changes.
 fn note(vars: &mut TokenTable<u64>, known: Known) -> Result<(), Memory>
     ensures noted { OnOk result ((t : ℕ) → at_token t vars.new
         ≡ option_or (number_known t known) (at_token t vars.old)) }
@@ -55,7 +55,7 @@ impl Bindings {
         }
     }
 
-    /// Makes room for so many more, so that the list of them need not grow step by step.
+    /// Makes room for `more` bindings, so that their list need not grow step by step.
     pub fn reserve(&mut self, more: usize) -> Result<(), Memory>
         ensures same { self.new ≡ self.old }
     {
@@ -63,7 +63,7 @@ impl Bindings {
         Ok(())
     }
 
-    /// One more, the newest. Where memory runs out nothing changes.
+    /// Adds a binding, the newest. Where memory runs out nothing changes.
     pub fn push(&mut self, known: Known) -> Result<(), Memory>
         ensures pushed { OnOk result (self.new ≡ self.old ++ known ∷ []) }
         ensures err { OnErr result (self.new ≡ self.old) }
@@ -74,7 +74,7 @@ impl Bindings {
         Ok(())
     }
 
-    /// The variable of the newest value at a token.
+    /// The number of the type variable of the newest value whose name stands at token `at`; `None` if there is none.
     pub fn var(&self, at: u32) -> Option<u64>
         ensures { result ≡ newest_number at self.now }
     {

@@ -16,21 +16,21 @@ use type_steps::new_type;
 use type_terms::{KindTerm, Subst, Ty};
 use typing_rules::{Builtin, Target};
 
-/// What a call calls: a builtin, or what has this general type.
+/// What a call calls: a builtin, or a def by its general type.
 #[derive(Clone, Copy)]
 pub enum Called<'g> {
     Builtin(Builtin),
     General(&'g General),
 }
 
-/// What is called: the types of its parameters, and the variable that is the type of its result.
+/// What is called: the types of its parameters, and the number of the type variable that is its result's type.
 #[derive(Drop)]
 pub struct Callee {
     pub params: Vec<Ty>,
     pub result: u64,
 }
 
-/// Gives what is called new variables, and adds the use of its name.
+/// Gives what is called new variables, and adds the use of its name, which stands at token `at`.
 pub fn begin_call(
     alloc: Global,
     subst: &mut Subst,
@@ -49,7 +49,7 @@ pub fn begin_call(
     Ok(callee)
 }
 
-/// The type of what is called, with new variables for its own.
+/// The type of what is called, with new variables in place of its own.
 fn instance_of(alloc: Global, subst: &mut Subst, called: Called<'_>) -> Result<Instance, Memory>
     requires over { IsSchemeOver subst.old (called_scheme called) }
     ensures instance { IfOk result
@@ -64,7 +64,7 @@ fn instance_of(alloc: Global, subst: &mut Subst, called: Called<'_>) -> Result<I
     }
 }
 
-/// What is called, and its open kinds.
+/// What is called, by an instance of its type, and its open kinds.
 fn callee_of(
     alloc: Global,
     subst: &mut Subst,

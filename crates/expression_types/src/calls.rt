@@ -21,7 +21,7 @@ use type_steps::{Argument, fit};
 use type_terms::Subst;
 use typing_rules::Target;
 
-/// The type of a call; `None` where it has no type. It fails only where memory is refused.
+/// The number of the type variable of a call; `None` where it has no type. It fails only where memory is refused.
 ///
 /// Where it has a type, one use for each name of its text was added, in the order of the tokens.
 #[cycle(value)]
@@ -70,7 +70,7 @@ pub fn type_call(
     }
 }
 
-/// An argument of this type, by its label.
+/// An argument by its label and its type, which is type variable `var`.
 fn argument_of<'s>(arg: &'s Arg, var: u64) -> Argument<'s>
     ensures { seen_argument result ≡ (arg.now.label, var) }
 {
@@ -81,7 +81,7 @@ fn argument_of<'s>(arg: &'s Arg, var: u64) -> Argument<'s>
     Argument { label, var }
 }
 
-/// The arguments of a call by their labels and types.
+/// The arguments of a call by their labels and type variables; `None` where one has no type.
 #[cycle(value)]
 fn type_args<'s>(
     alloc: Global,
@@ -110,7 +110,8 @@ fn type_args<'s>(
     Ok(Some(given))
 }
 
-/// A call of this builtin, or of what has this general type.
+/// The type of a call of this builtin, or of what has this general type: the number of its type variable, or `None`
+/// where the arguments do not match the parameters.
 #[cycle(value)]
 fn apply(
     alloc: Global,

@@ -36,7 +36,8 @@ impl<'a> Model for Defs<'a> {
     ghost invariant = { λ d. ArePlaces d.places d.all.items };
 }
 
-/// Notes the place of a def by its token, unless another one stands there. Where memory runs out nothing changes.
+/// Notes the place of a def, its index, by its token, unless another def stands there. Where memory runs out nothing
+/// changes.
 fn note(places: &mut TokenTable<usize>, at: u32, place: usize) -> Result<(), Memory>
     ensures noted { OnOk result ((t : ℕ) → at_token t places.new
         ≡ option_or (at_token t places.old) (cond (nat_eq at t) (Some place) None)) }
@@ -73,7 +74,7 @@ impl<'a> Defs<'a> {
         &self.all
     }
 
-    /// One more, the newest. Where memory runs out nothing changes.
+    /// Adds a def, the newest. Where memory runs out nothing changes.
     pub fn push(&mut self, def: KnownDef<'a>) -> Result<(), Memory>
         ensures pushed { OnOk result (self.new ≡ self.old ++ def.entry ∷ []) }
         ensures err { OnErr result (self.new ≡ self.old) }
@@ -85,7 +86,7 @@ impl<'a> Defs<'a> {
         Ok(())
     }
 
-    /// The first def whose name stands at a token.
+    /// The first def whose name stands at token `at`; `None` if there is none.
     pub fn find(&self, at: u32) -> Option<&KnownDef<'a>>
         ensures { option_map (λ d. d.now) result ≡ def_seen at self.now }
     {

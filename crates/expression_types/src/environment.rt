@@ -14,7 +14,7 @@ use type_instances::General;
 use type_terms::KindTerm;
 use typing_rules::Target;
 
-/// A name that is used, what it stands for, and its open kinds.
+/// A use of a name: its token, what it means, and its open kinds.
 #[derive(Drop)]
 pub struct FoundUse {
     pub at: u32,
@@ -29,7 +29,8 @@ pub enum TextKind {
     Open(u64),
 }
 
-/// A use in the text of a def: its kinds are over the variables outside, or open kinds of the def.
+/// A use of a name in the text of a def, by its token: its kinds are over the variables outside, or open kinds of the
+/// def.
 #[derive(Drop)]
 pub struct TextUse {
     pub at: u32,
@@ -37,14 +38,14 @@ pub struct TextUse {
     pub kinds: Vec<TextKind>,
 }
 
-/// A binding by the token of the name that it binds, and the variable that is its type.
+/// A binding by the token of the name that it binds, and the number of the type variable that is its type.
 #[derive(Clone, Copy, Debug)]
 pub struct TypedName {
     pub at: u32,
     pub var: u64,
 }
 
-/// A def with its general type and the uses in its text.
+/// A def by the token of its name, with its general type and the uses in its text.
 #[derive(Drop)]
 pub struct KnownDef<'a> {
     pub at: u32,
@@ -54,7 +55,7 @@ pub struct KnownDef<'a> {
     pub uses: Vec<TextUse>,
 }
 
-/// What a statement has bound: a value, or a def by its place among the defs.
+/// What a statement has bound: a value, or a def by its index among the defs.
 #[derive(Clone, Copy, Debug)]
 pub enum Known {
     Value(TypedName),
@@ -71,7 +72,7 @@ pub struct Names<'n, 'a> {
     pub defs: &'n Defs<'a>,
 }
 
-/// The variable of the first binding at a token.
+/// The number of the type variable of the first binding whose name stands at token `at`; `None` if there is none.
 fn var_in(names: &[TypedName], at: u32) -> Option<u64>
     ensures { option_map variable result ≡ term_at at (types_seen names.now) }
 {
@@ -84,14 +85,14 @@ fn var_in(names: &[TypedName], at: u32) -> Option<u64>
 }
 
 impl<'n, 'a> Names<'n, 'a> {
-    /// What the name at a token means.
+    /// What the name at token `at` means; `None` if it means nothing.
     pub fn target(&self, at: u32) -> Option<Target>
         ensures { result ≡ (env_of self.now).targets at }
     {
         self.targets.get(at)
     }
 
-    /// The variable that is the type of the binding at a token.
+    /// The number of the type variable of the binding at token `at`; `None` if there is none.
     pub fn value(&self, at: u32) -> Option<u64>
         ensures { option_map variable result ≡ term_seen at (env_of self.now) }
     {
@@ -101,7 +102,7 @@ impl<'n, 'a> Names<'n, 'a> {
         }
     }
 
-    /// The def whose name stands at a token.
+    /// The first def whose name stands at token `at`; `None` if there is none.
     pub fn function(&self, at: u32) -> Option<&'n KnownDef<'a>>
         ensures { option_map (λ d. d.now) result ≡ def_seen at self.now.defs.now }
     {

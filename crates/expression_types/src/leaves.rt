@@ -14,14 +14,14 @@ use type_steps::new_type;
 use type_terms::{KindTerm, Subst, Ty};
 use typing_rules::Target;
 
-/// A number where the answer is yes.
+/// The number `n` if `yes` is true, and otherwise `None`.
 pub fn some_if(yes: bool, n: u64) -> Option<u64>
     ensures { result ≡ if_yes yes n }
 {
     if yes { Some(n) } else { None }
 }
 
-/// A new variable that is the type of a literal.
+/// The number of a new type variable that is bound to the type of a literal.
 pub fn literal_type(alloc: Global, subst: &mut Subst, literal: &Literal) -> Result<u64, Memory>
     ensures { IfOk result (λ n. Defines subst.old subst.new n (literal_term literal.now)) }
 {
@@ -31,7 +31,7 @@ pub fn literal_type(alloc: Global, subst: &mut Subst, literal: &Literal) -> Resu
     }
 }
 
-/// Adds a use.
+/// Adds the use of a name that stands at token `at`.
 pub fn push_use(
     uses: &mut Vec<FoundUse>,
     at: u32,
@@ -45,7 +45,8 @@ pub fn push_use(
     Ok(())
 }
 
-/// The variable of a name outside a call.
+/// The number of the type variable of a name outside a call, which stands at token `at`; `None` where the name means no
+/// binding. Its use is added.
 pub fn type_name(
     alloc: Global,
     subst: &mut Subst,

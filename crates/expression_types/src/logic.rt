@@ -15,7 +15,8 @@ use std::alloc::Global;
 use type_steps::{is_truth, is_truth_of_many, same};
 use type_terms::Subst;
 
-/// The variable that is the type of an expression; `None` where it has no type. It fails only where memory is refused.
+/// The number of the type variable of an expression; `None` where it has no type. It fails only where memory is
+/// refused.
 ///
 /// Where it has a type, one use for each name of its text was added, in the order of the tokens.
 #[cycle(value)]
@@ -47,7 +48,7 @@ pub fn type_expr(
     }
 }
 
-/// Makes one part of an `or` have the type of another.
+/// Makes one part of an `or` have type variable `n`, the type of the first; false where that cannot be.
 #[cycle(value)]
 fn join_and(
     alloc: Global,
@@ -75,7 +76,7 @@ fn join_and(
     }
 }
 
-/// Makes the parts of an `or` have the type of the first.
+/// Makes the other parts of an `or` have type variable `n`, the type of the first; false where that cannot be.
 #[cycle(value)]
 fn join_ands(
     alloc: Global,
@@ -103,7 +104,7 @@ fn join_ands(
     Ok(true)
 }
 
-/// The type of parts joined by `and`.
+/// The type of parts joined by `and`: the number of its type variable, or `None` where the parts have no type.
 #[cycle(value)]
 fn type_and(
     alloc: Global,
@@ -133,7 +134,7 @@ fn type_and(
     }
 }
 
-/// Makes one part of an `and` have the type of another.
+/// Makes one part of an `and` have type variable `n`, the type of the first; false where that cannot be.
 #[cycle(value)]
 fn join_not(
     alloc: Global,
@@ -161,7 +162,7 @@ fn join_not(
     }
 }
 
-/// Makes the parts of an `and` have the type of the first.
+/// Makes the other parts of an `and` have type variable `n`, the type of the first; false where that cannot be.
 #[cycle(value)]
 fn join_nots(
     alloc: Global,
@@ -189,7 +190,7 @@ fn join_nots(
     Ok(true)
 }
 
-/// The type of a comparison, perhaps behind `not`.
+/// The type of a comparison, perhaps behind `not`: the number of its type variable, or `None` where there is no type.
 #[cycle(value)]
 fn type_not(
     alloc: Global,

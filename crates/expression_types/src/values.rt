@@ -17,7 +17,7 @@ use std::alloc::Global;
 use type_steps::{is_truth, new_list, new_tuple, new_type, new_var, same};
 use type_terms::{Subst, Ty};
 
-/// The variable that is the type of a value; `None` where it has no type. It fails only where memory is refused.
+/// The number of the type variable of a value; `None` where it has no type. It fails only where memory is refused.
 ///
 /// Where it has a type, one use for each name of its text was added, in the order of the tokens.
 #[cycle(value)]
@@ -48,7 +48,7 @@ pub fn type_full(
     }
 }
 
-/// The type of an operand.
+/// The type of an operand: the number of its type variable, or `None` where it has no type.
 #[cycle(value)]
 pub fn type_operand(
     alloc: Global,
@@ -99,7 +99,7 @@ pub fn type_operand(
     }
 }
 
-/// The type of an `if`; `None` where it has no type. It fails only where memory is refused.
+/// The number of the type variable of an `if`; `None` where it has no type. It fails only where memory is refused.
 ///
 /// Where it has a type, one use for each name of its text was added, in the order of the tokens.
 #[cycle(value)]
@@ -136,7 +136,7 @@ pub fn type_choice(
     }
 }
 
-/// Makes one value have the type of another.
+/// Makes a value have type variable `n` as its type; false where it cannot.
 #[cycle(value)]
 fn join_full(
     alloc: Global,
@@ -164,7 +164,7 @@ fn join_full(
     }
 }
 
-/// Makes values have one type.
+/// Makes each of these values have type variable `n` as its type; false where one cannot.
 #[cycle(value)]
 fn join_fulls(
     alloc: Global,
@@ -192,7 +192,8 @@ fn join_fulls(
     Ok(true)
 }
 
-/// The type of values in square brackets.
+/// The type of a list, whose `[` is token `at`: the number of its type variable, or `None` where its items have no type
+/// in common.
 #[cycle(value)]
 fn type_list(
     alloc: Global,
@@ -219,7 +220,7 @@ fn type_list(
     Ok(Some(list))
 }
 
-/// The types of values, each its own.
+/// The numbers of the type variables of values, each its own; `None` where one has no type.
 #[cycle(value)]
 fn type_fulls(
     alloc: Global,
@@ -246,7 +247,8 @@ fn type_fulls(
     Ok(Some(vars))
 }
 
-/// The type of values in parentheses.
+/// The type of values in parentheses, which open at token `at`: the number of its type variable, or `None` where one
+/// has no type. One value alone makes no tuple.
 #[cycle(value)]
 fn type_tuple(
     alloc: Global,

@@ -9,7 +9,7 @@ use Rattle.plan_core.specs.declared.sink.SinkPlan.{SinkPlan}
 use Rattle.plan_core.specs.declared.sink.SinkPlan.TheVariants.{Output, Feed}
 use Rattle.time_pred.specs.Predicates.{Predicate, is_always}
 
--- the mark of a node in a list of marks
+-- the mark of node i in a list of marks; false if there is none
 abbrev pub mark_at : List Bool → ℕ → Bool
 mark_at marks i = slice_index_or marks i false
 
@@ -17,7 +17,7 @@ mark_at marks i = slice_index_or marks i false
 abbrev pub last_of : List ℕ → Option ℕ
 last_of children = slice_get children (length children - 1)
 
--- what makes a node infallible
+-- what makes a node infallible: nothing, itself, some child, some case, or the last child
 pub data Rests : Type 0 where
   ByNothing : Rests
   ByItself : Rests
@@ -25,8 +25,9 @@ pub data Rests : Type 0 where
   OnCases : List Predicate → Rests
   OnLast : Rests
 
--- a file that is repeated, zeros and a square wave are so by themselves; a playlist, a fail and a reader by nothing; a
--- switch rests on its cases, a sequence on its last child, and any other on some child
+-- what makes a node of this operator infallible: a file that is repeated, zeros and a square wave are so by themselves,
+-- and nothing makes a playlist, a fail or a reader so; a switch rests on its cases, a sequence on its last child, and
+-- any other on some child
 abbrev pub rests_of : Op → Rests
 rests_of (Single file) = ByItself
 rests_of (Playlist file again) = ByNothing
@@ -38,9 +39,8 @@ rests_of Sequence = OnLast
 rests_of (Buffer number) = ByNothing
 rests_of _ = OnSome
 
--- whether a node that rests on this is infallible over these children, where the mark of a child says whether it is: on
--- some child where one is, on cases where a child is whose predicate is always true by its form, and on the last child
--- where there is one and it is
+-- whether a node that rests on this is infallible, by the marks of its children: on some child where one is marked, on
+-- cases where a child is whose predicate is always true by its form, and on the last child where that one is
 abbrev pub rests_on : (mark : ℕ → Bool) → Rests → List ℕ → Bool
 rests_on mark ByNothing children = false
 rests_on mark ByItself children = true
@@ -48,7 +48,7 @@ rests_on mark OnSome children = list_any mark children
 rests_on mark (OnCases preds) children = list_any (λ pair. is_always pair.0 && mark pair.1) (zip preds children)
 rests_on mark OnLast children = option_map_or mark (last_of children) false
 
--- the same for a node of this operator
+-- whether a node of this operator is infallible over these children, where the mark of a child says whether it is
 abbrev pub infallible_by : (mark : ℕ → Bool) → Op → List ℕ → Bool
 infallible_by mark op children = rests_on mark (rests_of op) children
 
@@ -57,7 +57,8 @@ abbrev pub IsMarking : List Node → (mark : ℕ → Bool) → Type 0
 IsMarking nodes mark = (i : ℕ) (node : Node) → slice_get nodes i ≡ Some node
     → mark i ≡ infallible_by mark node.op node.children
 
--- an output needs an infallible node, unless it is written with `fallible=true`; a feed does not
+-- whether a sink needs an infallible node and has none: an output does, unless it is written with `fallible=true`, and
+-- a feed does not
 abbrev pub refuses : (mark : ℕ → Bool) → SinkPlan → Bool
 refuses mark (Output name node fallible wide) = not fallible && not (mark node)
 refuses mark (Feed buffer node) = false

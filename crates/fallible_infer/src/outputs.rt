@@ -33,7 +33,7 @@ pub fn check_outputs(plan: &Plan, marks: &[bool]) -> Result<(), Fallible>
     Ok(())
 }
 
-// Whether a sink needs an infallible node and has none.
+// Whether a sink needs an infallible node and its node is not marked as one.
 fn refuses(marks: &[bool], sink: &SinkPlan) -> bool
     ensures { result ≡ refuses (mark_at marks.now) sink.now }
 {

@@ -1,5 +1,5 @@
 -- What the reading of a file leaves.
-use Rattle.std.specs.Prelude.{◌≡◌, ℕ, List, ◌++◌, Option}
+use Rattle.std.specs.Prelude.{◌≡◌, ◌≤◌, ℕ, List, ◌++◌, length, take, Option}
 use Rattle.std.specs.Option.{ForSome}
 use Rattle.std.specs.Io.KnownBytes.{Consumes}
 
@@ -17,3 +17,8 @@ pub record Reads (had has : Option (List ℕ)) (before after : List ℕ) : Type 
 -- the list got all that the reader had left, where that is known
 abbrev pub ReadsWhole : Option (List ℕ) → List ℕ → List ℕ → Type 0
 ReadsWhole had before after = ForSome had (λ bytes. after ≡ before ++ bytes)
+
+-- the list got as many first bytes of all that the reader had left, where that is known, and so many there were
+abbrev pub ReadsFront : (count : ℕ) → Option (List ℕ) → List ℕ → List ℕ → Type 0
+ReadsFront count had before after =
+    ForSome had (λ bytes. (count ≤ length bytes) × (after ≡ before ++ take count bytes))

@@ -41,5 +41,6 @@ place_of sink = sink.place
 abbrev pub certain_writer : {W : Type 0} → Certain W → W
 certain_writer certain = certain.writer
 
+-- where the bytes stand that are certain
 abbrev pub certain_place : {W : Type 0} → Certain W → Place
 certain_place certain = certain.place

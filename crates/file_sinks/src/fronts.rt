@@ -1,7 +1,8 @@
 // The first bytes of a reader.
-ghost use Rattle.std.specs.Prelude.{◌≡◌, ◌<◌, ◌+◌, ℕ, List, vec_len, true, None, Ok};
+ghost use Rattle.std.specs.Prelude.{◌≡◌, ◌≢◌, ◌<◌, ◌+◌, ℕ, List, length, vec_len, true, None, Ok};
+ghost use Rattle.std.specs.Option.{ForSome};
 ghost use Rattle.liq_base.specs.Files.{FrontFound};
-ghost use Rattle.file_sinks.specs.Reading.{Extends};
+ghost use Rattle.file_sinks.specs.Reading.{Extends, ReadsFront, ReadsWhole};
 
 use crate::reading::{CHUNK, read_rest};
 use liq_base::{Fetched, Looked, ShelfFault};
@@ -9,7 +10,7 @@ use std::alloc::Global;
 use std::io::{ErrorKind, Read};
 
 /// Looks at a file of `size` bytes, which are more than `front`: adds so many of its first, if it has at most `most`.
-/// Where it turns out to be shorter, it is `Failed`.
+/// Where it turns out to be shorter, it is `Failed`. Those bytes are the first that its reader has left.
 pub fn look_at_front<R: Read>(
     file: &mut R,
     into: &mut Vec<u8>,
@@ -21,6 +22,10 @@ pub fn look_at_front<R: Read>(
     ensures extends { Extends into.old.items into.new.items }
     ensures found { (name : List ℕ) (told : ℕ) → result ≡ Ok (Looked.Found told)
         → FrontFound None name front most told into.old.items into.new.items }
+    ensures first { (told : ℕ) → result ≡ Ok (Looked.Found told)
+        → (told ≡ size) × ReadsFront front (R.remaining file.old) into.old.items into.new.items }
+    ensures too_large { result ≡ Ok Looked.TooLarge → most < size }
+    ensures there { result ≢ Ok Looked.Missing }
 {
     if size > most {
         return Ok(Looked::TooLarge);
@@ -42,6 +47,12 @@ pub fn look_at_whole<R: Read>(
     ensures extends { Extends into.old.items into.new.items }
     ensures found { (name : List ℕ) (told : ℕ) → result ≡ Ok (Looked.Found told)
         → FrontFound None name front most told into.old.items into.new.items }
+    ensures whole { (told : ℕ) → result ≡ Ok (Looked.Found told)
+        → (vec_len into.new ≡ vec_len into.old + told)
+        × ReadsWhole (R.remaining file.old) into.old.items into.new.items }
+    ensures too_large { result ≡ Ok Looked.TooLarge
+        → ForSome (R.remaining file.old) (λ bytes. most < length bytes) }
+    ensures there { result ≢ Ok Looked.Missing }
 {
     let before = into.len();
     match read_rest(file, into, most)? {
@@ -56,6 +67,7 @@ pub fn look_at_whole<R: Read>(
 fn read_front<R: Read>(file: &mut R, into: &mut Vec<u8>, front: u64) -> Result<bool, ShelfFault>
     ensures extends { Extends into.old.items into.new.items }
     ensures exact { result ≡ Ok true → vec_len into.new ≡ vec_len into.old + front }
+    ensures first { result ≡ Ok true → ReadsFront front (R.remaining file.old) into.old.items into.new.items }
 {
     let mut left = front;
     let mut chunk = [0_u8; CHUNK];

@@ -4,7 +4,7 @@ use Rattle.frame_core.specs.declared.cell.Cell.{Cell}
 use Rattle.frame_core.specs.declared.chunk.Gave.{Gave}
 use Rattle.frame_core.specs.declared.chunk.Gave.TheVariants.{Accepted, Full}
 
--- an answer of the buffer: a chunk, or empty
+-- the answer of a buffer to a take: a chunk, or nothing where it is empty
 abbrev pub Answer : Type 0
 Answer = Option (List Cell)
 
@@ -32,11 +32,11 @@ puts_to buffer (Took of answer ∷ calls) = puts_to buffer calls
 puts_to buffer (Given to chunk accepted ∷ calls) =
     if buffer == to then put_of chunk accepted ∷ puts_to buffer calls else puts_to buffer calls
 
--- the call that a give was, by what it answered; a full buffer gave the chunk back
+-- the call that a give of a chunk was, by its answer; a full buffer gave the chunk back
 abbrev pub IsGive : ℕ → List Cell → Gave → Call → Type 0
 IsGive buffer chunk Accepted call = call ≡ Given buffer chunk true
 IsGive buffer chunk (Full back) call = (back ≡ chunk) × (call ≡ Given buffer chunk false)
 
--- whatever list was stood for before, it is stood for afterwards with these calls at its end
+-- whatever list of calls was stood for before, it is stood for afterwards with `more` at its end
 abbrev pub Adds : {T : Type 0} → (T → List Call → Type 0) → T → T → List Call → Type 0
 Adds stands before after more = (calls : List Call) → stands before calls → stands after (calls ++ more)

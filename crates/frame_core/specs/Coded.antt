@@ -3,6 +3,7 @@ use Rattle.std.specs.Prelude.{ℕ, ℤ, Bool, refl}
 use Rattle.std.specs.Coded.{Coded, code_by, coded×, coded_ℤ, coded_bool, coded_ℕ}
 use Rattle.frame_core.specs.declared.cell.Cell.{Cell}
 
+-- a cell as nested pairs, which code to numbers
 abbrev pub cell_coded : Coded Cell
 cell_coded =
     code_by (ℤ × (ℤ × (Bool × ℕ))) (coded× coded_ℤ (coded× coded_ℤ (coded× coded_bool coded_ℕ)))

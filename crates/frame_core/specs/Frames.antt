@@ -1,19 +1,19 @@
--- The cells of a tick, as they come; and what is there of a list of slots.
+-- The cells of a tick while they are made, and the cells in a list of slots.
 use Rattle.std.specs.Prelude.{ℕ, Option, Some, None, List, [], ◌∷◌}
 use Rattle.frame_core.specs.declared.cell.Cell.{Cell}
 
--- the cells so far, in order, and how many there may be
+-- the cells of a tick as they are made, in order, and how many there may be
 pub record Laid : Type 0 where
   pub cells : List Cell
   pub room : ℕ
 
--- what is there, in order
+-- the items of a list of options, in order
 abbrev pub somes : {X : Type 0} → List (Option X) → List X
 somes [] = []
 somes (None ∷ options) = somes options
 somes (Some x ∷ options) = x ∷ somes options
 
--- a list, or nothing where it is empty
+-- a list, or nothing if it is empty
 abbrev pub some_list : {X : Type 0} → List X → Option (List X)
 some_list [] = None
 some_list (x ∷ xs) = Some (x ∷ xs)

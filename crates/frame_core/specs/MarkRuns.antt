@@ -3,25 +3,25 @@ use Rattle.std.specs.Prelude.{◌≡◌, ◌<◌, Bool, false, not, ◌&&◌, �
 use Rattle.frame_core.specs.declared.cell.CellMark.{CellMark}
 use Rattle.frame_core.specs.declared.cell.MarkRun.{MarkRun}
 
--- so many marks of a title, the first of which may begin a track
+-- `count` marks of a title, the first of which may begin a track
 abbrev pub run_marks : (first : Bool) → (title count : ℕ) → List CellMark
 run_marks first title zero = []
 run_marks first title (suc n) = record { first = first; title = title } ∷ replicate n (record { first = false; title = title })
 
--- the marks of these runs
+-- the marks that these runs stand for, in order
 abbrev pub marks_in : List MarkRun → List CellMark
 marks_in [] = []
 marks_in (run ∷ runs) = run_marks run.first run.title run.count ++ marks_in runs
 
--- the mark of a run at a place
+-- mark `at` of a run, counted from 0
 abbrev pub mark_at : MarkRun → ℕ → CellMark
 mark_at run at = record { first = run.first && nat_eq at 0; title = run.title }
 
--- a run that goes on with another one
+-- a run goes on with the one before it: it begins no track and has the same title
 abbrev pub joins : MarkRun → MarkRun → Bool
 joins last run = not run.first && nat_eq last.title run.title
 
--- the first of some runs does not go on with this one
+-- the first of these runs, if there is one, does not go on with `last`
 abbrev pub IsApart : MarkRun → List MarkRun → Type 0
 IsApart last [] = Unit {0}
 IsApart last (run ∷ runs) = joins last run ≡ false

@@ -11,32 +11,34 @@ pub record Sound : Type 0 where
   pub kind : Kind
   pub samples : List ℤ
 
--- how many samples each channel has
+-- how many samples each channel of a file has
 abbrev pub length_of : Sound → ℕ
 length_of sound = length sound.samples / channels_of sound.kind
 
--- whole blocks alone, and at least one
+-- the samples of a file are whole blocks, and at least one
 pub record IsSound (sound : Sound) : Type 0 where
   pub whole_blocks : length sound.samples % channels_of sound.kind ≡ 0
   pub some : 0 < length_of sound
 
--- the sample at a place, and 0 past the end
+-- sample `at`, counted from 0; 0 past the end
 abbrev pub sample_at : List ℤ → ℕ → ℤ
 sample_at samples at = slice_index_or samples at (pos 0)
 
--- the left and the right sample of a file at a place, in a source of this kind; the right one is 0 in mono
+-- the left sample of a cell in a source of kind `kind`, of a file's block `at`; of a stereo file in a mono source it is
+-- half the sum of the block, rounded toward zero
 abbrev pub left_at : Kind → List ℤ → Kind → ℕ → ℤ
 left_at Mono samples kind at = sample_at samples at
 left_at Stereo samples Stereo at = sample_at samples (2 * at)
 left_at Stereo samples Mono at = int_div (sample_at samples (2 * at) +ℤ sample_at samples (2 * at + 1)) (pos 2)
 
--- the right sample at an instant: of a mono file its only one, and 0 for a mono source
+-- the right sample of a cell in a source of the second kind, of a file's block `at`: of a mono file its only one, and 0
+-- in a mono source
 abbrev pub right_at : Kind → List ℤ → Kind → ℕ → ℤ
 right_at source samples Mono at = pos 0
 right_at Mono samples Stereo at = sample_at samples at
 right_at Stereo samples Stereo at = sample_at samples (2 * at + 1)
 
--- the cell of a file of this title at a place, in a source of this kind: a file begins its track at place 0
+-- the cell of a file's block `at` in a source of this kind, with this title: a file begins its track at block 0
 abbrev pub cell_of : Sound → (title : ℕ) → Kind → ℕ → Cell
 cell_of sound title kind at = record {
   left = left_at sound.kind sound.samples kind at;
@@ -45,9 +47,10 @@ cell_of sound title kind at = record {
   title = title;
 }
 
--- the samples of so many cells of a file from a place on, in a source of this kind
+-- the left samples of `count` cells of a file from block `at` on, in a source of this kind
 abbrev pub lefts_from : Sound → Kind → (at count : ℕ) → List ℤ
 lefts_from sound kind at count = map (left_at sound.kind sound.samples kind) (range_with_len at count)
 
+-- the right samples of `count` cells of a file from block `at` on, in a source of this kind
 abbrev pub rights_from : Sound → Kind → (at count : ℕ) → List ℤ
 rights_from sound kind at count = map (right_at sound.kind sound.samples kind) (range_with_len at count)

@@ -83,7 +83,7 @@ impl Block {
         self.runs.as_slice()
     }
 
-    // The cell at a place, counted from 0.
+    // Cell `at` of the tick, counted from 0.
     pub fn cell(&self, at: u32) -> Cell
         requires { at < length self.now }
         ensures { Some result ≡ slice_get self.now at }

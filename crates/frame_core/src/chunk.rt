@@ -45,7 +45,7 @@ impl Chunk {
         Ok(Some(Chunk { block }))
     }
 
-    /// The same cells once more. They take no memory again, and an error comes only past 2^63 holders.
+    /// Another holder of the same cells. They take no memory again, and an error comes only past 2^63 holders.
     pub fn share(&self) -> Result<Chunk, Memory>
         ensures { IfOk result (λ chunk. chunk ≡ self.now) }
     {
@@ -83,7 +83,7 @@ impl Chunk {
         self.block.runs()
     }
 
-    /// The cell at a place, counted from 0.
+    /// Cell `at` of the tick, counted from 0.
     pub fn cell(&self, at: u32) -> Cell
         requires { at < length self.now }
         ensures { Some result ≡ slice_get self.now at }
@@ -92,7 +92,7 @@ impl Chunk {
     }
 }
 
-/// What a give of a chunk answers. A full buffer gives the chunk back.
+/// What a buffer answers to a chunk that is given. A full buffer gives the chunk back.
 #[derive(Debug, Drop)]
 pub enum Gave {
     Accepted,

@@ -1,4 +1,4 @@
-// The cells of one tick, as they come.
+// The cells of one tick while they are made.
 ghost use Rattle.std.specs.Prelude.{◌≡◌, ◌↔◌, ◌≤◌, ◌+◌, ◌++◌, [], true, length, vec_capacity, vec_len, IfOk};
 ghost use Rattle.frame_core.specs.Chunks.{cells_in};
 ghost use Rattle.frame_core.specs.MarkRuns.{marks_in, run_marks};
@@ -11,8 +11,8 @@ use liq_base::limits::MAX_FRAME;
 use std::alloc::Global;
 use std::marker::Model;
 
-/// The cells of one tick so far, in order, with room for at most 65536. Contracts see both. Samples are kept apart from
-/// marks, and of these runs of one title. No call but the first takes memory.
+/// The cells of one tick as they are made, in order, with room for at most 65536. Contracts see both. Samples are kept
+/// apart from marks, and of these runs of one title. No call but the first takes memory.
 #[derive(Debug, Drop)]
 pub struct Frame {
     left: Vec<i16>,
@@ -40,7 +40,7 @@ impl Model for Frame {
 }
 
 impl Frame {
-    /// A frame without a cell, with room for so many.
+    /// A frame without a cell, with room for `room` of them, at most 65536.
     pub fn new(alloc: Global, room: u32) -> Result<Frame, Memory>
         requires { room ≤ MAX_FRAME }
         ensures none { IfOk result (λ frame. frame ≡ record { cells = []; room = room }) }
@@ -56,7 +56,7 @@ impl Frame {
         })
     }
 
-    // The runs, the left and the right samples of its cells.
+    // The runs of marks, the left samples and the right samples of its cells.
     pub(crate) fn lanes(&self) -> (&[MarkRun], &[i16], &[i16])
         ensures cells { cells_in result.1.now result.2.now (marks_in result.0.now) ≡ self.now.cells }
         ensures left { length result.1.now ≡ length (marks_in result.0.now) }
@@ -75,7 +75,7 @@ impl Frame {
             && are_samples(&self.right, &other.right)
     }
 
-    /// Begins anew, without a cell.
+    /// Drops its cells; the room stays.
     pub fn clear(&mut self)
         ensures { self.new ≡ record { cells = []; room = self.old.room } }
     {
@@ -84,7 +84,8 @@ impl Frame {
         self.runs.clear();
     }
 
-    /// Appends cells of these samples and this title: `first` flags the first of them, and no other.
+    /// Appends a cell for each of these samples, with this title. `first` says whether the first of them begins a
+    /// track; the others do not.
     pub fn lay(&mut self, left: &[i16], right: &[i16], first: bool, title: u32)
         requires same { length right.now ≡ length left.now }
         requires room { length self.old.cells + length left.now ≤ self.old.room }
@@ -106,21 +107,21 @@ impl Frame {
     }
 }
 
-// Whether two lists of runs are the same.
+// Whether two lists of runs are equal.
 fn are_runs(one: &[MarkRun], other: &[MarkRun]) -> bool
     ensures { (result ≡ true) ↔ (one.now ≡ other.now) }
 {
     one == other
 }
 
-// Whether two lists of samples are the same.
+// Whether two lists of samples are equal.
 fn are_samples(one: &[i16], other: &[i16]) -> bool
     ensures { (result ≡ true) ↔ (one.now ≡ other.now) }
 {
     one == other
 }
 
-// Appends samples, for which there is room.
+// Appends samples to a list that has room for them.
 fn put_samples(into: &mut Vec<i16>, samples: &[i16])
     requires { vec_len into.old + length samples.now ≤ vec_capacity into.old }
     ensures items { into.new.items ≡ into.old.items ++ samples.now }

@@ -36,7 +36,7 @@ impl Model for Library {
 }
 
 impl Library {
-    /// The library of these files, their names, and these lists.
+    /// The library of these files with their names. `leaves` has for each node the numbers of the files that it plays.
     pub fn new(files: Vec<Track>, names: Vec<Text>, leaves: Vec<Vec<u32>>) -> Library
         requires { IsLibrary (record {
           files = files.items;
@@ -57,8 +57,8 @@ impl Library {
         }
     }
 
-    /// The library of these files, their names, and these lists, of which nodes may share one: for each node the number
-    /// of its list, counted from 0.
+    /// The library of these files with their names, where nodes may share the lists of files that they play. `numbers`
+    /// has for each node the number of its list, counted from 0.
     pub fn of_lists(
         files: Vec<Track>,
         names: Vec<Text>,
@@ -85,7 +85,7 @@ impl Library {
         }
     }
 
-    // The files that a leaf plays.
+    // The numbers of the files that a leaf plays.
     fn list(&self, leaf: u32) -> &[u32]
         requires { leaf < length self.now.leaves }
         ensures list { result.now ≡ tracks_of self.now leaf }
@@ -106,7 +106,7 @@ impl Library {
         self.list(leaf).len() as u32
     }
 
-    /// How many samples each channel has in a file, which is a leaf's file number `track`: at least 1.
+    /// How many samples each channel of a leaf's file number `track` has: at least 1.
     pub fn samples(&self, leaf: u32, track: u32) -> u64
         requires leaf { leaf < length self.now.leaves }
         requires track { track < length (tracks_of self.now leaf) }
@@ -117,8 +117,8 @@ impl Library {
         self.files[file as usize].samples()
     }
 
-    /// The samples of as many cells as the slices are long, from a place of a file on, which is a leaf's file number
-    /// `track`.
+    /// The samples of as many cells as the slices are long, in a source of this kind, from sample `at` of a leaf's file
+    /// number `track` on.
     pub fn read(
         &self,
         leaf: u32,
@@ -139,8 +139,8 @@ impl Library {
         self.files[file as usize].read(at, kind, left, right);
     }
 
-    /// The cell at a place of a file, which is a leaf's file number `track`, in a source of this kind, with the file's
-    /// title. All of them are counted from 0.
+    /// The cell at sample `at` of a leaf's file number `track`, in a source of this kind, with the file's title.
+    /// Samples and files are counted from 0.
     pub fn cell(&self, leaf: u32, track: u32, at: u64, kind: Kind) -> Cell
         requires leaf { leaf < length self.now.leaves }
         requires track { track < length (tracks_of self.now leaf) }

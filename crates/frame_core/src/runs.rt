@@ -6,7 +6,7 @@ ghost use Rattle.liq_base.specs.declared.limits.TheConstants.{MAX_FRAME};
 use crate::{CellMark, MarkRun};
 use liq_base::limits::MAX_FRAME;
 
-/// The mark at a place of some runs, counted from 0, if there is one.
+/// Mark `at` of those in these runs, counted from 0; `None` if there are fewer.
 pub fn mark_at(runs: &[MarkRun], at: u32) -> Option<CellMark>
     ensures { result ≡ slice_get (marks_in runs.now) at }
 {
@@ -21,7 +21,7 @@ pub fn mark_at(runs: &[MarkRun], at: u32) -> Option<CellMark>
     None
 }
 
-// The mark of a run at a place.
+// Mark `at` of a run, counted from 0.
 fn mark_of(run: MarkRun, at: u32) -> CellMark
     ensures { result ≡ mark_at run at }
 {
@@ -31,7 +31,7 @@ fn mark_of(run: MarkRun, at: u32) -> CellMark
     }
 }
 
-// The run at a place.
+// Run `at` of these, counted from 0.
 fn run_at(runs: &[MarkRun], at: usize) -> MarkRun
     requires { at < length runs.now }
     ensures { slice_get runs.now at ≡ Some result }
@@ -39,14 +39,14 @@ fn run_at(runs: &[MarkRun], at: usize) -> MarkRun
     runs[at]
 }
 
-// Whether a run goes on with another one.
+// Whether a run goes on with the one before it: it begins no track and has the same title.
 fn joins(last: MarkRun, run: MarkRun) -> bool
     ensures { result ≡ joins last run }
 {
     !run.first && last.title == run.title
 }
 
-// Appends a run, to the last one where it goes on with it.
+// Appends a run, or lengthens the last one if the run goes on with it. A run without marks is dropped.
 pub(crate) fn put_run(runs: &mut Vec<MarkRun>, run: MarkRun)
     requires tight { AreTight runs.old.items }
     requires room { length (marks_in runs.old.items) + run.count ≤ vec_capacity runs.old }

@@ -14,7 +14,7 @@ pub fn title_of(slot: Option<Cell>) -> u32
     }
 }
 
-/// Whether this is a cell of the title that begins no track.
+/// Whether this is a cell of the track of this title that does not begin it.
 pub fn goes_on(title: u32, slot: Option<Cell>) -> bool
     ensures { result ≡ goes_on title slot }
 {

@@ -18,7 +18,7 @@ pub trait Taps {
     /// What no call changes.
     ghost same: { Self → Self → Type 0 };
 
-    /// Takes the next chunk of a buffer, or nothing where it answers empty. Where memory is refused no call was made.
+    /// Takes the next chunk of a buffer; `None` where the buffer is empty. Where memory is refused no call was made.
     fn take(&mut self, buffer: u32) -> Result<Option<Chunk>, Memory>
         requires { buffer < buffers self.old }
         ensures buffers { buffers self.new ≡ buffers self.old }
@@ -26,8 +26,8 @@ pub trait Taps {
         ensures call { IfOk result (λ answer. Adds stands self.old self.new (Took buffer answer ∷ [])) }
         ensures memory { OnErr result (Adds stands self.old self.new []) };
 
-    /// Gives a chunk to a buffer. Where it is full, or memory is refused, the chunk comes back, and in the second case
-    /// no call was made.
+    /// Gives a chunk to a buffer. Where it is full, or memory is refused, the chunk comes back, and where memory is
+    /// refused no call was made.
     fn give(&mut self, buffer: u32, chunk: Chunk) -> Result<Gave, (Chunk, Memory)>
         requires { buffer < buffers self.old }
         ensures buffers { buffers self.new ≡ buffers self.old }

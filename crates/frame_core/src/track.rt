@@ -21,7 +21,7 @@ pub struct Track {
     held: Held,
 }
 
-/// Samples as numbers, as they stand in a file, or of a file at another rate.
+/// The samples of a file: as numbers, as the bytes of the file, or of a file at another rate.
 #[derive(Debug, Drop)]
 pub enum Held {
     Numbers(Vec<i16>),
@@ -29,7 +29,7 @@ pub enum Held {
     OtherRate(Changed),
 }
 
-/// Samples of two bytes, the lower first: so many bytes from a place on.
+/// Samples of two bytes, the lower first: `size` bytes from byte `from` on.
 #[derive(Debug, Drop)]
 pub struct Raw {
     pub bytes: Vec<u8>,
@@ -50,7 +50,7 @@ impl Model for Track {
 }
 
 impl Track {
-    /// The file of these samples.
+    /// The file of these samples, left before right where there are two channels.
     pub fn new(kind: Kind, samples: Vec<i16>) -> Track
         requires { IsSound (record { kind = kind; samples = samples.items }) }
         ensures { result ≡ record { kind = kind; samples = samples.items } }
@@ -61,7 +61,7 @@ impl Track {
         }
     }
 
-    /// The file whose samples stand in so many of these bytes from a place on.
+    /// The file whose samples stand in `size` of these bytes, from byte `from` on.
     pub fn of_bytes(kind: Kind, bytes: Vec<u8>, from: usize, size: usize) -> Track
         requires inside { from + size ≤ length bytes.items }
         requires sound { IsSound (record { kind = kind; samples = samples_from (take size (drop from bytes.items)) }) }
@@ -73,7 +73,7 @@ impl Track {
         }
     }
 
-    /// The file that is read at another rate.
+    /// A file that is read at another rate than its own.
     pub fn of_changed(changed: Changed) -> Track
         requires { IsSound (record { kind = changed.kind; samples = changed.samples }) }
         ensures { result ≡ record { kind = changed.kind; samples = changed.samples } }
@@ -84,7 +84,7 @@ impl Track {
         }
     }
 
-    // How many samples it has.
+    // How many samples it has, those of both channels where there are two.
     fn count(&self) -> usize
         ensures count { result ≡ length self.now.samples }
         ensures few { result < 2 ^ 63 }
@@ -92,7 +92,7 @@ impl Track {
         count_held(&self.held)
     }
 
-    // The sample at a place.
+    // Sample `at`, counted from 0 over both channels where there are two.
     fn sample(&self, at: usize) -> i16
         requires { at < length self.now.samples }
         ensures { result ≡ sample_at self.now.samples at }
@@ -119,8 +119,8 @@ impl Track {
         }
     }
 
-    /// The cell at a place, in a source of this kind, with this title. A mono file gives its sample to both sides, and
-    /// a stereo file in a mono source half the sum of its two, rounded toward zero.
+    /// The cell at sample `at` of each channel, in a source of this kind, with this title. A mono file gives its sample
+    /// to both sides, and a stereo file in a mono source half the sum of its two, rounded toward zero.
     pub fn cell(&self, title: u32, at: u64, kind: Kind) -> Cell
         requires { at < length_of self.now }
         ensures { result ≡ cell_of self.now title kind at }
@@ -159,7 +159,8 @@ impl Track {
 }
 
 impl Track {
-    /// The samples of as many cells as the slices are long, from a place on, in a source of this kind.
+    /// The samples of as many cells as the slices are long, in a source of this kind, from sample `at` of each channel
+    /// on.
     pub fn read(&self, at: u64, kind: Kind, left: &mut [i16], right: &mut [i16])
         requires same { length right.old ≡ length left.old }
         requires within { at + length left.old ≤ length_of self.now }
@@ -183,7 +184,7 @@ impl Track {
     }
 }
 
-// How many samples are held.
+// How many samples are held, those of both channels where there are two.
 fn count_held(held: &Held) -> usize
     requires { are_inside held.now }
     ensures count { result ≡ length (samples_held held.now) }
@@ -196,7 +197,7 @@ fn count_held(held: &Held) -> usize
     }
 }
 
-// The sample at a place.
+// Sample `at` of those that are held, counted from 0.
 fn held_at(held: &Held, at: usize) -> i16
     requires inside { are_inside held.now }
     requires there { at < length (samples_held held.now) }
@@ -209,7 +210,7 @@ fn held_at(held: &Held, at: usize) -> i16
     }
 }
 
-// The bytes of the samples.
+// The bytes in which the samples stand.
 fn body_of(raw: &Raw) -> &[u8]
     requires { raw.now.from + raw.now.size ≤ length raw.now.bytes.items }
     ensures { result.now ≡ take raw.now.size (drop raw.now.from raw.now.bytes.items) }
@@ -218,7 +219,7 @@ fn body_of(raw: &Raw) -> &[u8]
     &body[..raw.size]
 }
 
-// The sample at a place of some bytes.
+// Sample `at` of those that stand in these bytes.
 fn number_at(bytes: &[u8], at: usize) -> i16
     requires { 2 * at + 1 < length bytes.now }
     ensures { result ≡ sample_at (samples_from bytes.now) at }
@@ -226,7 +227,8 @@ fn number_at(bytes: &[u8], at: usize) -> i16
     i16::from_le_bytes([bytes[2 * at], bytes[2 * at + 1]])
 }
 
-// The samples of as many cells as the slices are long, of numbers.
+// The samples of as many cells as the slices are long, from sample `at` of each channel on, by numbers. The file is of
+// kind `own`, and the source of `kind`.
 fn read_numbers(
     own: Kind,
     samples: &[i16],
@@ -258,7 +260,8 @@ fn read_numbers(
     }
 }
 
-// The same of bytes.
+// The samples of as many cells as the slices are long, from sample `at` of each channel on, by bytes. The file is of
+// kind `own`, and the source of `kind`.
 fn read_bytes(own: Kind, bytes: &[u8], at: usize, kind: Kind, left: &mut [i16], right: &mut [i16])
     requires same { length right.old ≡ length left.old }
     requires within { 2 * channels_of own * (at + length left.old) ≤ length bytes.now }
@@ -284,7 +287,8 @@ fn read_bytes(own: Kind, bytes: &[u8], at: usize, kind: Kind, left: &mut [i16], 
     }
 }
 
-// The same of a file at another rate.
+// The samples of as many cells as the slices are long, from sample `at` of each channel on, of a file at another rate.
+// The file is of kind `own`, and the source of `kind`.
 fn read_changed(
     own: Kind,
     changed: &Changed,
@@ -323,7 +327,7 @@ fn read_changed(
     }
 }
 
-// Half the sum of a side and the other one.
+// Half the sum of each left sample and the right one beside it, which takes the place of the left one.
 fn halve_sides(left: &mut [i16], right: &[i16])
     requires { length right.now ≡ length left.old }
     ensures { left.new ≡ zip2 (λ l r. int_div (l +ℤ r) (pos 2)) left.old right.now }
@@ -333,7 +337,7 @@ fn halve_sides(left: &mut [i16], right: &[i16])
     }
 }
 
-// The samples that stand in bytes, from a place on.
+// The samples that stand in these bytes, from sample `at` on.
 fn read_singles(bytes: &[u8], at: usize, into: &mut [i16])
     requires { 2 * (at + length into.old) ≤ length bytes.now }
     ensures { into.new ≡ map (sample_at (samples_from bytes.now)) (range_with_len at (length into.old)) }
@@ -343,7 +347,7 @@ fn read_singles(bytes: &[u8], at: usize, into: &mut [i16])
     }
 }
 
-// The two samples of each block that stands in bytes, from a place on.
+// The two samples of each stereo block that stands in these bytes, from block `at` on.
 fn read_pairs(bytes: &[u8], at: usize, left: &mut [i16], right: &mut [i16])
     requires same { length right.old ≡ length left.old }
     requires within { 4 * (at + length left.old) ≤ length bytes.now }
@@ -359,7 +363,7 @@ fn read_pairs(bytes: &[u8], at: usize, left: &mut [i16], right: &mut [i16])
     }
 }
 
-// Half the sum of the two samples of each block that stands in bytes, from a place on.
+// Half the sum of the two samples of each stereo block, from block `at` on.
 fn read_halves(bytes: &[u8], at: usize, halves: &mut [i16])
     requires { 4 * (at + length halves.old) ≤ length bytes.now }
     ensures { halves.new
@@ -371,7 +375,7 @@ fn read_halves(bytes: &[u8], at: usize, halves: &mut [i16])
     }
 }
 
-// The two samples of each block, from a place on.
+// The two samples of each stereo block, from block `at` on, each to its side.
 fn part_pairs(samples: &[i16], at: usize, left: &mut [i16], right: &mut [i16])
     requires same { length right.old ≡ length left.old }
     requires within { 2 * (at + length left.old) ≤ length samples.now }
@@ -388,7 +392,7 @@ fn part_pairs(samples: &[i16], at: usize, left: &mut [i16], right: &mut [i16])
     }
 }
 
-// Half the sum of the two samples of each block, from a place on.
+// Half the sum of the two samples of each stereo block, from block `at` on.
 fn halve_pairs(samples: &[i16], at: usize, halves: &mut [i16])
     requires { 2 * (at + length halves.old) ≤ length samples.now }
     ensures { halves.new ≡ lefts_from (record { kind = Stereo; samples = samples.now }) Mono at (length halves.old) }
@@ -399,7 +403,7 @@ fn halve_pairs(samples: &[i16], at: usize, halves: &mut [i16])
     }
 }
 
-// Half the sum, rounded toward zero.
+// Half the sum of two samples, rounded toward zero.
 fn half_sum(left: i16, right: i16) -> i16
     ensures { result ≡ int_div (left +ℤ right) (pos 2) }
 {

@@ -14,12 +14,12 @@ use Rattle.general_types.specs.declared.generalising.TextKind.{TextKind}
 use Rattle.general_types.specs.declared.generalising.TextKind.TheVariants.{Open, Outer}
 use Rattle.general_types.specs.Holding.{SameTypes}
 
--- a kind of a text, where the variables outside of it are as in `a`
+-- a kind of a text as that of a use, where the variables outside of the text are as in `a`
 abbrev pub settled : Assignment → TextKind → KindOf
 settled a (Outer k) = Fixed (kind_meaning a k)
 settled a (Open j) = Given j
 
--- the kinds of a text with these open kinds are the values of the kind terms under `b`
+-- Under `a` outside of it, a text with these open kinds has the kinds that the kind terms mean under `b`.
 abbrev pub AreKindsOf : Assignment → List TextKind → List Kind → List KindTerm → Assignment → Type 0
 AreKindsOf a text opens kinds b = kinds_of opens (map (settled a) text) ≡ Some (map (kind_meaning b) kinds)
 
@@ -35,7 +35,7 @@ pub record IsGeneral (s : Table) (names params : List Term) (result : Term) (kin
       (opens : List Kind) × IsInstance g a (map (meaning b) params) (meaning b result) opens
       × AreKindsOf a text opens kinds b
 
--- the numbers of open kinds in a text, in its order
+-- the number of a text's kind, if it is an open one
 abbrev pub open_of : TextKind → List ℕ
 open_of (Outer k) = []
 open_of (Open j) = j ∷ []
@@ -44,11 +44,12 @@ open_of (Open j) = j ∷ []
 abbrev pub IsNumberedText : Scheme → List TextKind → Type 0
 IsNumberedText g text = numbered_on 0 (flat_map open_of text) ≡ Some (length (open_numbers 0 g.kinds))
 
--- the kinds of a text from outside are there
+-- a kind of a text is there, if it is from outside
 abbrev pub IsTextKindOver : Table → TextKind → Type 0
 IsTextKindOver s (Outer k) = InKind (λ n. n < length s.kinds) k
 IsTextKindOver s (Open j) = ⊤
 
+-- the kinds of a text from outside are there
 abbrev pub AreTextKindsOver : Table → List TextKind → Type 0
 AreTextKindsOver s [] = ⊤
 AreTextKindsOver s (k ∷ ks) = IsTextKindOver s k × AreTextKindsOver s ks

@@ -19,6 +19,7 @@ pub record HeldVariables : Type 0 where
   pub kind_count : ℕ
   pub free_count : ℕ
 
+-- the number is one of these
 abbrev pub is_held : List ℕ → ℕ → Bool
 is_held ks k = list_any (nat_eq k) ks
 
@@ -64,6 +65,7 @@ pub record IsHeldBy (s : Table) (names : List Term) (h : HeldVariables) : Type 0
   pub behind : (a b : Assignment) → Solves a s → Solves b s → (n : ℕ) → AgreeBelow h n a b → AgreeOnPassed h (suc n) a b
   pub counted : AreCounted s h
 
+-- held variables as nested pairs, which code to numbers
 abbrev pub held_code : Coded HeldVariables
 held_code =
     code_by (List ℕ × (List ℕ

@@ -19,7 +19,7 @@ pub record AreHeldBy (s : Table) (names : List Term) (h : HeldVariables) : Type 
   pub free_kinds : (k : ℕ) → is_held h.kinds k ≡ true → IsFreeKind s k
   pub fixed_by : IsFixedBy s names h
 
--- the same lists, with all variables counted
+-- these held variables, with all variables of the substitution counted
 abbrev pub counted_in : Table → HeldVariables → HeldVariables
 counted_in s h = record {
   types = h.types;
@@ -34,13 +34,14 @@ counted_in s h = record {
 abbrev pub IsLeft : List ℕ → List ℕ → ℕ → Type 0
 IsLeft old gone k = (is_held old k ≡ true) × (is_held gone k ≡ true → ⊥)
 
--- the same names hold the new variables; in the place of those of two lists stand others, which are bound to nothing
+-- Names that held the old variables hold the new ones: in the place of those of the two lists stand others, which are
+-- bound to nothing.
 pub record Renews (s : Table) (types kinds : List ℕ) (old new : HeldVariables) : Type 0 where
   pub fixed : (names : List Term) → IsFixedBy s names old → IsFixedBy s names new
   pub types_only : (k : ℕ) → is_held new.types k ≡ true → IsLeft old.types types k ⊎ IsFreeType s k
   pub kinds_only : (k : ℕ) → is_held new.kinds k ≡ true → IsLeft old.kinds kinds k ⊎ IsFreeKind s k
 
--- some of the numbers were found, and the others are as they should be
+-- some of the numbers were found, and P holds of the others
 pub record FindsBut (P : ℕ → Type 0) (numbers found : List ℕ) : Type 0 where
   pub among : (k : ℕ) → is_held found k ≡ true → is_held numbers k ≡ true
   pub others : (k : ℕ) → is_held numbers k ≡ true → (is_held found k ≡ true) ⊎ P k

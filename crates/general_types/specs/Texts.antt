@@ -17,41 +17,46 @@ use Rattle.general_types.specs.declared.generalising.TextKind.TheVariants.{Open,
 use Rattle.general_types.specs.Holding.{HeldVariables}
 use Rattle.general_types.specs.Numbering.{AreSettled, IsFront, kind_parameters, place_of, type_parameter}
 
--- of each parameter how many before it are open, where so many are before the first
+-- of each parameter how many before it are open, where n are before the first
 abbrev pub open_counts : ℕ → List KindParameter → List ℕ
 open_counts n [] = []
 open_counts n (p ∷ ps) = n ∷ open_counts (n + length (open_numbers 0 (p ∷ []))) ps
 
--- variable i, of which this is known, in a text; so many open ones are before it
+-- variable i, as a text has it: by what it may stand for, and by how many open ones are before it
 abbrev pub variable_in_text : ℕ → ℕ → Option KindParameter → TextKind
 variable_in_text i before None = Outer (Var i)
 variable_in_text i before (Some OpenKind) = Open before
 variable_in_text i before (Some Unread) = Outer (Var i)
 variable_in_text i before (Some (OuterKind n)) = Outer (Var n)
 
+-- a kind of the general type, as the text of a def has it
 abbrev pub text_kind : List KindParameter → KindTerm → TextKind
 text_kind ps (Fixed k) = Outer (Fixed k)
 text_kind ps (Var i) = variable_in_text i (length (open_numbers 0 (take i ps))) (slice_get ps i)
 
--- types over the variables of these numbers, seen at their places
+-- us are xs with all that is bound put in, and then each variable written by its place in the lists ts and ks
 pub record AreOpened (s : Table) (ts ks : List ℕ) (xs us : List Term) : Type 0 where
   pub settled : List Term
   pub are : AreSettled s xs settled
   pub inside : InTerms (λ n. n < length ts) (λ n. n < length ks) (terms_of us)
   pub same : map (instance ts ks) us ≡ settled
 
+-- u is x with all that is bound put in, and then each variable written by its place in the lists ts and ks
 pub record IsOpened (s : Table) (ts ks : List ℕ) (x u : Term) : Type 0 where
   pub settled : Term
   pub is : IsResolved s x settled
   pub inside : InTerm (λ n. n < length ts) (λ n. n < length ks) u
   pub same : instance ts ks u ≡ settled
 
--- the same, where the lists of the numbers grew
+-- us are xs with all that is bound put in, and each variable written by its place in the lists ts' and ks', which have
+-- ts and ks in front
 pub record OpenMore (s : Table) (ts ks ts' ks' : List ℕ) (xs us : List Term) : Type 0 where
   pub types : IsFront ts ts'
   pub kinds : IsFront ks ks'
   pub are : AreOpened s ts' ks' xs us
 
+-- u is x with all that is bound put in, and each variable written by its place in the lists ts' and ks', which have ts
+-- and ks in front
 pub record OpensOne (s : Table) (ts ks ts' ks' : List ℕ) (x u : Term) : Type 0 where
   pub types : IsFront ts ts'
   pub kinds : IsFront ks ks'
@@ -63,7 +68,7 @@ pub record DefTerms : Type 0 where
   pub result : Term
   pub kinds : List KindTerm
 
--- the same of types as the program holds them
+-- the types and kinds of a def, from those that the program holds
 abbrev pub def_terms : List Ty → Ty → List KindTerm → DefTerms
 def_terms params result kinds = record {
   params = map term_of params;
@@ -71,7 +76,8 @@ def_terms params result kinds = record {
   kinds = kinds;
 }
 
--- what was found of a def, over the variables of these numbers; the text names the first n kinds, in their order
+-- `opened` is what was found of a def, with each variable written by its place in the lists ts and ks; the text names
+-- the first n kinds, in their order
 pub record OpensDef (s : Table) (found : DefTerms) (ts ks : List ℕ) (n : ℕ) (opened : DefTerms) : Type 0 where
   pub params : AreOpened s ts ks found.params opened.params
   pub result : IsOpened s ts ks found.result opened.result
@@ -79,7 +85,7 @@ pub record OpensDef (s : Table) (found : DefTerms) (ts ks : List ℕ) (n : ℕ) 
   pub order : numbered_on 0 (flat_map place_of opened.kinds) ≡ Some n
   pub few : n ≤ length ks
 
--- the scheme over the variables of these numbers
+-- the scheme of a def over the variables of these numbers, where its text names the first n kinds
 abbrev pub scheme_with : Table → HeldVariables → List ℕ → List ℕ → ℕ → DefTerms → Scheme
 scheme_with s h ts ks n opened = record {
   params = opened.params;

@@ -8,7 +8,7 @@ use Rattle.type_terms.specs.declared.ty.KindTerm.{KindTerm}
 use Rattle.general_types.specs.declared.walking.Reached.{Reached}
 use Rattle.general_types.specs.Holding.{HeldVariables, AgreeBelow, AgreeOnPassed, is_held}
 
--- with nothing counted
+-- held variables and passed ones, with nothing counted
 abbrev pub held : List ℕ → List ℕ → List ℕ → HeldVariables
 held types kinds passed = record {
   types = types;
@@ -32,16 +32,17 @@ Every P (t ∷ ts) = P t × Every P ts
 abbrev pub IsSame : Assignment → Assignment → Term → Type 0
 IsSame a b t = meaning a t ≡ meaning b t
 
--- it does, if it has fewer than n nodes under the first, or at most n where it is no variable
+-- the term means the same under both, if it has fewer than n nodes under the first, or at most n where it is no
+-- variable
 abbrev pub IsSameBelow : Assignment → Assignment → ℕ → Term → Type 0
 IsSameBelow a b n t = size (meaning a t) < n + extra t → meaning a t ≡ meaning b t
 
--- the variable is bound to nothing, and two solutions under which the terms mean the same say the same of it
+-- the type variable is bound to nothing, and two solutions under which the terms mean the same say the same of it
 pub record IsTypeIn (s : Table) (ts : List Term) (k : ℕ) : Type 0 where
   pub free : IsFreeType s k
   pub fixed : (a b : Assignment) → Solves a s → Solves b s → Every (IsSame a b) ts → a.type_of k ≡ b.type_of k
 
--- the same of a kind variable
+-- the kind variable is bound to nothing, and two solutions under which the terms mean the same say the same of it
 pub record IsKindIn (s : Table) (ts : List Term) (k : ℕ) : Type 0 where
   pub free : IsFreeKind s k
   pub fixed : (a b : Assignment) → Solves a s → Solves b s → Every (IsSame a b) ts → a.kind_of k ≡ b.kind_of k

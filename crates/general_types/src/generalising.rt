@@ -70,7 +70,8 @@ pub fn generalise(
     )
 }
 
-/// The same with the sets of the numbers of its variables, both empty at first.
+/// Makes the types of a def general in all variables that are bound to nothing and that earlier names do not hold, with
+/// the sets of the numbers of its variables, both empty at first.
 fn generalise_with(
     alloc: Global,
     subst: &Subst,
@@ -132,7 +133,8 @@ fn generalise_with(
     })
 }
 
-/// Says what the variables of these numbers may stand for, and the text over them. The three lists are empty at first.
+/// Says what the variables of these numbers may stand for, and puts the kinds `named` of the text over them. The text
+/// names the first `read` of the kind variables. The three lists are empty at first.
 fn say_parameters(
     alloc: Global,
     subst: &Subst,
@@ -159,7 +161,7 @@ fn say_parameters(
     Ok(())
 }
 
-/// What a variable of this number may stand for.
+/// What the type variable of this number may stand for.
 fn type_parameter_of(subst: &Subst, held: &Held, number: u64) -> TypeParameter
     ensures { result ≡ type_parameter subst.now held.now number }
 {
@@ -172,7 +174,7 @@ fn type_parameter_of(subst: &Subst, held: &Held, number: u64) -> TypeParameter
     }
 }
 
-/// Adds what the variables of these numbers may stand for to an empty list.
+/// Adds, to an empty list, the type parameter of each of these variables: what it may stand for.
 fn push_types(
     parameters: &mut Vec<TypeParameter>,
     subst: &Subst,
@@ -188,7 +190,7 @@ fn push_types(
     Ok(())
 }
 
-/// What a kind variable of this number may stand for; `free` if it is not held.
+/// What the kind variable of this number may stand for; `free` if it is not held.
 fn kind_parameter_of(held: &Held, free: KindParameter, number: u64) -> KindParameter
     ensures { result ≡ kind_parameter held.now free number }
 {
@@ -259,7 +261,7 @@ fn push_open_counts(counts: &mut Vec<u64>, parameters: &[KindParameter]) -> Resu
     Ok(())
 }
 
-/// How many of the parameters before this one are open.
+/// How many of the parameters before the one of this number are open, by the counts of all.
 fn open_before(parameters: &[KindParameter], counts: &[u64], number: u64) -> u64
     requires counts { counts.now ≡ open_counts 0 parameters.now }
     requires inside { number < length parameters.now }
@@ -269,7 +271,8 @@ fn open_before(parameters: &[KindParameter], counts: &[u64], number: u64) -> u64
     counts[number as usize]
 }
 
-/// A kind of the general type, as the text of the def has it.
+/// A kind of the general type, as the text of the def has it. `counts` has for each parameter how many before it are
+/// open.
 fn text_kind(parameters: &[KindParameter], counts: &[u64], kind: KindTerm) -> TextKind
     requires { counts.now ≡ open_counts 0 parameters.now }
     ensures { result ≡ the_text_kind parameters.now kind }

@@ -15,7 +15,7 @@ use std::alloc::Global;
 use std::marker::Model;
 use type_terms::{Subst, Ty};
 
-/// Adds the variables that a name's type holds.
+/// Adds to `reached` the variables that the type of a name holds.
 fn add_name(alloc: Global, subst: &Subst, reached: &mut Reached, name: &Ty) -> Result<(), Memory>
     requires over { IsOver subst.now (term_of name.now) }
     ensures { OnOk result ((names : List Term) → AreHeldBy subst.now names (held_of reached.old)
@@ -70,14 +70,14 @@ impl Held {
         }
     }
 
-    /// Whether it has this type variable.
+    /// Whether the type variable of this number is held.
     pub fn holds_type(&self, number: u64) -> bool
         ensures { result ≡ is_held self.now.types number }
     {
         self.reached.types.contains(&number)
     }
 
-    /// Whether it has this kind variable.
+    /// Whether the kind variable of this number is held.
     pub fn holds_kind(&self, number: u64) -> bool
         ensures { result ≡ is_held self.now.kinds number }
     {
@@ -116,7 +116,7 @@ impl Held {
         Ok(())
     }
 
-    // Counts the variables that are there.
+    // Counts the variables that are there, and those that are bound to nothing.
     fn count(&mut self, subst: &Subst)
         ensures { self.new ≡ counted_in subst.now self.old }
     {
@@ -125,7 +125,7 @@ impl Held {
         self.free_count = subst.free_among(self.type_count, self.kind_count);
     }
 
-    // Puts what bound variables hold in their places.
+    // Puts in the place of each held variable that is bound now what it holds.
     fn renew_bound(&mut self, alloc: Global, subst: &Subst) -> Result<(), Memory>
         requires there { AreThere subst.now self.old }
         ensures held { OnOk result ((s : Table) (names : List Term) → Follows s subst.now

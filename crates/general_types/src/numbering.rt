@@ -57,7 +57,7 @@ pub fn number_def(
     })
 }
 
-/// The place of a number, which is added if it is not there.
+/// The place of a number in the set, which is added if it is not there.
 fn place(numbers: &mut IndexSet<u64>, number: u64) -> Result<u64, Memory>
     ensures there { IfOk result (λ i. slice_get numbers.new.keys i ≡ Some number) }
     ensures front { OnOk result (IsFront numbers.old.keys numbers.new.keys) }
@@ -67,7 +67,7 @@ fn place(numbers: &mut IndexSet<u64>, number: u64) -> Result<u64, Memory>
     Ok(place as u64)
 }
 
-/// The kind with the place of its variable for its number.
+/// The kind, with its variable written by its place in the set.
 fn kind_place(kinds: &mut IndexSet<u64>, kind: KindTerm) -> Result<KindTerm, Memory>
     ensures numbered { IfOk result (λ k. (ts : List ℕ)
         → IsNumbered ts kinds.old.keys ts kinds.new.keys (source_term kind) (source_term k)) }
@@ -82,7 +82,7 @@ fn kind_place(kinds: &mut IndexSet<u64>, kind: KindTerm) -> Result<KindTerm, Mem
     }
 }
 
-/// The type with the places of its variables for their numbers, if it has at most so many levels.
+/// The type, with each variable written by its place in the sets, if it has at most so many levels.
 #[cycle(numbering)]
 fn numbered(
     alloc: Global,
@@ -123,7 +123,7 @@ fn numbered(
     }
 }
 
-/// The types with the places of their variables for their numbers.
+/// The types, with each variable written by its place in the sets, if they have at most so many levels.
 #[cycle(numbering)]
 fn all_numbered(
     alloc: Global,
@@ -167,7 +167,7 @@ fn sources(alloc: Global, kinds: &[KindTerm]) -> Result<Vec<Ty>, Memory>
     Ok(types)
 }
 
-/// The types with all that is bound put in, and the places of their variables for their numbers.
+/// The types with all that is bound put in, and then each variable written by its place in the sets.
 fn opened(
     alloc: Global,
     subst: &Subst,
@@ -183,7 +183,7 @@ fn opened(
     all_numbered(alloc, types, kinds, &settled, MOST_LEVELS)
 }
 
-/// The same of one type.
+/// The type with all that is bound put in, and then each variable written by its place in the sets.
 fn opened_one(
     alloc: Global,
     subst: &Subst,
@@ -199,9 +199,8 @@ fn opened_one(
     numbered(alloc, types, kinds, &settled, MOST_LEVELS)
 }
 
-/// Adds the kinds of sources with the places of their variables for their numbers to an empty list.
-///
-/// New numbers come in the order of first mention.
+/// Adds the kinds of sources to an empty list, with each variable written by its place in the set. New places come in
+/// the order of first mention.
 fn push_places(
     places: &mut Vec<KindTerm>,
     kinds: &mut IndexSet<u64>,
@@ -227,7 +226,8 @@ fn push_places(
     Ok(())
 }
 
-/// Adds the kinds with all that is bound put in, and the places of their variables for their numbers, to an empty list.
+/// Adds the kinds to an empty list, with all that is bound put in, and then each variable written by its place in the
+/// set.
 fn push_opened_kinds(
     alloc: Global,
     places: &mut Vec<KindTerm>,

@@ -38,7 +38,7 @@ pub fn push_bound_kinds(subst: &Subst, numbers: &[u64], found: &mut Vec<u64>) ->
     Ok(())
 }
 
-/// Puts what a type variable holds in its place.
+/// Puts in the place of a held type variable, which is bound now, the variables that it holds.
 fn renew_type(
     alloc: Global,
     subst: &Subst,
@@ -56,7 +56,7 @@ fn renew_type(
     walk(&mut work, subst, reached)
 }
 
-/// Puts what type variables hold in their places.
+/// Puts in the place of each of these held type variables the variables that it holds.
 fn renew_types(
     alloc: Global,
     subst: &Subst,
@@ -72,7 +72,7 @@ fn renew_types(
     Ok(())
 }
 
-/// Puts what a kind variable is in its place.
+/// Puts in the place of a held kind variable, which is bound now, the variable that it is in the end, if it is one.
 fn renew_kind(subst: &Subst, reached: &mut Reached, number: u64) -> Result<(), Memory>
     requires inside { number < length subst.now.kinds }
     ensures { OnOk result (Renews subst.now [] (number ∷ []) (held_of reached.old) (held_of reached.new)) }
@@ -83,7 +83,7 @@ fn renew_kind(subst: &Subst, reached: &mut Reached, number: u64) -> Result<(), M
     add_kind(subst, &mut reached.kinds, KindTerm::Var(number))
 }
 
-/// Puts what kind variables are in their places.
+/// Puts in the place of each of these held kind variables the variable that it is in the end, if it is one.
 fn renew_kinds(subst: &Subst, reached: &mut Reached, numbers: &[u64]) -> Result<(), Memory>
     requires there { (k : ℕ) → is_held numbers.now k ≡ true → k < length subst.now.kinds }
     ensures { OnOk result (Renews subst.now [] numbers.now (held_of reached.old) (held_of reached.new)) }
@@ -94,7 +94,7 @@ fn renew_kinds(subst: &Subst, reached: &mut Reached, numbers: &[u64]) -> Result<
     Ok(())
 }
 
-/// Puts what type variables and kind variables hold in their places.
+/// Puts in the place of each of these held type variables and kind variables the variables that it holds.
 pub fn renew_both(
     alloc: Global,
     subst: &Subst,

@@ -34,9 +34,8 @@ pub fn add_kind(subst: &Subst, kinds: &mut IndexSet<u64>, kind: KindTerm) -> Res
     }
 }
 
-/// Puts what a variable is bound to on the stack, if that was not done before.
-///
-/// A variable that is bound to a variable is not noted: what that leads to is.
+/// Puts what the type variable of this number is bound to on the stack, if that was not done before. A variable that is
+/// bound to a variable is not noted: what that leads to is.
 fn push_bound<'a>(
     work: &mut Vec<&'a Ty>,
     reached: &mut Reached,
@@ -63,7 +62,7 @@ fn push_bound<'a>(
     }
 }
 
-/// Adds a variable that is bound to nothing; of one that is bound, puts what it is bound to on the stack.
+/// Adds the type variable of this number, if it is bound to nothing; else puts what it is bound to on the stack.
 pub fn visit_variable<'a>(
     work: &mut Vec<&'a Ty>,
     subst: &'a Subst,
@@ -94,7 +93,7 @@ fn push_parts<'a>(work: &mut Vec<&'a Ty>, parts: &'a [Ty]) -> Result<(), Memory>
     Ok(())
 }
 
-/// One step of the walk: a type that stood on top of the stack.
+/// One step of the walk: takes up a type that stood on top of the stack.
 fn visit<'a>(
     work: &mut Vec<&'a Ty>,
     subst: &'a Subst,
@@ -117,7 +116,7 @@ fn visit<'a>(
     }
 }
 
-/// Adds the variables of the types on the stack.
+/// Adds the variables that the types on the stack hold.
 pub fn walk<'a>(
     work: &mut Vec<&'a Ty>,
     subst: &'a Subst,

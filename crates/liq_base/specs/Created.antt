@@ -7,16 +7,17 @@ use Rattle.liq_base.specs.Files.{Closed, ClosedPart}
 use Rattle.liq_base.specs.Shelves.{IsFresh, ShelfTold}
 use Rattle.liq_base.specs.Kept.{HoldsPartOr, closed_part_or}
 
--- a meaning that is told, and is this wherever it is told
+-- what is told, and is x wherever it is told, is x
 pub is_told : {A : Type 0} (o : Option A) (x : A) → IsSome o → ForSome o (λ told. told ≡ x) → o ≡ Some x
 is_told None x some same = absurd (cc)
 is_told (Some y) x some same = ap Some (same y refl)
 
--- what a sink of a shelf that tells its files tells when it is fresh
+-- a new sink of a shelf that tells its files tells its name
 pub fresh_name : (name : List ℕ) (room : ℕ) (shelf : ShelfTold) (out : SinkTold) → IsFresh name room shelf out
     → IsSome shelf.files → out.name ≡ Some name
 fresh_name name room shelf out fresh told = is_told out.name name (fresh.tells told).0 fresh.named
 
+-- a new sink of a shelf that tells its files tells that it holds nothing
 pub fresh_held : (name : List ℕ) (room : ℕ) (shelf : ShelfTold) (out : SinkTold) → IsFresh name room shelf out
     → IsSome shelf.files → out.held ≡ Some []
 fresh_held name room shelf out fresh told = is_told out.held [] (fresh.tells told).1 fresh.empty

@@ -10,12 +10,13 @@ use Rattle.liq_base.specs.Shelves.{Closing, closing_of}
 use Rattle.std.specs.Str.{bytes_eq}
 use Rattle.liq_base.specs.declared.closed.Closed.{Closed, End, File', Lost'}
 
+-- the files among the closed sinks, as names and bytes, the newest first
 abbrev pub entries : Closed → List (List ℕ × List ℕ)
 entries End = []
 entries (File' p name bytes left pieces faults next) = (string_bytes name, bytes.items) ∷ entries next
 entries (Lost' p name bytes left pieces faults next) = entries next
 
--- what is told of each sink that was closed, the newest last
+-- what is told of each sink that was closed, the newest last; a closing that failed is told too
 abbrev pub closings : Closed → List Closing
 closings End = []
 closings (File' p name bytes left pieces faults next) = closings next
@@ -25,10 +26,12 @@ closings (Lost' p name bytes left pieces faults next) = closings next
     ++ closing_of (string_bytes name) bytes.items left pieces faults
     ∷ []
 
+-- the bytes of the first entry of this name, if there is one
 abbrev pub stored : List ℕ → List (List ℕ × List ℕ) → Option (List ℕ)
 stored name [] = None
 stored name (entry ∷ entries) = if bytes_eq name entry.0 then Some entry.1 else stored name entries
 
+-- the files that a shelf was given, as names and bytes
 abbrev pub given_entries : List (String Global × Vec ℕ Global) → List (List ℕ × List ℕ)
 given_entries given = map (λ e. (string_bytes e.0, e.1.items)) given
 
@@ -36,20 +39,23 @@ given_entries given = map (λ e. (string_bytes e.0, e.1.items)) given
 abbrev pub files_of : Closed → List (String Global × Vec ℕ Global) → Files
 files_of closed given = from_entries (entries closed ++ given_entries given)
 
+-- the map of a list finds the first entry of a name
 found : (all : List (List ℕ × List ℕ)) (name : List ℕ) → find (slice_cmp nat_cmp) name all ≡ stored name all
 found [] name = refl
 found (e ∷ es) name =
     ap (λ b. cond b (Some e.1) (find (slice_cmp nat_cmp) name es)) (sym (texts_ties name e.0)) ∙ ap
     (cond (bytes_eq name e.0) (Some e.1)) (found es name)
 
--- the newest entry is the file
+-- the file of a name is the first entry of this name
 pub stored_is_file : (all : List (List ℕ × List ℕ)) (name : List ℕ) → file_at (from_entries all) name ≡ stored name all
 stored_is_file all name = get-from_entries nat_list_cmp_total all name ∙ found all name
 
+-- the first of two texts that is there
 abbrev pub first_of : Option (List ℕ) → Option (List ℕ) → Option (List ℕ)
 first_of None other = other
 first_of (Some bytes) other = Some bytes
 
+-- where two lists of entries follow each other, a name has its bytes from the first that has the name
 pub stored_first : (a b : List (List ℕ × List ℕ)) (name : List ℕ)
     → stored name (a ++ b) ≡ first_of (stored name a) (stored name b)
 stored_first [] b name = refl

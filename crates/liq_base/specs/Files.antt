@@ -43,13 +43,15 @@ abbrev pub HoldsPart : Files → List ℕ → List ℕ → Files → Type 0
 HoldsPart files name bytes after =
     (after ≡ files) ⊎ ((part : List ℕ) × IsPrefix part bytes × (after ≡ with_file files name part))
 
--- a sink that told this was closed: what its shelf told of its files before, and what it tells now
+-- a sink that told `out` was closed: its shelf has the bytes that it held under its name, where files, name and bytes
+-- are told
 abbrev pub Closed : SinkTold → (before after : Option Files) → Type 0
 Closed out before after =
     ForSome before (λ files. ForSome out.name (λ name. ForSome out.held (λ bytes. after
     ≡ Some (with_file files name bytes))))
 
--- the closing failed
+-- the closing of a sink that told `out` failed: its name holds a prefix of its bytes or what it held, where files, name
+-- and bytes are told
 abbrev pub ClosedPart : SinkTold → (before after : Option Files) → Type 0
 ClosedPart out before after =
     ForSome before (λ files. ForSome out.name

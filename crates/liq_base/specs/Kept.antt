@@ -10,6 +10,7 @@ abbrev pub HoldsPartOr : Type 0 → Files → List ℕ → List ℕ → Files �
 HoldsPartOr cause files name bytes after =
     (cause × (after ≡ files)) ⊎ ((part : List ℕ) × IsPrefix part bytes × (after ≡ with_file files name part))
 
+-- a name that holds a part of h, or what it held, holds a part of what h begins, or what it held for this cause
 caused : (cause : Type 0) (files : Files) (name h bytes : List ℕ) → cause → IsPrefix h bytes → (after : Files)
     → HoldsPart files name h after → HoldsPartOr cause files name bytes after
 caused cause files name h bytes why p after (inl kept) = inl (why, kept)
@@ -23,7 +24,7 @@ caused cause files name h bytes why p after (inr part) =
       part.2,
     )
 
--- what follows from what a told value is
+-- what holds of a told value gives what follows from it
 pub some_and : {A : Type 0} (o : Option A) (P Q : A → Type 0) → ((x : A) → P x → Q x) → IsSomeAnd o P → IsSomeAnd o Q
 some_and None P Q f p = p
 some_and (Some x) P Q f p = f x p
@@ -39,7 +40,8 @@ closed_part_or (Ok x) cause out before after files n h bytes whole part why b m 
 closed_part_or (Err x) cause out before after files n h bytes whole part why b m k p =
     some_and after _ _ (caused cause files n h bytes why p) (part files b n m h k)
 
--- the cause seen from before and after other calls
+-- a name that holds a part of the bytes, or what it held for a cause, does so too for a cause that follows from that
+-- one
 pub later_cause : (cause more : Type 0) (files : Files) (name bytes : List ℕ) (after : Files) → (cause → more)
     → HoldsPartOr cause files name bytes after → HoldsPartOr more files name bytes after
 later_cause cause more files name bytes after f (inl kept) = inl (f kept.0, kept.1)

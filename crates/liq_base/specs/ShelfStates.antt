@@ -16,12 +16,13 @@ use Rattle.liq_base.specs.declared.mem_shelf.FailingAppend.{FailingAppend}
 abbrev pub is_listed : List ℕ → ℕ → Bool
 is_listed calls call = list_any (λ listed. listed == call) calls
 
--- a count after a call that failed or did not
+-- a count of faults after one more call, which failed or did not
 abbrev pub raised : ℕ → Bool → ℕ
 raised count failed = if failed then one_more count else count
 
--- the files, the names of the sinks that were made, and what is told of those that were closed, in their order; the
--- reads, creations and closings so far; those that are listed to fail, and the appends; the two counts of faults
+-- the files, the names of the sinks that were made, and what is told of those that were closed, in their order; how
+-- many reads, creations and closings were called; which of these, and which appends, are listed to fail; the two counts
+-- of faults
 pub record ShelfState : Type 0 where
   pub files : Files
   pub created : List (List ℕ)
@@ -36,9 +37,11 @@ pub record ShelfState : Type 0 where
   pub read_faults : ℕ
   pub write_faults : ℕ
 
+-- files as a map of names and bytes, which codes to numbers
 abbrev pub files_code : Coded Files
 files_code = map.code (coded_list coded_ℕ) (coded_list coded_ℕ)
 
+-- a closing as nested pairs, which code to numbers
 abbrev closing_code : Coded Closing
 closing_code = code_by (List ℕ
     × (ℕ × (ℕ × (ℕ × ℕ))))
@@ -51,6 +54,7 @@ closing_code = code_by (List ℕ
       faults = p.1.1.1.1;
     }) (λ _. refl)
 
+-- a listed append as nested pairs, which code to numbers
 abbrev append_code : Coded FailingAppend
 append_code = code_by (ℕ
     × (ℕ × ℕ)) (coded× coded_ℕ (coded× coded_ℕ coded_ℕ)) (λ f. (f.sink, (f.call, f.taken))) (λ p. record {
@@ -59,7 +63,8 @@ append_code = code_by (ℕ
       taken = p.1.1;
     }) (λ _. refl)
 
--- a shelf is stored as its files, the calls made, those listed, and the counts of faults
+-- a shelf as nested pairs, which code to numbers: its files, its sinks, the calls made, those listed, and the counts of
+-- faults
 abbrev pub shelf_code : Coded ShelfState
 shelf_code =
     code_by ((Files × (List (List ℕ) × List Closing))
@@ -94,7 +99,7 @@ shelf_code =
     })
     (λ _. refl)
 
--- what a shelf tells
+-- what a shelf in memory tells
 abbrev pub shelf_told : ShelfState → ShelfTold
 shelf_told shelf = record {
   files = Some shelf.files;
@@ -104,7 +109,7 @@ shelf_told shelf = record {
   writes = shelf.write_faults;
 }
 
--- what a shelf of these files tells of which no call fails
+-- what a shelf of which no call fails tells: these files, and that nothing failed
 abbrev pub sure_shelf_told : Files → ShelfTold
 sure_shelf_told files = record { files = Some files; created = None; closed = None; reads = 0; writes = 0 }
 
@@ -125,17 +130,20 @@ untouched files = record {
   write_faults = 0;
 }
 
--- what a read of this file answers
+-- what a read of at most so many bytes answers about this file
 abbrev pub fetched : Option (List ℕ) → ℕ → Fetched
 fetched None most = Missing
 fetched (Some bytes) most = if nat_le (length bytes) most then Found else TooLarge
 
+-- whether the next read is listed to fail
 abbrev pub read_fails : ShelfState → Bool
 read_fails shelf = is_listed shelf.failing_reads shelf.reads
 
+-- whether the next creation is listed to fail
 abbrev pub create_fails : ShelfState → Bool
 create_fails shelf = is_listed shelf.failing_creates shelf.creates
 
+-- whether the next closing is listed to fail
 abbrev pub close_fails : ShelfState → Bool
 close_fails shelf = is_listed shelf.failing_closes shelf.closes
 
@@ -158,7 +166,7 @@ after_create shelf made = record shelf {
   write_faults = raised shelf.write_faults (create_fails shelf);
 }
 
--- the listed appends of the sink of this number, each with what it takes
+-- the listed appends of the sink of this number: for each the number of its call, and how many bytes it takes
 abbrev pub appends_of : ℕ → List FailingAppend → List (ℕ × ℕ)
 appends_of sink fails = map (λ fail. (fail.call, fail.taken)) (filter (λ fail. fail.sink == sink) fails)
 
@@ -169,11 +177,11 @@ created_sink shelf name room = record {
   sink = empty_sink room (appends_of shelf.creates shelf.failing_appends);
 }
 
--- the files after a closing that failed or did not
+-- the files after the closing of this sink, which failed or did not
 abbrev pub files_after : Bool → Files → NamedState → Files
 files_after failed files out = if failed then files else with_file files out.name out.sink.held
 
--- the shelf after a closing
+-- the shelf after the closing of this sink
 abbrev pub after_close : ShelfState → NamedState → ShelfState
 after_close shelf out = record shelf {
   files = files_after (close_fails shelf) shelf.files out;

@@ -14,7 +14,8 @@ pub record Closing : Type 0 where
   pub pieces : ℕ
   pub faults : ℕ
 
--- that of a sink of this name, which holds these bytes, takes so many more, got so many pieces and failed so often
+-- the closing of a sink of this name, which holds these bytes, takes so many more, got so many pieces and failed so
+-- often
 abbrev pub closing_of : (name held : List ℕ) → (left pieces faults : ℕ) → Closing
 closing_of name held left pieces faults = record {
   name = name;
@@ -24,7 +25,7 @@ closing_of name held left pieces faults = record {
   faults = faults;
 }
 
--- that closing, as of a sink that had not failed
+-- a closing, as of a sink that had not failed
 abbrev pub without_faults : Closing → Closing
 without_faults closing = record closing { faults = 0 }
 
@@ -77,7 +78,7 @@ pub record IsFresh (name : List ℕ) (room : ℕ) (shelf : ShelfTold) (out : Sin
   pub tells : IsSome shelf.files → IsSome out.name × IsSome out.held
   pub tells_all : IsSome shelf.closed → TellsAll out
 
--- what is told of closings, after that of a sink that told this
+-- the closings that a shelf tells grew by that of a sink which told `out`, where all that a closing tells was told
 abbrev pub Lists : SinkTold → (before after : Option (List Closing)) → Type 0
 Lists out before after =
     ForSome out.name (λ name. ForSome out.held (λ held. ForSome out.room (λ left. ForSome out.appends (λ pieces. after

@@ -2,7 +2,7 @@
 use Rattle.std.specs.Prelude.{ℕ, ◌+◌, ◌-◌, ◌^◌, List, [], ◌∷◌, ◌++◌, take, length, min, Option, Some, None, if◌then◌else◌, nat_eq, nat_le}
 use Rattle.liq_base.specs.Pieces.{SinkTold}
 
--- one more, as far as a u64 counts
+-- a count and one more, as far as a u64 counts
 abbrev pub one_more : ℕ → ℕ
 one_more count = min (count + 1) (2 ^ 64 - 1)
 
@@ -11,12 +11,13 @@ abbrev pub listed : List (ℕ × ℕ) → ℕ → Option ℕ
 listed [] call = None
 listed (fail ∷ fails) call = if nat_eq fail.0 call then Some fail.1 else listed fails call
 
--- where a piece of this size stops, with so much room left: at the listed byte, at once for want of room, or nowhere
+-- after how many of its bytes a piece of this size stops, with so much room left: where it is listed, at 0 for want of
+-- room, or nowhere
 abbrev pub stop : Option ℕ → ℕ → ℕ → Option ℕ
 stop (Some at) left size = Some (min at (min size left))
 stop None left size = if nat_le size left then None else Some 0
 
--- what is taken of a piece that stops there
+-- the bytes that are taken of a piece: so many if it stops, and otherwise all
 abbrev pub taken_at : Option ℕ → List ℕ → List ℕ
 taken_at (Some at) piece = take at piece
 taken_at None piece = piece
@@ -33,15 +34,16 @@ pub record SinkState : Type 0 where
 abbrev pub empty_sink : ℕ → List (ℕ × ℕ) → SinkState
 empty_sink room fails = record { held = []; room = room; fails = fails; calls = 0; faults = 0 }
 
--- where this piece stops
+-- after how many bytes this piece stops, if its call is listed or the room is too small
 abbrev pub stops : SinkState → List ℕ → Option ℕ
 stops sink piece = stop (listed sink.fails sink.calls) (sink.room - length sink.held) (length piece)
 
+-- a count of faults after a piece that stopped, or was taken whole
 abbrev pub faults_after : Option ℕ → ℕ → ℕ
 faults_after None faults = faults
 faults_after (Some at) faults = one_more faults
 
--- the sink after a call
+-- the sink after an append of this piece
 abbrev pub appended : SinkState → List ℕ → SinkState
 appended sink piece = record {
   held = sink.held ++ taken_at (stops sink piece) piece;
@@ -51,7 +53,7 @@ appended sink piece = record {
   faults = faults_after (stops sink piece) sink.faults;
 }
 
--- what such a sink tells: no name, and no room
+-- what a sink in memory without a name tells: its bytes, its appends and its faults
 abbrev pub sink_told : SinkState → SinkTold
 sink_told sink = record {
   held = Some sink.held;
@@ -66,7 +68,7 @@ pub record NamedState : Type 0 where
   pub name : List ℕ
   pub sink : SinkState
 
--- what such a sink tells
+-- what a sink in memory with a name tells: all that a sink can tell
 abbrev pub named_told : NamedState → SinkTold
 named_told named = record {
   held = Some named.sink.held;
@@ -76,13 +78,13 @@ named_told named = record {
   faults = named.sink.faults;
 }
 
--- a sink that never fails
+-- a sink in memory that never fails, with its name and its room
 pub record SureState : Type 0 where
   pub name : List ℕ
   pub held : List ℕ
   pub room : ℕ
 
--- what it tells: of its pieces nothing
+-- what a sink that never fails tells: its bytes, its name and its room, and nothing of its appends
 abbrev pub sure_told : SureState → SinkTold
 sure_told sure = record {
   held = Some sure.held;

@@ -10,6 +10,7 @@ use crate::{Fetched, Memory, ShelfFault};
 use std::alloc::Global;
 use std::fmt;
 
+/// The sinks that a shelf in memory closed, the newest first.
 #[cycle(closed)]
 #[derive(Drop)]
 pub(crate) enum Closed {
@@ -20,6 +21,7 @@ pub(crate) enum Closed {
     Lost(Box<Entry>),
 }
 
+/// A sink that was closed, with what it told of itself, and the sinks that were closed before it.
 #[cycle(closed)]
 #[derive(Drop)]
 pub(crate) struct Entry {
@@ -111,7 +113,7 @@ pub(crate) fn fetch_file(
     }
 }
 
-/// The newest of these files that has this name.
+/// The bytes of the newest of these files that has this name.
 fn find_closed<'a>(closed: &'a Closed, name: &str) -> Option<&'a [u8]>
     ensures { MatchOption result (stored name.now (entries closed.now) ≡ None)
         (λ bytes. stored name.now (entries closed.now) ≡ Some bytes.now) }

@@ -99,7 +99,7 @@ impl MemShelf {
         }
     }
 
-    /// Lists a read that fails, by its number.
+    /// Lists the read of this number, counted from 0, as one that fails.
     pub fn fail_read(&mut self, call: u64) -> Result<(), Memory>
         ensures listed { OnOk result (self.new ≡ record self.old {
           failing_reads = self.old.failing_reads ++ call
@@ -111,7 +111,7 @@ impl MemShelf {
         Ok(())
     }
 
-    /// Lists a creation that fails, by its number.
+    /// Lists the creation of this number, counted from 0, as one that fails.
     pub fn fail_create(&mut self, call: u64) -> Result<(), Memory>
         ensures listed { OnOk result (self.new ≡ record self.old {
           failing_creates = self.old.failing_creates ++ call
@@ -123,7 +123,7 @@ impl MemShelf {
         Ok(())
     }
 
-    /// Lists a closing that fails, by its number.
+    /// Lists the closing of this number, counted from 0, as one that fails.
     pub fn fail_close(&mut self, call: u64) -> Result<(), Memory>
         ensures listed { OnOk result (self.new ≡ record self.old {
           failing_closes = self.old.failing_closes ++ call
@@ -157,7 +157,7 @@ impl MemShelf {
         find_file(&self.closed, &self.given, name)
     }
 
-    /// Notes the name of a sink that it made.
+    /// Notes the name of a sink that the shelf made.
     fn note(&mut self, name: &str) -> Result<(), Memory>
         ensures noted { OnOk result (self.new ≡ record self.old { created = self.old.created ++ name.now ∷ [] }) }
         ensures unchanged { OnErr result (self.new ≡ self.old) }
@@ -253,7 +253,7 @@ impl Shelf for MemShelf {
     }
 }
 
-/// The listed appends of the sink of this number, each with what it takes.
+/// The listed appends of sink `sink`: for each the number of its call, and how many bytes it takes.
 fn listed_appends(
     alloc: Global,
     fails: &[FailingAppend],
@@ -270,7 +270,7 @@ fn listed_appends(
     Ok(own)
 }
 
-/// A count after a call that failed or did not.
+/// A count of faults after one more call, which failed or did not; at most `u64::MAX`.
 fn raise(count: u64, failed: bool) -> u64
     ensures { result ≡ raised count failed }
 {

@@ -15,6 +15,7 @@ use std::marker::Model;
 pub struct MemSink {
     bytes: Vec<u8>,
     room: u64,
+    // Of each listed call its number, from 0, and how many bytes it takes.
     fails: Vec<(u64, u64)>,
     calls: u64,
     faults: u64,
@@ -91,7 +92,8 @@ impl MemSink {
     }
 }
 
-/// After how many bytes this call fails, where it is listed.
+/// After how many bytes call number `call` fails; `None` where it is not listed. `fails` has the number of each listed
+/// call with the bytes that it takes.
 fn find_stop(fails: &[(u64, u64)], call: u64) -> Option<u64>
     ensures { result ≡ listed fails.now call }
 {
@@ -103,7 +105,8 @@ fn find_stop(fails: &[(u64, u64)], call: u64) -> Option<u64>
     None
 }
 
-/// Where a piece of this size stops.
+/// After how many bytes a piece of `size` bytes stops, with room for `left` more; `None` where it is taken whole.
+/// `listed_stop` is where its call is listed to fail.
 fn stop_at(listed_stop: Option<u64>, left: u64, size: u64) -> Option<u64>
     ensures { result ≡ stop listed_stop left size }
 {

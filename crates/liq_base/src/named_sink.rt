@@ -28,7 +28,8 @@ impl Model for NamedSink {
 }
 
 impl NamedSink {
-    /// An empty sink with room reserved, and with its listed calls.
+    /// An empty sink of this name, with room for so many bytes reserved. `fails` has of each listed call its number,
+    /// from 0, and how many bytes it takes.
     pub(crate) fn new(
         alloc: Global,
         name: &str,
@@ -50,7 +51,7 @@ impl NamedSink {
         self.sink.faults()
     }
 
-    /// The entry of the shelf, with nothing behind it.
+    /// The entry that the sink becomes when its shelf closes it; no other entry is behind it.
     pub(crate) fn into_entry(self) -> Box<Entry>
         ensures name { string_bytes result.value.name ≡ self.name }
         ensures bytes { result.value.bytes.items ≡ self.sink.held }

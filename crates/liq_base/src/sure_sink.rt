@@ -30,7 +30,7 @@ impl Model for SureSink {
 }
 
 impl SureSink {
-    /// An empty sink with room reserved.
+    /// An empty sink of this name, with room for so many bytes reserved.
     pub(crate) fn new(alloc: Global, name: &str, room: u64) -> Result<SureSink, Memory>
         ensures { IfOk result (λ out. out ≡ record { name = name.now; held = []; room = room }) }
     {

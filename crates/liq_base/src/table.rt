@@ -64,7 +64,8 @@ impl<T: Copy> TokenTable<T> {
     }
 }
 
-// The place of the next value behind so many. Where places cannot tell so many values apart, there is none.
+// The place of a value before which `before` others were put: places count values from 1. Where a `u32` cannot count so
+// many, memory is refused.
 fn next_place(before: usize) -> Result<u32, Memory>
     ensures next { IfOk result (λ place. place ≡ before + 1) }
 {
@@ -74,7 +75,8 @@ fn next_place(before: usize) -> Result<u32, Memory>
     before.checked_add(1).ok_or(Memory)
 }
 
-// Makes a place for a token, and for those before it. Where memory runs out, for some of them.
+// Makes a place for the token with index `at`, and for those before it; a new place names no value. Where memory runs
+// out, some are made.
 fn reach(places: &mut Vec<u32>, at: u32) -> Result<(), Memory>
     ensures there { OnOk result (at < length places.new.items) }
     ensures same { (t : ℕ) → get_or places.new.items t 0 ≡ get_or places.old.items t 0 }

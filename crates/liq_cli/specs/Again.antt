@@ -9,7 +9,7 @@ use Rattle.stations.specs.Streams.{output_files}
 use Rattle.station_jobs.specs.Verdicts.{IsStation}
 use Rattle.station_jobs.specs.Words.{Replay}
 
--- the station of a replay by this trace
+-- a station that is rendered again by this trace, and leaves neither a trace nor cue files
 abbrev pub again : Station → TraceValue → Station
 again station trace = record station { way = Again trace; trace = None; cues = false }
 

@@ -21,7 +21,7 @@ pub record Outside : Type 0 where
 abbrev pub outside_of : (shelf : ShelfTold) (out err : SinkTold) → Outside
 outside_of shelf out err = record { shelf = shelf; out = out; err = err }
 
--- a shelf that tells the same of its sinks, but holds these files and never failed
+-- what a shelf tells, but that it holds these files and never failed
 abbrev pub sure_of : Files → ShelfTold → ShelfTold
 sure_of files shelf = record shelf { files = Some files; reads = 0; writes = 0 }
 
@@ -29,7 +29,7 @@ sure_of files shelf = record shelf { files = Some files; reads = 0; writes = 0 }
 abbrev pub over : Files → Outside → Outside
 over files outside = record { shelf = sure_of files outside.shelf; out = outside.out; err = outside.err }
 
--- what is said of the one verdict, where the shelf tells its files
+-- if the shelf tells its files, words have one verdict over them, for which P holds
 abbrev pub ForFiles : (words : List (List ℕ)) → ShelfTold → (Files → Verdict → Type 0) → Type 0
 ForFiles words shelf P = ForSome shelf.files (λ files. ForVerdict words files (P files))
 
@@ -62,14 +62,14 @@ pub record ReadFailed (old new : Outside) : Type 0 where
   pub out_kept : new.out ≡ old.out
   pub err_kept : new.err ≡ old.err
 
--- status 4, one of four: the usage line broke off
+-- status 4: the usage line broke off
 pub record UsageBroke (words : List (List ℕ)) (old new : Outside) : Type 0 where
   pub no_form : HasNoForm words
   pub part : TookPart usage_line old.err new.err
   pub shelf_kept : new.shelf ≡ old.shelf
   pub out_kept : new.out ≡ old.out
 
--- the line of a fault did
+-- status 4: the line of a fault broke off
 pub record LineBroke (words : List (List ℕ)) (old new : Outside) : Type 0 where
   pub fault : Fault
   pub part : TookPart (line_of fault) old.err new.err
@@ -77,21 +77,21 @@ pub record LineBroke (words : List (List ℕ)) (old new : Outside) : Type 0 wher
   pub shelf_read : OnlyRead old.shelf new.shelf
   pub out_kept : new.out ≡ old.out
 
--- the report did, once all else was done
+-- status 4: the report broke off, once all else was done
 pub record ReportBroke (words : List (List ℕ)) (old new : Outside) : Type 0 where
   pub report : List ℕ
   pub part : TookPart report old.out new.out
   pub done : ForFiles words old.shelf (λ files verdict. IsDone verdict files old.shelf new.shelf report)
   pub err_kept : new.err ≡ old.err
 
--- a creation, an output, a cue file, the trace or a closing did
+-- status 4: a rendering broke off: a creation, an output, a cue file, the trace or a closing failed
 pub record RenderingBroke (words : List (List ℕ)) (old new : Outside) : Type 0 where
   pub cause : Rose old.shelf.writes new.shelf.writes
   pub broken : ForFiles words old.shelf (λ files verdict. IsBroken verdict true files old.shelf new.shelf)
   pub out_kept : new.out ≡ old.out
   pub err_kept : new.err ≡ old.err
 
--- one of the four writings broke off: usage, a fault's line, a report, a rendering
+-- status 4: the usage line, the line of a fault, the report or a rendering broke off
 abbrev pub WriteFailed : (words : List (List ℕ)) → (old new : Outside) → Type 0
 WriteFailed words old new = UsageBroke words old new ⊎ LineBroke words old new ⊎ ReportBroke words old new
     ⊎ RenderingBroke words old new
@@ -103,7 +103,7 @@ pub record NoMemory (words : List (List ℕ)) (old new : Outside) : Type 0 where
   pub out_kept : new.out ≡ old.out
   pub err_kept : new.err ≡ old.err
 
--- by status
+-- what a call leaves, by its status, from 0 to 5
 pub record Ends (words : List (List ℕ)) (old new : Outside) (status : ℕ) : Type 0 where
   pub is_status : status ≤ 5
   pub done : status ≡ 0 → ReportSaid words old new
@@ -114,14 +114,14 @@ pub record Ends (words : List (List ℕ)) (old new : Outside) (status : ℕ) : T
   pub memory : status ≡ 5 → NoMemory words old new
   pub no_form : HasNoForm words → (status ≡ 2) ⊎ ((status ≡ 4) × UsageBroke words old new)
 
--- no count rose
+-- nothing failed: no count rose
 pub record Calm (old new : Outside) : Type 0 where
   pub reads : Rose old.shelf.reads new.shelf.reads → ⊥
   pub writes : Rose old.shelf.writes new.shelf.writes → ⊥
   pub out : Rose old.out.faults new.out.faults → ⊥
   pub err : Rose old.err.faults new.err.faults → ⊥
 
--- this status is that of the verdict, or 5
+-- this status is the one of the verdict, or 5 for want of memory
 abbrev pub Completes : Verdict → ℕ → Type 0
 Completes (Made made station) status = (status ≡ 0) ⊎ (status ≡ 5)
 Completes (Accepted station) status = (status ≡ 0) ⊎ (status ≡ 5)

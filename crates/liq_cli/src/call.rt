@@ -14,6 +14,7 @@ use std::alloc::Global;
 use std::sync::Wait;
 use std::thread::Threads;
 
+// The line for words that have no form.
 const USAGE: &str =
     "usage: check FILE | render FILE N [--one-thread] [--window=W] [--start=D:HH:MM:SS] [--trace=NAME] [--cues] | \
     make SEED SIZE | replay FILE N TRACE [--start=D:HH:MM:SS]\n";
@@ -121,7 +122,7 @@ pub fn liq_alone<S: Shelf, O: Sink, E: Sink>(
     Some(finish(alloc, job, out, err))
 }
 
-// Writes the one text of a call whose job ended so: the report, or the line of a refusal.
+// Writes the one text of a call, by the end of its job: the report, or the line of a refusal. Returns the status.
 fn finish<O: Sink, E: Sink>(
     alloc: Global,
     job: Result<String, CallEnd>,
@@ -141,7 +142,7 @@ fn finish<O: Sink, E: Sink>(
     }
 }
 
-// Writes the line of a refusal.
+// Writes the line of a refusal, and returns the status.
 fn refuse<E: Sink>(alloc: Global, fault: &Fault, err: &mut E) -> u8
     requires { (E.told err.old).room ≡ None }
     ensures { MayTell (line_of fault.now) 1 (E.told err.old) (E.told err.new) result }
@@ -152,7 +153,7 @@ fn refuse<E: Sink>(alloc: Global, fault: &Fault, err: &mut E) -> u8
     }
 }
 
-// Writes the one text of a call, and answers this status if all of it was written.
+// Writes the one text of a call; returns `status` if all of it was written, and otherwise 4.
 fn tell<W: Sink>(sink: &mut W, text: &str, status: u8) -> u8
     requires { (W.told sink.old).room ≡ None }
     ensures { Tells text.now status (W.told sink.old) (W.told sink.new) result }

@@ -40,8 +40,9 @@ pub fn accepted_runs_are_rendered_again()
     trace_replay::laws::replays_are_of_the_run();
 }
 
-/// So is each run by threads where the main clocks can be listed so that each buffer that joins two of them leads to a
-/// later one.
+/// If the main clocks can be listed so that each buffer that joins two of them leads to a later one, each run by
+/// threads is rendered again by its trace, to the same outputs and the same report: over all files that hold the trace,
+/// which has at most 268435456 bytes, and in which the script has the same plan, audio files and clocks.
 pub fn onward_runs_are_rendered_again()
     ensures { (files : Files) (file name : List ℕ) (station : Station) (window : ℕ) (run : Run) (listing : List ℕ)
         → station.way ≡ InWindows window → 1 ≤ window → window ≤ 10 ^ 6

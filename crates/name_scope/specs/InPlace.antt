@@ -17,7 +17,7 @@ left_by InPlace (Some (suc n)) = Some n
 left_by ByLabel (Some n) = None
 left_by Perhaps (Some n) = Some n
 
--- the same behind all of these parameters
+-- how many of so many arguments without labels are left behind these parameters, if none of them needs another one
 abbrev pub left_behind : List Parameter → Option ℕ → Option ℕ
 left_behind [] o = o
 left_behind (p ∷ ps) o = left_behind ps (left_by p.form o)

@@ -5,6 +5,7 @@ use Rattle.std.specs.Str.{bytes_eq}
 use Rattle.indexmap.specs.IndexMap.{IndexMap, get_by}
 use Rattle.typing_rules.specs.Arguments.{GivenArgument, argument}
 
+-- a label of the program, as plain data
 abbrev pub seen_label : Option (Bor (List ℕ)) → Option (List ℕ)
 seen_label l = option_map (λ s. s.now) l
 
@@ -15,12 +16,12 @@ left_in k (l ∷ ls) [] = []
 left_in k (l ∷ ls) (true ∷ ts) = left_in (suc k) ls ts
 left_in k (l ∷ ls) (false ∷ ts) = (l, k) ∷ left_in (suc k) ls ts
 
--- all of them
+-- the arguments with these labels, with their places from k on
 abbrev pub placed : ℕ → List (Option (List ℕ)) → List (GivenArgument ℕ)
 placed k [] = []
 placed k (l ∷ ls) = (l, k) ∷ placed (suc k) ls
 
--- the place of the first with this label
+-- the place of the first argument with this label, or of the first without one
 abbrev pub first_of : Option (List ℕ) → List (GivenArgument ℕ) → Option ℕ
 first_of label gs = option_map (λ x. x.0) (argument label gs)
 
@@ -33,6 +34,7 @@ next_ones (g ∷ gs) = first_of g.0 gs ∷ next_ones gs
 abbrev pub AreLinked : (ℕ → Option ℕ) → List (GivenArgument ℕ) → Type 0
 AreLinked next gs = map (λ g. next g.1) gs ≡ next_ones gs
 
+-- a place that a table may have
 abbrev pub flat : Option (Option ℕ) → Option ℕ
 flat None = None
 flat (Some o) = o
@@ -46,9 +48,10 @@ head_at named plain (Some name) = flat (get_by (λ key. bytes_eq name key.now) n
 abbrev pub AreHeads : (Option (List ℕ) → Option ℕ) → List (GivenArgument ℕ) → Type 0
 AreHeads head gs = (label : Option (List ℕ)) → head label ≡ first_of label gs
 
+-- the place that the list has for argument i, if it has one
 abbrev pub next_at : List (Option ℕ) → ℕ → Option ℕ
 next_at next i = get_or next i None
 
--- the same argument with something else in place of its place
+-- the argument, with what f makes of its place
 abbrev pub on : (ℕ → ℕ) → GivenArgument ℕ → GivenArgument ℕ
 on f g = (g.0, f g.1)

@@ -11,7 +11,7 @@ use Rattle.typing_rules.specs.Scoping.{Meaning, Name, Scope, inner_names, names,
 use Rattle.name_scope.specs.declared.notes.Notes.{Notes}
 use Rattle.name_scope.specs.declared.notes.Resolved.{Resolved}
 
--- the first missing parameter, where one is known or none, and one more parameter takes an argument or none
+-- the first missing parameter: the one that is known, or else this one if it must have an argument and takes none
 abbrev pub missing_with : Option (List ℕ) → Parameter → Bool → Option (List ℕ)
 missing_with (Some m) p taken = Some m
 missing_with None p true = None
@@ -22,29 +22,33 @@ abbrev pub sooner : Option NameFault → NameFault → Option NameFault
 sooner None f = Some f
 sooner (Some g) f = cond (is_before g f) (Some g) (Some f)
 
+-- the fault that is told of one known and of these
 abbrev pub all_sooner : Option NameFault → List NameFault → Option NameFault
 all_sooner o [] = o
 all_sooner o (f ∷ fs) = all_sooner (sooner o f) fs
 
--- the faults of a call of something with these parameters
+-- the faults of a call at a token, of something with these parameters
 abbrev pub mismatches : ℕ → List Parameter → List (GivenArgument ℕ) → List NameFault
 mismatches at ps gs = missing_at at (first_missing ps gs) ++ map (λ g. Extra g.1) (left_over ps gs)
 
+-- the names that stand for something, and the fault that is told
 pub record Noted : Type 0 where
   pub found : List Meaning
   pub fault : Option NameFault
 
+-- the name at a token with what it means, if it means something
 abbrev pub meaning_at : ℕ → Option Target → List Meaning
 meaning_at at None = []
 meaning_at at (Some t) = (at, Some t) ∷ []
 
--- with one more name that is used, and with more of them
+-- what is noted, with one more name that is used
 abbrev pub with_name : Noted → Name → Noted
 with_name n x = record {
   found = n.found ++ meaning_at x.at (target_of x.meant);
   fault = all_sooner n.fault (faults_as x.at x.meant x.given);
 }
 
+-- what is noted, with more names that are used
 abbrev pub with_names : Noted → List Name → Noted
 with_names n [] = n
 with_names n (x ∷ xs) = with_names (with_name n x) xs
@@ -53,9 +57,11 @@ with_names n (x ∷ xs) = with_names (with_name n x) xs
 abbrev pub names_each : {s : Sort} → Scope → List (Tree s) → List Name
 names_each sc ts = flat_map (names sc) ts
 
+-- a name and what it stands for, as plain data
 abbrev pub resolved : Resolved → Meaning
 resolved r = (r.at, Some r.target)
 
+-- what is noted, as plain data
 abbrev pub noted : Notes → Noted
 noted n = record { found = map resolved n.found.items; fault = n.fault }
 
@@ -63,10 +69,11 @@ noted n = record { found = map resolved n.found.items; fault = n.fault }
 abbrev pub body_names : Scope → Tree (Many AnInner) → Tree AnExpr → List Name
 body_names sc is e = inner_names sc is ++ names (with_inners is sc) e
 
--- the names of a statement's part, and the parameters that its def repeats
+-- what is noted, with the parameters whose names earlier ones have
 abbrev pub with_repeats : Noted → Tree (Many AParam) → Noted
 with_repeats n ps = record { found = n.found; fault = all_sooner n.fault (repeats [] ps) }
 
+-- what is noted, with the names of a statement's part, and the parameters that its def repeats
 abbrev pub with_part : Noted → Scope → Tree APart → Noted
 with_part n sc (BindPart b) = with_names n (names sc b)
 with_part n sc (DefPart (Def at name ps equals is e)) = with_names (with_repeats n ps)
@@ -79,12 +86,13 @@ abbrev pub known : List Name → List Meaning
 known [] = []
 known (x ∷ xs) = meaning_at x.at (target_of x.meant) ++ known xs
 
--- what is known after one more statement
+-- what is noted, with the names and the faults of one more statement
 abbrev pub with_statement_names : Noted → Scope → Tree AStmt → Noted
 with_statement_names n sc s = record {
   found = n.found ++ known (names sc s);
   fault = all_sooner n.fault (faults_in sc s);
 }
 
+-- the names that stand for something, as plain data
 abbrev pub found_in : Notes → List Meaning
 found_in n = map resolved n.found.items

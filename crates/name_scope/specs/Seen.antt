@@ -17,21 +17,25 @@ use Rattle.name_scope.specs.declared.labels.Labels.{Labels}
 pub use Rattle.name_scope.specs.Labelled.{seen_label}
 use Rattle.name_scope.specs.Labelled.{left_in}
 
+-- an argument of the program, by its label and its token
 abbrev pub seen_given : AGiven → GivenArgument ℕ
 seen_given g = (seen_label g.label, g.at)
 
+-- what a name is bound to, as plain data
 abbrev pub seen_bound : ABound → Bound
 seen_bound (bound.Value t) = bound_value t
 seen_bound (bound.Function t ps) = bound_function t (map seen_parameter ps.items)
 
--- the newest binding first
+-- bindings as a scope, the newest first
 abbrev pub newest_first : List Binding → Scope
 newest_first [] = []
 newest_first (b ∷ bs) = newest_first bs ++ (b.name.now, seen_bound b.bound) ∷ []
 
+-- the names of a scope of the program, the newest first
 abbrev pub in_scope : AScope → Scope
 in_scope s = newest_first s.bindings.items
 
+-- the names of both scopes, the inner ones first
 abbrev pub both_scopes : Scopes → Scope
 both_scopes s = in_scope s.inner.now ++ in_scope s.outer.now
 

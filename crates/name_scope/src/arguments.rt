@@ -133,7 +133,8 @@ pub(crate) fn labels_of<'a>(
     Ok(labels)
 }
 
-/// The same as `match_arguments` with a table of the labels, by the places of the arguments.
+/// Takes out each argument that a parameter takes, by a table of the labels, and answers the first parameter that must
+/// have one and finds none.
 pub(crate) fn match_labels<'a>(
     params: &[Parameter<'a>],
     labels: &mut Labels<'_>,
@@ -183,7 +184,8 @@ fn has_label(args: &[Arg]) -> bool
     false
 }
 
-/// How many of so many arguments without labels are left behind these parameters, if none of them needs another one.
+/// How many of `count` arguments without labels are left behind these parameters; `None` where one of them needs
+/// another.
 fn left_behind(params: &[Parameter<'_>], count: usize) -> Option<usize>
     ensures same { result ≡ the_left_behind (map seen_parameter params.now) (Some count) }
 {
@@ -194,7 +196,8 @@ fn left_behind(params: &[Parameter<'_>], count: usize) -> Option<usize>
     left
 }
 
-/// The same behind one parameter of this form.
+/// How many of so many arguments without labels are left behind a parameter of this form; `None` where it needs
+/// another.
 fn left_by(form: Form, count: Option<usize>) -> Option<usize>
     ensures same { result ≡ the_left_by form count }
 {
@@ -206,7 +209,7 @@ fn left_by(form: Form, count: Option<usize>) -> Option<usize>
     }
 }
 
-/// One less, or none where there is none.
+/// One less than `count`; `None` for 0.
 #[tactic(auto, using(crate::proofs::Filling::nothing_before))]
 fn one_less(count: usize) -> Option<usize>
     ensures same { result ≡ the_left_by Form.InPlace (Some count) }
@@ -230,7 +233,7 @@ fn take_argument(given: &mut Untaken<'_>, label: Option<&str>) -> bool
     false
 }
 
-/// The first missing parameter so far, and one more parameter.
+/// The first missing parameter: the one that is known, or else `param` if it must have an argument and took none.
 fn missing_or<'a>(missing: Option<&'a str>, param: Parameter<'a>, taken: bool) -> Option<&'a str>
     ensures same { seen_label result ≡ missing_with (seen_label missing.entry) (seen_parameter param.entry) taken }
 {

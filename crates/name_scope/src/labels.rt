@@ -96,7 +96,7 @@ impl<'a> Labels<'a> {
     }
 }
 
-/// The label at a place.
+/// The label of the argument at a place.
 fn label_at<'a>(labels: &[Option<&'a str>], place: usize) -> Option<&'a str>
     requires inside { place < length labels.now }
     ensures at { result ≡ get_or labels.now place result }
@@ -112,7 +112,7 @@ fn flag_at(flags: &[bool], place: usize) -> bool
     flags[place]
 }
 
-/// The place that stands at a place.
+/// The place that the list has for the argument at a place.
 fn place_at(places: &[Option<usize>], place: usize) -> Option<usize>
     requires inside { place < length places.now }
     ensures at { result ≡ next_at places.now place }
@@ -120,7 +120,7 @@ fn place_at(places: &[Option<usize>], place: usize) -> Option<usize>
     places[place]
 }
 
-/// The first argument with this label, or the first without one, by the tables.
+/// The place of the first argument with this label, or of the first without one, by the tables.
 fn head(
     label: Option<&str>,
     named: &IndexMap<&str, Option<usize>>,
@@ -137,7 +137,7 @@ fn head(
     }
 }
 
-/// Writes the first argument with this label, or the first without one, into the tables.
+/// Writes the place `head` of the first argument with this label, or of the first without one, into the tables.
 fn set_head<'a>(
     label: Option<&'a str>,
     named: &mut IndexMap<&'a str, Option<usize>>,
@@ -162,7 +162,7 @@ fn set_head<'a>(
     }
 }
 
-/// Fills the tables, from the last argument on.
+/// Fills the tables for these labels, from the last argument on.
 fn link_all<'a>(
     labels: &[Option<&'a str>],
     next: &mut [Option<usize>],

@@ -1,4 +1,4 @@
-// What is known of the names of a script so far.
+// What was found of the names of a script: what they stand for, and the fault that is told.
 ghost use Rattle.std.specs.Prelude.{◌≡◌, ◌++◌, ◌∷◌, [], None, OnOk, cond, map};
 ghost use Rattle.script_grammar.specs.View.{listed, view_arg, view_param};
 ghost use Rattle.typing_rules.specs.NameFaults.{is_among as is_one_of, is_before as is_told_before, missing_at};
@@ -42,6 +42,7 @@ pub struct Notes {
     pub fault: Option<NameFault>,
 }
 
+// The token of a fault, by which the faults of a statement are ordered.
 fn token(fault: &NameFault) -> u32
     ensures same { result ≡ the_token fault.now }
 {
@@ -53,6 +54,7 @@ fn token(fault: &NameFault) -> u32
     }
 }
 
+// The number of a fault, by which those at one token are ordered.
 fn number(fault: &NameFault) -> u32
     ensures same { result ≡ the_number fault.now }
 {
@@ -64,7 +66,7 @@ fn number(fault: &NameFault) -> u32
     }
 }
 
-/// Whether the first is told before the second: by the token, then by the number.
+/// Whether the first fault is told before the second: by the token, then by the number.
 fn is_before(first: &NameFault, second: &NameFault) -> bool
     ensures same { result ≡ is_told_before first.now second.now }
 {
@@ -75,7 +77,7 @@ fn is_before(first: &NameFault, second: &NameFault) -> bool
     }
 }
 
-/// The token of the argument at a place, if there is one.
+/// The token of the argument at a place; 0 where there is none.
 fn token_of(given: &[Given<'_>], place: usize) -> u32
     ensures at { result ≡ token_at given.now place }
 {
@@ -109,7 +111,7 @@ impl Notes {
         }
     }
 
-    /// Keeps of two faults the one that is told.
+    /// Keeps, of the known fault and this one, the one that is told.
     fn add_fault(&mut self, fault: NameFault)
         ensures fault { self.new.fault ≡ sooner self.old.fault fault }
         ensures found { self.new.found ≡ self.old.found }
@@ -123,7 +125,7 @@ impl Notes {
         }
     }
 
-    /// Adds a name that stands for something.
+    /// Adds the name at token `at`, which stands for something.
     fn add_found(&mut self, at: u32, target: Target) -> Result<(), Memory>
         ensures found { OnOk result (self.new.found.items ≡ self.old.found.items ++ record {
           at = at;
@@ -135,7 +137,7 @@ impl Notes {
         Ok(())
     }
 
-    /// Adds the faults of a call's arguments.
+    /// Adds the faults of the arguments of the call at token `at`: the one that is told is kept.
     fn add_mismatches(
         &mut self,
         alloc: Global,
@@ -155,7 +157,8 @@ impl Notes {
         self.add_unmatched(alloc, at, params, &mut given)
     }
 
-    // The same of arguments by their labels and tokens. Those that a parameter takes may be taken out.
+    // Adds the faults of the arguments of the call at token `at`, given by their labels and tokens. Those that a
+    // parameter takes may be taken out.
     fn add_unmatched(
         &mut self,
         alloc: Global,
@@ -177,7 +180,7 @@ impl Notes {
         Ok(())
     }
 
-    // The same of many arguments, which are found by a table of their labels.
+    // Adds the faults of many arguments of the call at token `at`, which are found by a table of their labels.
     fn add_mismatches_of_many(
         &mut self,
         alloc: Global,
@@ -193,7 +196,8 @@ impl Notes {
         self.add_by_labels(alloc, at, params, given, &mut labels)
     }
 
-    // The same by a table of their labels, from which none is taken yet.
+    // Adds the faults of the arguments of the call at token `at`, by a table of their labels, from which none is taken
+    // yet.
     fn add_by_labels(
         &mut self,
         alloc: Global,
@@ -213,7 +217,7 @@ impl Notes {
         Ok(())
     }
 
-    // Adds the arguments that are left in a table of their labels.
+    // Adds the faults of the arguments that are left in a table of their labels.
     fn add_left(&mut self, labels: &Labels<'_>, given: &[Given<'_>])
         ensures fault { self.new.fault
             ≡ all_sooner self.old.fault (map (λ g. Extra (token_at given.now g.1)) (left_of labels.now)) }
@@ -224,7 +228,7 @@ impl Notes {
         }
     }
 
-    // Adds an argument that no parameter takes, if it is left.
+    // Adds the fault of the argument at token `at`, which no parameter takes, if it is left.
     fn add_extra_if(&mut self, left: bool, at: u32)
         ensures fault { self.new.fault ≡ cond left (sooner self.old.fault (Extra at)) self.old.fault }
         ensures found { self.new.found ≡ self.old.found }
@@ -234,7 +238,7 @@ impl Notes {
         }
     }
 
-    /// Adds the first missing argument of a call, if there is one.
+    /// Adds the fault of the call at token `at` of which this argument is missing, if one is.
     fn add_missing(&mut self, alloc: Global, at: u32, missing: Option<&str>) -> Result<(), Memory>
         ensures fault { OnOk result (self.new.fault
             ≡ all_sooner self.old.fault (missing_at at (seen_label missing.entry))) }
@@ -250,7 +254,7 @@ impl Notes {
         }
     }
 
-    /// Adds the arguments that no parameter takes.
+    /// Adds the faults of arguments that no parameter takes.
     fn add_extra(&mut self, given: &[Given<'_>])
         ensures fault { self.new.fault ≡ all_sooner self.old.fault (map (λ g. Extra g.at) given.now) }
         ensures found { self.new.found ≡ self.old.found }
@@ -260,7 +264,7 @@ impl Notes {
         }
     }
 
-    /// Adds a parameter whose name an earlier one has, if it has.
+    /// Adds the fault of the parameter at token `at` whose name an earlier one has, if it has.
     fn add_repeated(&mut self, repeats: bool, at: u32)
         ensures fault { self.new.fault ≡ all_sooner self.old.fault (repeated_at at repeats) }
         ensures found { self.new.found ≡ self.old.found }
@@ -270,7 +274,7 @@ impl Notes {
         }
     }
 
-    /// Adds the parameters of a def whose names earlier ones have.
+    /// Adds the faults of the parameters of a def whose names earlier ones have.
     pub fn add_repeats(&mut self, alloc: Global, params: &[Param]) -> Result<(), Memory>
         ensures fault { OnOk result (self.new.fault
             ≡ all_sooner self.old.fault (repeats [] (listed (map view_param params.now)))) }
@@ -283,7 +287,8 @@ impl Notes {
         Ok(())
     }
 
-    // The same of so few parameters that each is compared with the earlier ones. It takes no memory.
+    // Adds the faults of repeated names of so few parameters that each is compared with the earlier ones. It takes no
+    // memory.
     fn add_repeats_of_few(&mut self, params: &[Param])
         ensures fault { self.new.fault ≡ all_sooner self.old.fault (repeats [] (listed (map view_param params.now))) }
         ensures found { self.new.found ≡ self.old.found }
@@ -294,7 +299,7 @@ impl Notes {
         }
     }
 
-    // The same with a table of the earlier names.
+    // Adds the faults of repeated names of parameters, with a table of the earlier names.
     fn add_repeats_of_many<'a>(&mut self, alloc: Global, params: &'a [Param]) -> Result<(), Memory>
         ensures fault { OnOk result (self.new.fault
             ≡ all_sooner self.old.fault (repeats [] (listed (map view_param params.entry.now)))) }
@@ -304,7 +309,8 @@ impl Notes {
         self.add_repeats_behind(params, &mut earlier)
     }
 
-    // The same with this table of the earlier names, in which none stands yet.
+    // Adds the faults of repeated names of parameters, with this table of the earlier names, in which none stands at
+    // first.
     fn add_repeats_behind<'a>(
         &mut self,
         params: &'a [Param],
@@ -323,7 +329,7 @@ impl Notes {
         Ok(())
     }
 
-    /// Adds a name outside a call.
+    /// Adds the name at token `at`, which stands outside a call.
     pub fn add_value(&mut self, scopes: Scopes<'_, '_>, at: u32, name: &Text) -> Result<(), Memory>
         ensures added { OnOk result (noted self.new ≡ with_name (noted self.old) (record {
           at = at;
@@ -340,7 +346,7 @@ impl Notes {
         }
     }
 
-    /// Adds the name of a call, with how its arguments match.
+    /// Adds the name of the call at token `at`, with how its arguments match.
     pub fn add_call(
         &mut self,
         alloc: Global,
@@ -368,7 +374,7 @@ impl Notes {
         }
     }
 
-    /// Adds the name of a call that nothing in scope has.
+    /// Adds the name of the call at token `at`, which nothing in scope has.
     fn add_outer_call(
         &mut self,
         alloc: Global,

@@ -43,7 +43,7 @@ pub fn resolve_statement<'a>(
     Ok(())
 }
 
-/// A fault of names as that of a statement.
+/// A fault of names as that of statement `number`.
 fn in_statement(number: u32, fault: NameFault) -> TypeFault
     ensures same { result ≡ the_fault_in number fault }
 {
@@ -59,7 +59,7 @@ fn in_statement(number: u32, fault: NameFault) -> TypeFault
     }
 }
 
-/// The fault that was told, if there is one, as that of a statement.
+/// Refuses statement `number` for the fault that was noted, if there is one.
 fn check_fault(notes: &mut Notes, number: u32) -> Result<(), TypeFault>
     ensures kept { OnOk result (found_in notes.new ≡ found_in notes.old) }
     ensures faultless { OnOk result (notes.old.fault ≡ None) }

@@ -32,7 +32,7 @@ pub fn note_def<'a>(
     note_def_in(alloc, outer, &mut inner, notes, def)
 }
 
-/// The same, where a scope without names takes those that the def binds.
+/// The names that a def's text uses, with a scope without names that takes those that the def binds.
 fn note_def_in<'a>(
     alloc: Global,
     outer: &Scope<'a>,
@@ -239,7 +239,7 @@ fn note_def_part<'a>(
     Ok(())
 }
 
-/// The names that a call uses which is a statement.
+/// The names that a statement uses which is a call.
 fn note_call_part(
     alloc: Global,
     scope: &Scope<'_>,
@@ -262,7 +262,7 @@ fn note_call_part(
     Ok(())
 }
 
-/// The names that an `if` uses which is a statement.
+/// The names that a statement uses which is an `if`.
 fn note_if_part(
     alloc: Global,
     scope: &Scope<'_>,

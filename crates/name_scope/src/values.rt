@@ -81,6 +81,7 @@ pub fn note_choice(
     Ok(())
 }
 
+// The names that parts joined by `or` use.
 #[cycle(value)]
 fn note_ands(
     alloc: Global,
@@ -97,6 +98,7 @@ fn note_ands(
     Ok(())
 }
 
+// The names that parts joined by `and` use.
 #[cycle(value)]
 fn note_and(
     alloc: Global,
@@ -112,6 +114,7 @@ fn note_and(
     Ok(())
 }
 
+// The names that the parts behind an `and` use.
 #[cycle(value)]
 fn note_nots(
     alloc: Global,
@@ -128,6 +131,7 @@ fn note_nots(
     Ok(())
 }
 
+// The names that a comparison uses, perhaps behind `not`.
 #[cycle(value)]
 fn note_not(
     alloc: Global,
@@ -141,6 +145,7 @@ fn note_not(
     note_compare(alloc, scopes, notes, &not.inner)
 }
 
+// The names that a sum uses, and the one that it is compared with.
 #[cycle(value)]
 fn note_compare(
     alloc: Global,
@@ -161,6 +166,7 @@ fn note_compare(
     }
 }
 
+// The names that products joined by `+` and `-` use.
 #[cycle(value)]
 fn note_sum(
     alloc: Global,
@@ -176,6 +182,7 @@ fn note_sum(
     Ok(())
 }
 
+// The names that the products behind a `+` or `-` use.
 #[cycle(value)]
 fn note_addends(
     alloc: Global,
@@ -192,6 +199,7 @@ fn note_addends(
     Ok(())
 }
 
+// The names that a product behind a `+` or `-` uses.
 #[cycle(value)]
 fn note_added(
     alloc: Global,
@@ -205,6 +213,7 @@ fn note_added(
     note_product(alloc, scopes, notes, &added.product)
 }
 
+// The names that operands joined by `*` and `/` use.
 #[cycle(value)]
 fn note_product(
     alloc: Global,
@@ -220,6 +229,7 @@ fn note_product(
     Ok(())
 }
 
+// The names that the operands behind a `*` or `/` use.
 #[cycle(value)]
 fn note_factors(
     alloc: Global,
@@ -236,6 +246,7 @@ fn note_factors(
     Ok(())
 }
 
+// The names that an operand behind a `*` or `/` uses.
 #[cycle(value)]
 fn note_multiplied(
     alloc: Global,
@@ -249,6 +260,7 @@ fn note_multiplied(
     note_operand(alloc, scopes, notes, &multiplied.operand)
 }
 
+// The names that an operand uses.
 #[cycle(value)]
 fn note_operand(
     alloc: Global,
@@ -275,6 +287,7 @@ fn note_operand(
     }
 }
 
+// The names that values use, one after another.
 #[cycle(value)]
 fn note_fulls(
     alloc: Global,
@@ -291,6 +304,7 @@ fn note_fulls(
     Ok(())
 }
 
+// The names that the arguments of a call use.
 #[cycle(value)]
 fn note_args(
     alloc: Global,
@@ -307,6 +321,7 @@ fn note_args(
     Ok(())
 }
 
+// The names that an argument uses.
 #[cycle(value)]
 fn note_arg(
     alloc: Global,

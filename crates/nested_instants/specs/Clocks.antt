@@ -28,8 +28,8 @@ use Rattle.clock_nodes.specs.States.{AllFit, HasRoomFor}
 use Rattle.clock_instants.specs.Takes.{HasOwnReaders, ReadersAreIn, begun_in}
 use Rattle.nested_instants.specs.declared.clock_states.ClockStates.{ClockStates}
 
--- how far all came: how many instants a clock has made, how many slots crossfade k was filled or how many instants
--- reader k has begun, and what the readers of each buffer have taken
+-- how far all came: how many instants each clock has made, how many slots crossfade k was given or how many instants
+-- reader k has begun, and in `front` what the readers of each buffer have taken
 pub record Progress : Type 0 where
   pub ran : NodeClock → ℕ
   pub filled : ℕ → ℕ
@@ -43,7 +43,7 @@ clock_at clocks i = slice_index_or clocks i (Main 0)
 pub record HasRanks (clocks : List NodeClock) (rank : NodeClock → ℕ) : Type 0 where
   pub deeper : (k : ℕ) → k < length clocks → rank (Sub k) ≡ suc (rank (clock_at clocks k))
 
--- sub-clocks nest no deeper below a clock than this
+-- sub-clocks nest no deeper below a clock than `levels`
 pub record HasLevels (clocks : List NodeClock) (clock : NodeClock) (levels : ℕ) : Type 0 where
   pub rank : NodeClock → ℕ
   pub ranks : HasRanks clocks rank
@@ -53,22 +53,22 @@ pub record HasLevels (clocks : List NodeClock) (clock : NodeClock) (levels : ℕ
 abbrev pub laned_at : ClockStates → ℕ → Type 0
 laned_at all i = HasLanes all.room.left.items all.room.right.items i
 
--- how many instants go on as the latest one of the sub-clock of crossfade k did, of those that are kept
+-- how many instants of the sub-clock of crossfade k are known to go on as its latest one did
 abbrev pub rest_at : ClockStates → ℕ → ℕ
 rest_at all k = slice_index_or all.room.rests.items k 0
 
--- the states of a sub-clock's nodes can go on for as many instants as are kept
+-- the nodes of each sub-clock can go on for as many instants as are kept of it
 pub record AreResting (scene : Scene) (all : ClockStates) : Type 0 where
   pub ahead : (k : ℕ) → 0 < rest_at all k
       → AllLieAhead scene (Sub k) all.room.held.items all.states.items (rest_at all k)
   pub through : (k : ℕ) → 0 < rest_at all k
       → AllPassOn scene (Sub k) all.room.held.items all.states.items all.room.rests.items (rest_at all k)
 
--- no instants are kept of a clock
+-- of this clock no instants are kept that go on as its latest one did
 pub record IsIdle (clock : NodeClock) (all : ClockStates) : Type 0 where
   pub none : (k : ℕ) → clock ≡ Sub k → rest_at all k ≡ 0
 
--- states for the nodes of this plan, with these files and these clocks of its nodes
+-- these are states for the nodes of a scene
 pub record AreClockStates (scene : Scene) (all : ClockStates) : Type 0 where
   pub fit : AllFit scene all.states.items
   pub in_times : length all.times.items ≡ length scene.plan.now.nodes
@@ -87,8 +87,8 @@ pub record AreStatesAt (over : Scene) (time : WeekTime) (all : ClockStates) : Ty
   pub rate : time.rate ≡ over.plan.now.rate
   pub frame : time.frame ≡ over.plan.now.frame
 
--- a clock and the sub-clocks below it can make instants: these are states for the nodes of a plan, something is told of
--- each node, sub-clocks nest no deeper than this, and readers read these buffers
+-- a clock and the sub-clocks below it can make instants: there are states for the nodes of a plan, `own` has an entry
+-- for each node, sub-clocks nest at most `most` deep, and readers read some of `buffers` buffers
 pub record CanMakeInstants (over : Scene) (own : List Bool) (clock : NodeClock) (most buffers : ℕ) (all : ClockStates)
     : Type 0 where
   pub scene : IsScene over
@@ -97,37 +97,41 @@ pub record CanMakeInstants (over : Scene) (own : List Bool) (clock : NodeClock) 
   pub levels : HasLevels over.clocks.now clock most
   pub readers : ReadersAreIn over.plan.now buffers
 
--- these tell of each node whether its own clock demands it of itself
+-- `own` says of each node whether its own clock demands it of itself
 pub record AreOwnRoots (setting : Setting) (own : List Bool) : Type 0 where
   pub each : (i : ℕ) → i < length setting.plan.nodes
       → slice_index_or own i false ≡ is_root setting (clock_of setting i) i
 
--- whether the node at a place wants a slot, and how many it asks for at most
+-- whether node k is a crossfade that wants a slot
 abbrev pub wants_at : List NodeState → ℕ → Bool
 wants_at states k = option_map_or wants (slice_get states k) false
 
+-- a bound on how many slots node k takes before its item is settled
 abbrev pub left_at : List NodeState → ℕ → ℕ
 left_at states k = option_map_or left (slice_get states k) 0
 
--- how many cells of a track that goes on the node at a place takes
+-- how many cells of its child's running track node k takes for its item
 abbrev pub room_at : List NodeState → ℕ → ℕ
 room_at states k = option_map_or room (slice_get states k) 0
 
--- some of the nodes: one of them, those of a clock, and of these the first ones
+-- no node
 abbrev pub is_none : ℕ → Type 0
 is_none i = ⊥
 
+-- node k alone
 abbrev pub is_node : ℕ → ℕ → Type 0
 is_node k i = i ≡ k
 
+-- the nodes of a clock
 abbrev pub is_in : List NodeClock → NodeClock → ℕ → Type 0
 is_in clocks clock i = clock_at clocks i ≡ clock
 
+-- the nodes of a clock below this number
 abbrev pub is_upto : List NodeClock → NodeClock → (below : ℕ) → ℕ → Type 0
 is_upto clocks clock below i = (i < below) × (clock_at clocks i ≡ clock)
 
--- but for some nodes, those in clocks of this rank or a lower one have the states that they had, what is kept of their
--- latest instant, and their sub-clocks the times and the instants that are kept
+-- nodes in clocks of rank `level` or a lower one, but for those `touched`, keep their states and what they gave, and
+-- their sub-clocks keep the times and the instants that are kept
 pub record AreLeft (clocks : List NodeClock) (rank : NodeClock → ℕ) (level : ℕ) (touched : ℕ → Type 0)
     (old new : ClockStates) : Type 0 where
   pub states : (i : ℕ) → (touched i → ⊥) → rank (clock_at clocks i) ≤ level
@@ -137,10 +141,10 @@ pub record AreLeft (clocks : List NodeClock) (rank : NodeClock → ℕ) (level :
   pub held : (i : ℕ) → (touched i → ⊥) → rank (clock_at clocks i) ≤ level
       → part_at new.room.held.items i ≡ part_at old.room.held.items i
   pub rests : (i : ℕ) → (touched i → ⊥) → rank (clock_at clocks i) ≤ level → rest_at new i ≡ rest_at old i
-  -- and each node its lanes
+  -- and each node keeps its lanes
   pub laned : (i : ℕ) → laned_at old i → laned_at new i
 
--- whether a node's work is to fade
+-- whether a node's work is that of a crossfade
 abbrev pub is_fade : Work → Bool
 is_fade (Plays leaf) = false
 is_fade (Picks rule eligible) = false
@@ -148,6 +152,7 @@ is_fade (Mixes mixing) = false
 is_fade (Fades overlap) = true
 is_fade (Reads buffer) = false
 
+-- whether node k is a crossfade, if there is such a node
 abbrev pub fade_in : Setting → ℕ → Option Node → Bool
 fade_in setting k None = false
 fade_in setting k (Some node) = is_fade (work_at setting k node)
@@ -167,15 +172,15 @@ pub record RanAsNeeded (setting : Setting) (sub : ℕ → ℕ → List Slot) (ra
   pub begun : (i : ℕ) → reads_at setting i ≡ true → level ≤ rank (clock_of setting i)
       → progress.filled i ≡ progress.ran (clock_of setting i)
 
--- so many instants go on as the one after these did, of which this is kept; and for them each crossfade of the clock
--- through which cells pass asks for a slot an instant, and any other one for none
+-- `rest` instants go on as the one after this past did, at which `held` was given; in each of them a crossfade of the
+-- clock that gave asks for one slot where cells pass, and otherwise for none
 pub record GoesOnFor (setting : Setting) (sub : ℕ → ℕ → List Slot) (clock : NodeClock) (past : List Moment) (rest : ℕ)
     (filled : ℕ → ℕ) (held : List Part) (states : List NodeState) : Type 0 where
   pub stretch : IsStretch setting sub clock past (suc rest)
   pub held_is : IsHeld setting sub clock past held
   pub asks : AllAsk setting sub clock past filled states (length setting.clocks) rest
 
--- so many instants of the sub-clock of crossfade k go on as its latest one did, at which the child gave
+-- `rest` instants of the sub-clock of crossfade k go on as its latest one did, at which the crossfade's child gave
 pub record IsOpen (setting : Setting) (sub : ℕ → ℕ → List Slot) (k rest : ℕ) (progress : Progress) (all : ClockStates)
     : Type 0 where
   pub n : ℕ
@@ -185,10 +190,10 @@ pub record IsOpen (setting : Setting) (sub : ℕ → ℕ → List Slot) (k rest 
   pub goes : GoesOnFor setting sub (Sub k) (first_instants setting sub (Sub k) n) rest progress.filled
       all.room.held.items all.states.items
 
--- the readers have taken these answers; in clocks of this rank and deeper ones the states stand for the instants that
--- the clocks have made, each crossfade was filled what its sub-clock made, and the sub-clock's time is that of its next
--- instant; and clocks deeper than this ran as needed; and their nodes have lanes. Of states in lower clocks nothing is
--- said: such may be idle
+-- the readers have taken the answers `front`. In clocks of rank `level` or a deeper one the states stand for the
+-- instants that the clocks have made, the nodes have lanes, each crossfade was given the slots that its sub-clock made,
+-- and the sub-clock's time is that of its next instant; deeper clocks ran as needed. Of states in lower clocks nothing
+-- is said: they may be idle
 pub record Stand (setting : Setting) (sub : ℕ → ℕ → List Slot) (rank : NodeClock → ℕ) (level : ℕ) (progress : Progress)
     (all : ClockStates) : Type 0 where
   pub stand : (i : ℕ) (node : Node) (state : NodeState) → slice_get setting.plan.nodes i ≡ Some node
@@ -209,15 +214,15 @@ pub record Stand (setting : Setting) (sub : ℕ → ℕ → List Slot) (rank : N
       → IsOpen setting sub k (rest_at all k) progress all
   pub laned : (i : ℕ) → i < length setting.plan.nodes → level ≤ rank (clock_of setting i) → laned_at all i
 
--- the item of node k is settled, if it is a crossfade, by no more slots than it takes
+-- node k can make its next instant: the item of a crossfade is settled, by no more slots than it takes
 pub record HasItem (setting : Setting) (sub : ℕ → ℕ → List Slot) (progress : Progress) (k : ℕ) (node : Node)
     : Type 0 where
   pub settled : IsSettled sub (past_of setting sub progress.ran k) (progress.filled k) k (work_at setting k node)
   pub run : (overlap : ℕ) → work_at setting k node ≡ Fades overlap
       → run_of overlap (sub k) (position (past_of setting sub progress.ran k) k) ≡ progress.filled k
 
--- some nodes were filled, by these calls, and some of these have their items; no clock of this rank or a lower one has
--- made an instant
+-- of the nodes that may have changed, `touched`, those `done` can make their next instant; the calls `more` were made,
+-- and no clock of rank `level` or a lower one has made an instant
 pub record IsReached (setting : Setting) (sub : ℕ → ℕ → List Slot) (rank : NodeClock → ℕ) (level : ℕ)
     (touched done : ℕ → Type 0) (progress : Progress) (more : List Call) (all : ClockStates) : Type 0 where
   pub now : Progress
@@ -234,21 +239,21 @@ pub record IsReached (setting : Setting) (sub : ℕ → ℕ → List Slot) (rank
 abbrev pub calls_below : Setting → (sub : ℕ → ℕ → List Slot) → (k m : ℕ) → List Call
 calls_below setting sub k m = calls_of setting sub (Sub k) (first_instants setting sub (Sub k) m)
 
--- node k was filled some slots, by the calls of the instants that its sub-clock made for it
+-- node k was given slots of its child, with the calls `more` of the instants that its sub-clock made for them
 pub record IsFilling (setting : Setting) (sub : ℕ → ℕ → List Slot) (rank : NodeClock → ℕ) (k : ℕ) (done : ℕ → Type 0)
     (progress : Progress) (more : List Call) (all : ClockStates) : Type 0 where
   pub reached : IsReached setting sub rank (rank (clock_of setting k)) (is_node k) done progress more all
   pub low : progress.filled k ≤ reached.now.filled k
   pub calls : more ≡ joined_between (calls_below setting sub k) (progress.filled k) (reached.now.filled k)
 
--- the calls of the sub-clocks of a clock's crossfades below node n, at the instant after these
+-- the calls of the sub-clocks of a clock's crossfades below node n, at the instant after this past
 abbrev pub calls_upto : Setting → (sub : ℕ → ℕ → List Slot) → NodeClock → List Moment → (n : ℕ) → List Call
 calls_upto setting sub clock past n =
     joined_upto (λ k. fades_in setting sub (calls_below setting sub) (lies_in setting clock k) past k
     (slice_get setting.plan.nodes k)) n
 
--- a clock has made one instant more, by its calls, and no other clock of its rank or a lower one has; below it no clock
--- has made more than its crossfade asks for
+-- a clock has made one instant more, with the calls `more`, and no other clock of its rank or a lower one has; below it
+-- no clock has made more than its crossfade asks for
 pub record HasMadeInstant (setting : Setting) (sub : ℕ → ℕ → List Slot) (rank : NodeClock → ℕ) (clock : NodeClock)
     (progress : Progress) (more : List Call) (all : ClockStates) : Type 0 where
   pub now : Progress
@@ -264,7 +269,8 @@ pub record HasMadeInstant (setting : Setting) (sub : ℕ → ℕ → List Slot) 
       ≡ (moment_after setting sub clock (first_instants setting sub clock (progress.ran clock))).parts
   pub keeps : IsHeld setting sub clock (first_instants setting sub clock (progress.ran clock)) all.room.held.items
 
--- what holds of a setting, whatever its answers are
+-- what is known of a setting, whatever its answers are: ranks of its clocks, the slots and the calls of its sub-clocks,
+-- that no buffer has two readers, and which nodes are demanded of themselves
 pub record IsWorld (setting : Setting) (sub : ℕ → ℕ → List Slot) (rank : NodeClock → ℕ) (own : List Bool) : Type 0 where
   pub ranks : HasRanks setting.clocks rank
   pub meaning : IsMeaning setting sub
@@ -272,8 +278,7 @@ pub record IsWorld (setting : Setting) (sub : ℕ → ℕ → List Slot) (rank :
   pub readers : HasOwnReaders setting
   pub roots : AreOwnRoots setting own
 
--- a clock's instant was made, by these calls: whatever instants the states stood for, and whatever answers come behind
--- those of the calls
+-- a clock's instant was made, by these calls: whatever instants the states stood for, and whatever answers follow
 pub record InstantMade {T : Type 0} (stands : T → List Call → Type 0) (scene : Scene) (own : List Bool)
     (clock : NodeClock) (time : WeekTime) (old new : ClockStates) (taps_old taps_new : T) : Type 0 where
   pub more : List Call
@@ -285,7 +290,7 @@ pub record InstantMade {T : Type 0} (stands : T → List Call → Type 0) (scene
       → TimeStands setting.start (progress.ran clock) time
       → HasMadeInstant setting sub rank clock progress more new
 
--- memory was refused: these are the first calls of the instant
+-- memory was refused in an instant of a clock, after its first calls: whatever instants the states stood for
 pub record InstantStopped {T : Type 0} (stands : T → List Call → Type 0) (scene : Scene) (own : List Bool)
     (clock : NodeClock) (time : WeekTime) (old : ClockStates) (taps_old taps_new : T) : Type 0 where
   pub made : List Call
@@ -297,7 +302,7 @@ pub record InstantStopped {T : Type 0} (stands : T → List Call → Type 0) (sc
       → TimeStands setting.start (progress.ran clock) time
       → IsBegin made (calls_of setting sub clock (first_instants setting sub clock (progress.ran clock)))
 
--- how far all came where the readers of a clock have begun an instant more, by these calls
+-- how far all came after the readers of a clock began one instant more, with the calls `more`
 abbrev pub begun_progress : Setting → NodeClock → Progress → (more : List Call) → Progress
 begun_progress setting clock progress more = record {
   ran = progress.ran;
@@ -305,12 +310,14 @@ begun_progress setting clock progress more = record {
   front = after_calls progress.front more;
 }
 
--- the readers of a clock have begun, if its instant begins a tick
+-- the readers of a clock have begun its next instant, with the calls `more`: takes, if that instant begins a tick
 pub record Opened (setting : Setting) (sub : ℕ → ℕ → List Slot) (rank : NodeClock → ℕ) (clock : NodeClock)
     (progress : Progress) (more : List Call) (all : ClockStates) : Type 0 where
   pub stand : Stand setting sub rank (rank clock) (begun_progress setting clock progress more) all
   pub calls : more ≡ takes_at setting clock (first_instants setting sub clock (progress.ran clock))
 
+-- the readers of a clock have begun, if its instant begins a tick, by these calls: whatever instants the states stood
+-- for, and whatever answers follow
 pub record ClockOpened {T : Type 0} (stands : T → List Call → Type 0) (scene : Scene) (clock : NodeClock)
     (time : WeekTime) (old new : ClockStates) (taps_old taps_new : T) : Type 0 where
   pub more : List Call
@@ -322,6 +329,7 @@ pub record ClockOpened {T : Type 0} (stands : T → List Call → Type 0) (scene
       → TimeStands setting.start (progress.ran clock) time
       → Opened setting sub rank clock progress more new
 
+-- memory was refused: these are the first takes with which the readers of a clock begin its instant
 pub record OpeningStopped {T : Type 0} (stands : T → List Call → Type 0) (scene : Scene) (clock : NodeClock)
     (time : WeekTime) (old : ClockStates) (taps_old taps_new : T) : Type 0 where
   pub made : List Call
@@ -333,7 +341,8 @@ pub record OpeningStopped {T : Type 0} (stands : T → List Call → Type 0) (sc
       → TimeStands setting.start (progress.ran clock) time
       → IsBegin made (takes_at setting clock (first_instants setting sub clock (progress.ran clock)))
 
--- node k has its item, by these calls
+-- node k, if it is a crossfade, has its item, for which its sub-clock made these calls: whatever instants the states
+-- stood for, and whatever answers follow
 pub record NodeSettled {T : Type 0} (stands : T → List Call → Type 0) (scene : Scene) (own : List Bool) (k : ℕ)
     (old new : ClockStates) (taps_old taps_new : T) : Type 0 where
   pub more : List Call
@@ -356,6 +365,7 @@ pub record IsFillingStopped (setting : Setting) (sub : ℕ → ℕ → List Slot
       (joined_between (calls_below setting sub k) (progress.filled k)
       (run_of overlap (sub k) (position (past_of setting sub progress.ran k) k)))
 
+-- memory was refused: these are the first calls for the item of node k, whatever instants the states stood for
 pub record NodeStopped {T : Type 0} (stands : T → List Call → Type 0) (scene : Scene) (own : List Bool) (k : ℕ)
     (old : ClockStates) (taps_old taps_new : T) : Type 0 where
   pub made : List Call
@@ -366,16 +376,16 @@ pub record NodeStopped {T : Type 0} (stands : T → List Call → Type 0) (scene
       → Stand setting sub rank (rank (clock_at scene.clocks.now k)) progress old
       → IsFillingStopped setting sub progress k made
 
--- the crossfades of a clock below a node have their items, by the calls of the instants that their sub-clocks made for
--- them
+-- the crossfades of a clock below node `below` have their items, with the calls `more` of the instants that their
+-- sub-clocks made for them
 pub record AreFilled (setting : Setting) (sub : ℕ → ℕ → List Slot) (rank : NodeClock → ℕ) (clock : NodeClock)
     (below : ℕ) (progress : Progress) (more : List Call) (all : ClockStates) : Type 0 where
   pub reached : IsReached setting sub rank (rank clock) (is_upto setting.clocks clock below)
       (is_upto setting.clocks clock below) progress more all
   pub calls : more ≡ calls_upto setting sub clock (first_instants setting sub clock (progress.ran clock)) below
 
--- before the crossfades of a clock are settled: they have the items that the instants before took, and the readers have
--- begun
+-- before the crossfades of a clock are settled for its next instant: each was given the slots that the instants before
+-- took, and the readers have begun it
 pub record AreReady (setting : Setting) (sub : ℕ → ℕ → List Slot) (clock : NodeClock) (progress : Progress)
     : Type 0 where
   pub each : (k overlap : ℕ) (node : Node) → slice_get setting.plan.nodes k ≡ Some node
@@ -385,6 +395,8 @@ pub record AreReady (setting : Setting) (sub : ℕ → ℕ → List Slot) (clock
   pub begun : (i : ℕ) → reads_at setting i ≡ true → clock_of setting i ≡ clock
       → progress.filled i ≡ suc (progress.ran clock)
 
+-- the crossfades of a clock below node `below` have their items, by these calls: whatever instants the states stood
+-- for, and whatever answers follow
 pub record AllSettled {T : Type 0} (stands : T → List Call → Type 0) (scene : Scene) (own : List Bool)
     (clock : NodeClock) (below : ℕ) (old new : ClockStates) (taps_old taps_new : T) : Type 0 where
   pub more : List Call
@@ -395,6 +407,8 @@ pub record AllSettled {T : Type 0} (stands : T → List Call → Type 0) (scene 
       → Stand setting sub rank (rank clock) progress old → AreReady setting sub clock progress
       → AreFilled setting sub rank clock below progress more new
 
+-- memory was refused: these are the first calls for the items of a clock's crossfades, whatever instants the states
+-- stood for
 pub record SettlingStopped {T : Type 0} (stands : T → List Call → Type 0) (scene : Scene) (own : List Bool)
     (clock : NodeClock) (old : ClockStates) (taps_old taps_new : T) : Type 0 where
   pub made : List Call

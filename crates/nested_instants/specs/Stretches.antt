@@ -17,15 +17,15 @@ use Rattle.clock_instants.specs.Held.{IsHeld, gave_at, goes_through, passes_at}
 use Rattle.node_states.specs.Passing.{LaneFills}
 use Rattle.nested_instants.specs.Clocks.{AreClockStates, GoesOnFor, IsFilling, IsIdle, IsOpen, IsWorld, Progress, RanAsNeeded, Stand, clock_at, fade_at, is_none, laned_at, rest_at, room_at}
 
--- at so many instants a node offers nothing, where it offered nothing at the one before them; or cells of its title
--- there that begin no track, and these are their samples
+-- the slots of a node at the `many` instants after one at which its slot was `first`: empty if that is empty, and
+-- otherwise cells of its title that begin no track, with these samples
 pub record IsStretchOf (slots : ℕ → Slot) (many : ℕ) (first : Slot) (left right : List ℤ) : Type 0 where
   pub given : is_some first ≡ true → IsLane slots many left right
   pub titled : is_some first ≡ true → AreTitled slots many (title_of first)
   pub silent : is_some first ≡ false → (j : ℕ) → j < many → slots j ≡ None
 
--- a clock has made so many instants more behind instant n, without a call, and no other clock of its rank or a lower
--- one has; and the nodes that it demands of themselves have left their samples
+-- a clock has made `many` instants more after instant n, without a call, and no other clock of its rank or a lower one
+-- has; the nodes that it demands of themselves have left their samples
 pub record HasMadeOn (setting : Setting) (sub : ℕ → ℕ → List Slot) (rank : NodeClock → ℕ) (own : List Bool)
     (clock : NodeClock) (n many : ℕ) (progress : Progress) (all : ClockStates) : Type 0 where
   pub now : Progress
@@ -44,7 +44,7 @@ pub record HasMadeOn (setting : Setting) (sub : ℕ → ℕ → List Slot) (rank
       (offer (moment_after setting sub clock (first_instants setting sub clock n)) i)
       (samples_of all.room.left.items i many) (samples_of all.room.right.items i many)
 
--- what a stretch of a clock asks of the states before it
+-- the states stand for the instants of a clock up to n, its latest one, and `many` instants can go on as that one did
 pub record CanGoOn (setting : Setting) (sub : ℕ → ℕ → List Slot) (rank : NodeClock → ℕ) (own : List Bool)
     (clock : NodeClock) (n many : ℕ) (progress : Progress) (all : ClockStates) : Type 0 where
   pub world : IsWorld setting sub rank own
@@ -54,8 +54,8 @@ pub record CanGoOn (setting : Setting) (sub : ℕ → ℕ → List Slot) (rank :
   pub goes : GoesOnFor setting sub clock (first_instants setting sub clock n) many progress.filled all.room.held.items
       all.states.items
 
--- a clock can make so many instants at once: these are states for the nodes of a plan, no instants are kept of the
--- clock, and a stretch has so many
+-- a clock can make `many` instants at once: there are states for the nodes of a plan, no instants of the clock are
+-- kept, and a stretch has room for so many
 pub record CanRunClock (over : Scene) (clock : NodeClock) (many : ℕ) (all : ClockStates) : Type 0 where
   pub scene : IsScene over
   pub clocks : AreClockStates over all
@@ -64,7 +64,7 @@ pub record CanRunClock (over : Scene) (clock : NodeClock) (many : ℕ) (all : Cl
   pub short : many ≤ 2048
   pub later : many ≤ over.plan.now.rate
 
--- so many instants of a clock were made, which go on as its latest one: whatever instants the states stood for
+-- `many` instants of a clock were made, which go on as its latest one: whatever instants the states stood for
 pub record ClockMade (scene : Scene) (clock : NodeClock) (many : ℕ) (old new : ClockStates) : Type 0 where
   pub run : (other : Setting) (sub : ℕ → ℕ → List Slot) (rank : NodeClock → ℕ) (progress : Progress)
       (own : List Bool) (n : ℕ) →
@@ -72,7 +72,8 @@ pub record ClockMade (scene : Scene) (clock : NodeClock) (many : ℕ) (old new :
       CanGoOn setting sub rank own clock n many progress old
       → HasMadeOn setting sub rank own clock n many progress new
 
--- so many instants were made behind the latest one, which was at this time
+-- `many` instants of a clock were made after its latest one, which was at this time: whatever instants the states stood
+-- for
 pub record StretchMade (scene : Scene) (clock : NodeClock) (time : WeekTime) (many : ℕ) (old new : ClockStates)
     : Type 0 where
   pub run : (other : Setting) (sub : ℕ → ℕ → List Slot) (rank : NodeClock → ℕ) (progress : Progress)
@@ -86,14 +87,14 @@ pub record StretchMade (scene : Scene) (clock : NodeClock) (time : WeekTime) (ma
       → TimeStands setting.start n time
       → HasMadeOn setting sub rank own clock n many progress new
 
--- crossfade k takes so many slots more, of those of a stretch
+-- crossfade k has room for the slots of a stretch of `many` instants of its sub-clock
 pub record CanFillLane (scene : Scene) (k many : ℕ) (all : ClockStates) : Type 0 where
   pub ready : CanRunClock scene (clock_at scene.clocks.now k) many all
   pub within : k < length scene.plan.now.nodes
   pub room : many ≤ room_at all.states.items k
 
--- behind an instant of its sub-clock, which was at this time, crossfade k was filled more slots, without a call:
--- whatever it was filled
+-- after an instant of its sub-clock at this time, crossfade k was given more slots without a call, whatever it was
+-- given before
 pub record FilledOn (scene : Scene) (k : ℕ) (time : WeekTime) (old new : ClockStates) : Type 0 where
   pub filled : (other : Setting) (sub : ℕ → ℕ → List Slot) (rank : NodeClock → ℕ) (progress : Progress)
       (more : List Call) (own : List Bool) (n : ℕ) →
@@ -106,7 +107,7 @@ pub record FilledOn (scene : Scene) (k : ℕ) (time : WeekTime) (old new : Clock
       → TimeStands setting.start n time
       → IsFilling setting sub rank k is_none progress more new
 
--- of the crossfades of a clock below this node, the sub-clocks of those through which cells pass have made so many
+-- of the crossfades of a clock below node `below`, the sub-clocks of those through which cells pass have made `many`
 -- instants more, without a call, and left the samples of the crossfades' children
 pub record SubsMade (setting : Setting) (sub : ℕ → ℕ → List Slot) (rank : NodeClock → ℕ) (clock : NodeClock) (many : ℕ)
     (through : ℕ → Bool) (below : ℕ) (progress : Progress) (all : ClockStates) : Type 0 where
@@ -137,7 +138,8 @@ pub record SubsMade (setting : Setting) (sub : ℕ → ℕ → List Slot) (rank 
   pub inside : (k : ℕ) → k < length setting.plan.nodes → clock_of setting k ≡ clock → k < below → through k ≡ true
       → clock_of setting (crossfaded setting.plan.nodes k) ≡ Sub k
 
--- the same for the sub-clocks below a node, whatever instants the states stood for
+-- of a clock's crossfades below node `below`, the sub-clocks of those through which cells pass at its latest instant
+-- have made `many` instants more: whatever instants the states stood for
 pub record SubClocksMade (scene : Scene) (clock : NodeClock) (many below : ℕ) (old new : ClockStates) : Type 0 where
   pub run : (other : Setting) (sub : ℕ → ℕ → List Slot) (rank : NodeClock → ℕ) (progress : Progress)
       (own : List Bool) (n : ℕ) →
@@ -147,7 +149,8 @@ pub record SubClocksMade (scene : Scene) (clock : NodeClock) (many below : ℕ) 
       (goes_through (moment_after setting sub clock (first_instants setting sub clock n)) old.states.items) below
       progress new
 
--- the same for the sub-clock of node i, if it is a crossfade through which cells pass, behind those below it
+-- if node i is a crossfade through which cells pass, its sub-clock has made `many` instants more, after those of the
+-- crossfades of its clock below it
 pub record SubClockMade (scene : Scene) (i many : ℕ) (old new : ClockStates) : Type 0 where
   pub step : (other : Setting) (sub : ℕ → ℕ → List Slot) (rank : NodeClock → ℕ) (progress : Progress)
       (own : List Bool) (through : ℕ → Bool) →
@@ -156,7 +159,7 @@ pub record SubClockMade (scene : Scene) (i many : ℕ) (old new : ClockStates) :
       → SubsMade setting sub rank (clock_at scene.clocks.now i) many through i progress old
       → SubsMade setting sub rank (clock_at scene.clocks.now i) many through (suc i) progress new
 
--- but for some nodes, those in clocks of this rank or a lower one have the samples that they had
+-- nodes in clocks of rank `level` or a lower one, but for those `touched`, keep their first `many` samples
 pub record AreSamplesLeft (clocks : List NodeClock) (rank : NodeClock → ℕ) (level : ℕ) (touched : ℕ → Type 0) (many : ℕ)
     (old new : ClockStates) : Type 0 where
   pub left : (i : ℕ) → (touched i → ⊥) → rank (clock_at clocks i) ≤ level
@@ -164,8 +167,8 @@ pub record AreSamplesLeft (clocks : List NodeClock) (rank : NodeClock → ℕ) (
   pub right : (i : ℕ) → (touched i → ⊥) → rank (clock_at clocks i) ≤ level
       → samples_of new.room.right.items i many ≡ samples_of old.room.right.items i many
 
--- nodes in clocks of this rank or a lower one have the states that they had, and what is kept of them; and but for some
--- nodes their sub-clocks have the times and the instants that are kept; and each node keeps its lanes
+-- nodes in clocks of rank `level` or a lower one keep their states and what they gave; but for those `touched`, their
+-- sub-clocks keep the times and the instants that are kept; and each node keeps its lanes
 pub record AreAbove (clocks : List NodeClock) (rank : NodeClock → ℕ) (level : ℕ) (touched : ℕ → Type 0)
     (old new : ClockStates) : Type 0 where
   pub states : (i : ℕ) → rank (clock_at clocks i) ≤ level → slice_get new.states.items i ≡ slice_get old.states.items i

@@ -17,11 +17,11 @@ use frame_core::Taps;
 use liq_base::Memory;
 use node_states::WeekTime;
 
-/// Makes one instant of a clock at a time: where it begins a tick its readers take, and then its crossfades run their
-/// sub-clocks until their items are settled, and no instant more. `own` tells of each node whether its own clock
+/// Makes one instant of a clock, at `time`. If it begins a tick, the clock's readers take. Then its crossfades run
+/// their sub-clocks until their items are settled, and no instant more. `own` says of each node whether its own clock
 /// demands it of itself, and `levels` bounds how deep sub-clocks nest below the clock. Whatever instants the states
-/// stood for, they stand for one more of this clock. Where memory is refused some of the calls of the instant were
-/// made, from the first on.
+/// stood for, they stand for one more of this clock. If memory is refused, some of the calls of the instant were made,
+/// from the first on.
 #[cycle(clocks)]
 pub fn make_instant<T: Taps>(
     scene: &Scene<'_>,
@@ -53,7 +53,8 @@ pub fn make_instant<T: Taps>(
     Ok(())
 }
 
-// Feeds node k, if it is a crossfade, until its item is settled.
+// Feeds node k, if it is a crossfade, until its item is settled. `levels` bounds how deep sub-clocks nest below its
+// clock.
 #[cycle(clocks)]
 fn settle<T: Taps>(
     scene: &Scene<'_>,
@@ -98,7 +99,7 @@ fn settle<T: Taps>(
     Ok(())
 }
 
-// Settles the items of all crossfades of a clock.
+// Settles the items of all crossfades of a clock. `levels` bounds how deep sub-clocks nest below it.
 #[cycle(clocks)]
 fn settle_all<T: Taps>(
     scene: &Scene<'_>,

@@ -31,7 +31,7 @@ use op_mix::MAX_STRETCH;
 use plan_core::Node;
 use stream_meaning::slot_of;
 
-/// The child of crossfade k.
+/// The child of crossfade k; 0 if there is none.
 pub fn child_of(nodes: &[Node], k: u32) -> u32
     ensures { result ≡ crossfaded nodes.now k }
 {
@@ -41,8 +41,8 @@ pub fn child_of(nodes: &[Node], k: u32) -> u32
     }
 }
 
-/// Feeds crossfade k, which wants it, the slot that its child has at the instant that its sub-clock made, and takes the
-/// time of the sub-clock on.
+/// Feeds crossfade k, which wants it, the slot that its child has at the latest instant of its sub-clock, and moves the
+/// sub-clock's time on by one instant.
 pub fn fill_child(scene: &Scene<'_>, clocks: &mut ClockStates, k: u32)
     requires clocks { AreClockStates scene.now clocks.old }
     requires within { k < length scene.now.plan.now.nodes }
@@ -71,10 +71,10 @@ pub fn fill_child(scene: &Scene<'_>, clocks: &mut ClockStates, k: u32)
     clocks.times[at] = clocks.times[at].next();
 }
 
-/// Feeds crossfade k the slots that its child has at the instants of its sub-clock which go on as the latest one did,
-/// where it wants them: so many are made, and no more. Where it wants none, it is kept how many go on. `time` is that
-/// of the latest instant, whose slot it was filled, and `levels` bounds how deep sub-clocks nest below the crossfade's
-/// clock.
+/// Feeds crossfade k further slots of its child, after the latest instant of its sub-clock, which was at `time` and
+/// whose slot it has. If instants follow that go on as that one did, and the crossfade has room, so many are made at
+/// once. Otherwise none is made, and it is kept how many go on. `levels` bounds how deep sub-clocks nest below the
+/// crossfade's clock.
 pub fn fill_on(scene: &Scene<'_>, clocks: &mut ClockStates, k: u32, time: WeekTime, levels: usize)
     requires ready { AreStatesAt scene.now time clocks.old }
     requires within { k < length scene.now.plan.now.nodes }
@@ -99,8 +99,8 @@ pub fn fill_on(scene: &Scene<'_>, clocks: &mut ClockStates, k: u32, time: WeekTi
     fill_lane(scene, clocks, k, many);
 }
 
-// How many instants of the sub-clock of crossfade k go on as its latest one did, at this time, if the child gave; no
-// more than the crossfade can use.
+// How many instants of the sub-clock of crossfade k go on as its latest one did, at `time`; no more than the crossfade
+// can use, and 0 if its child offered nothing there.
 fn goes_for(scene: &Scene<'_>, clocks: &ClockStates, k: u32, time: WeekTime) -> u32
     requires ready { AreStatesAt scene.now time clocks.now }
     requires within { k < length scene.now.plan.now.nodes }
@@ -125,8 +125,8 @@ fn goes_for(scene: &Scene<'_>, clocks: &ClockStates, k: u32, time: WeekTime) -> 
     rest_for(scene, clocks, NodeClock::Sub(k), time, most)
 }
 
-// How many of its sub-clock's instants that go on crossfade k can use at once, at most: as many as it takes where it
-// wants any, else those of a stretch through it.
+// How many instants of its sub-clock crossfade k can use at once, at most: as many as it has room for if it wants any,
+// and otherwise those of a stretch.
 fn most_used(clocks: &ClockStates, k: u32) -> u32
     requires within { k < length clocks.now.states.items }
     ensures some { 0 < result }
@@ -138,7 +138,8 @@ fn most_used(clocks: &ClockStates, k: u32) -> u32
     }
 }
 
-// How many of so many slots more crossfade k takes, and a stretch has at most.
+// How many of the next `rest` slots of its child crossfade k takes at once: no more than it has room for, and no more
+// than a stretch has.
 fn wanted(clocks: &ClockStates, k: u32, rest: u32) -> u32
     requires within { k < length clocks.now.states.items }
     ensures rest { result ≤ rest }
@@ -148,8 +149,8 @@ fn wanted(clocks: &ClockStates, k: u32, rest: u32) -> u32
     rest.min(clocks.states[k as usize].room()).min(MAX_STRETCH)
 }
 
-// Feeds crossfade k, which takes them, the samples of its child in the latest stretch, which had so many instants,
-// under its title at the latest instant, and takes the time of the sub-clock on.
+// Feeds crossfade k the samples of its child in the latest stretch, of `many` instants, as cells with the child's title
+// at the latest instant; and moves the sub-clock's time on by as many.
 fn fill_lane(scene: &Scene<'_>, clocks: &mut ClockStates, k: u32, many: u32)
     requires { CanFillLane scene.now k many clocks.old }
     ensures clocks { AreClockStates scene.now clocks.new }
@@ -184,7 +185,7 @@ fn fill_lane(scene: &Scene<'_>, clocks: &mut ClockStates, k: u32, many: u32)
     clocks.times[at] = clocks.times[at].later(many);
 }
 
-// Feeds a crossfade the samples of a node in the latest stretch, which had so many instants, as cells of this title.
+// Feeds a crossfade the samples of node `child` in the latest stretch, of `count` instants, as cells of this title.
 fn fill_samples(
     state: &mut NodeState,
     stretch_room: &StretchRoom,

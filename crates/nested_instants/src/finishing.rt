@@ -10,7 +10,9 @@ use clock_infer::NodeClock;
 use clock_nodes::Scene;
 use fixed_text::WeekSecond;
 
-/// Makes the parts of an instant of a clock whose crossfades are settled, and takes the states of its nodes on.
+/// Ends an instant of a clock, in second `at` of the week, once the items of the clock's crossfades are settled: it
+/// becomes the latest instant, and the nodes of the clock get their next states. `own` says of each node whether it is
+/// demanded of itself, that is, by an output, a feed or a crossfade.
 pub fn finish(
     scene: &Scene<'_>,
     own: &[bool],

@@ -16,7 +16,7 @@ use clock_instants::rest_of;
 use clock_nodes::Scene;
 use node_states::WeekTime;
 
-/// Keeps that so many instants of the sub-clock of crossfade k go on as its latest one.
+/// Keeps that `rest` instants of the sub-clock of crossfade k go on as its latest one did; 0 forgets them.
 pub fn keep(scene: &Scene<'_>, clocks: &mut ClockStates, k: u32, rest: u32)
     requires scene { IsScene scene.now }
     requires ranks { (rank : Clock → ℕ) × HasRanks scene.now.clocks.now rank }
@@ -41,7 +41,7 @@ pub fn keep(scene: &Scene<'_>, clocks: &mut ClockStates, k: u32, rest: u32)
     clocks.room.rests[k as usize] = rest;
 }
 
-/// How many instants of a clock, at most so many, go on as its latest one did, which was at this time.
+/// How many instants of a clock, at most `most`, go on as its latest one did, which was at `time`.
 pub fn rest_for(
     scene: &Scene<'_>,
     clocks: &ClockStates,
@@ -74,7 +74,7 @@ pub fn rest_for(
     )
 }
 
-/// Takes the time of the sub-clock of crossfade k on by so many instants.
+/// Moves the time of the sub-clock of crossfade k on by `many` instants.
 pub fn take_on(scene: &Scene<'_>, clocks: &mut ClockStates, k: u32, many: u32)
     requires clocks { AreClockStates scene.now clocks.old }
     requires within { k < length scene.now.plan.now.nodes }

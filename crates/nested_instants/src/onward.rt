@@ -18,9 +18,8 @@ use clock_infer::NodeClock;
 use clock_instants::run_nodes;
 use clock_nodes::Scene;
 
-/// Makes so many instants of a clock, which go on as its latest one did: first those of the sub-clocks of its
-/// crossfades through which cells pass, and then what its own nodes do. `levels` bounds how deep sub-clocks nest below
-/// the clock.
+/// Makes `many` instants of a clock, which go on as its latest one did: first those of the sub-clocks of its crossfades
+/// through which cells pass, and then what its own nodes do. `levels` bounds how deep sub-clocks nest below the clock.
 #[cycle(onward)]
 pub fn run_clock(
     scene: &Scene<'_>,
@@ -48,7 +47,7 @@ pub fn run_clock(
     run_own(scene, clocks, clock, many);
 }
 
-// Makes those of the sub-clocks of its crossfades through which cells pass.
+// Makes `many` instants of the sub-clock of each crossfade of a clock that gave and through which cells pass.
 #[cycle(onward)]
 fn run_subs(scene: &Scene<'_>, clocks: &mut ClockStates, clock: NodeClock, many: u32, levels: usize)
     requires ready { CanRunClock scene.now clock many clocks.old }
@@ -71,7 +70,8 @@ fn run_subs(scene: &Scene<'_>, clocks: &mut ClockStates, clock: NodeClock, many:
     }
 }
 
-// Makes those of the sub-clock of node i, if it is such a crossfade, and takes the sub-clock's time on.
+// Makes `many` instants of the sub-clock of node i, if that is a crossfade that gave and through which cells pass, and
+// moves the sub-clock's time on.
 #[cycle(onward)]
 fn run_sub(scene: &Scene<'_>, clocks: &mut ClockStates, i: u32, many: u32, levels: usize)
     requires ready { CanRunClock scene.now (slice_index_or scene.now.clocks.now i (NodeClock.Main 0)) many clocks.old }
@@ -112,7 +112,7 @@ fn passes_on(clocks: &ClockStates, i: u32) -> bool
     gave && through
 }
 
-// Makes what a clock's own nodes do at these instants.
+// Makes what a clock's own nodes do at `many` instants that go on as its latest one did.
 fn run_own(scene: &Scene<'_>, clocks: &mut ClockStates, clock: NodeClock, many: u32)
     requires ready { CanRunClock scene.now clock many clocks.old }
     requires ahead { AllLieAhead scene.now clock clocks.old.room.held.items clocks.old.states.items many }

@@ -13,7 +13,7 @@ use frame_core::Taps;
 use liq_base::Memory;
 use node_states::WeekTime;
 
-/// Lets the readers of a clock take, where its instant begins a tick.
+/// Lets the readers of a clock take, if its instant at `time` begins a tick.
 pub fn begin_clock<T: Taps>(
     scene: &Scene<'_>,
     clocks: &mut ClockStates,

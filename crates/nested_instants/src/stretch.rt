@@ -11,8 +11,8 @@ use clock_infer::NodeClock;
 use clock_nodes::Scene;
 use node_states::WeekTime;
 
-/// Makes instants of a clock that go on as its latest one did, which was at this time, at most so many, and answers how
-/// many. They make no calls on buffers. A node that its own clock demands of itself, and that offered a cell, has left
+/// Makes instants of a clock that go on as its latest one did, which was at `time`, and returns how many: `most` at
+/// most. They make no calls on buffers. A node that its own clock demands of itself, and that offered a cell, has left
 /// its samples in `clocks.room`; one that offered nothing offers nothing. `levels` bounds how deep sub-clocks nest
 /// below the clock.
 pub fn make_stretch(

@@ -44,7 +44,7 @@ fn main(rt: HostRuntime) -> io::Result<()> {
     tell(&rt, rt.alloc(), &NESTS)
 }
 
-// A line for each.
+// Prints a line for each: how many levels it has, how it begins, and whether its script is parsed.
 fn tell(rt: &impl Print, alloc: Global, nests: &[Nest]) -> io::Result<()> {
     for nest in nests {
         let text = written(alloc, nest)?;
@@ -54,7 +54,7 @@ fn tell(rt: &impl Print, alloc: Global, nests: &[Nest]) -> io::Result<()> {
     Ok(())
 }
 
-// The script that nests so.
+// The script of these parts, with all its levels.
 fn written(alloc: Global, nest: &Nest) -> Result<String, AllocError> {
     let (before, open, within, close, behind, levels) = *nest;
     let mut text = String::from_str(alloc, before)?;
@@ -69,7 +69,7 @@ fn written(alloc: Global, nest: &Nest) -> Result<String, AllocError> {
     Ok(text)
 }
 
-// Whether a script is parsed.
+// Whether a script is parsed, in a word.
 fn answer(alloc: Global, text: &[u8]) -> &'static str {
     match lex(alloc, text) {
         Ok(tokens) => match parse(alloc, text, &tokens) {

@@ -24,16 +24,17 @@ history_of setting sub clock past = record {
   past = past;
 }
 
--- the next instant
+-- what the nodes of the clock do at the instant after its past
 abbrev pub next_of : History → Moment
 next_of history = moment_after history.setting history.sub history.clock history.past
 
--- the state of node i stands for these instants and the next n
+-- the state of node i stands for the past and the next n instants; `filled` is how many slots of its child a crossfade
+-- was given, or how many instants a reader has begun
 abbrev pub StandsOn : History → (n filled i : ℕ) → Node → NodeState → Type 0
 StandsOn history n filled i node state = StateStands history.setting history.sub
     (going_on history.setting history.sub history.clock n history.past) filled i (work_at history.setting i node) state
 
--- over so many instants behind the next one, these are the samples of node i
+-- at the `many` instants after the next one, node i has these samples
 abbrev pub IsLaneOf : History → (i many : ℕ) → (left right : List ℤ) → Type 0
 IsLaneOf history i many left right = IsLane
     (λ j. lane history.setting history.sub history.clock history.past (suc j) i) many left right

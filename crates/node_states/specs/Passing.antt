@@ -23,23 +23,25 @@ passes (Cross state) = crossing_passes state
 passes (Read reader) = false
 passes Idle = false
 
--- how many slots more than it was filled item j of a run asks for: where cells pass one for each item, else none
+-- how many slots of its child a crossfade takes for the first items of a stretch, up to item j, counted from 0: one for
+-- each where cells pass, and otherwise none
 abbrev pub asked : (through : Bool) → (j : ℕ) → ℕ
 asked true j = suc j
 asked false j = 0
 
--- what node i gave at an instant
+-- the part of node i at an instant if it gave there, and otherwise silence
 abbrev pub given_part : Moment → ℕ → Part
 given_part moment i = if gives moment i then part_at moment.parts i else silent
 
--- behind the first n slots of a crossfade's child come the cells of this lane and of this title
+-- after the first n slots of a crossfade's child come `count` cells with this title and these samples
 pub record LaneFills (slots_of : ℕ → List Slot) (n count title : ℕ) (left right : List ℤ) : Type 0 where
   pub slots : ℕ → Slot
   pub lane : IsLane slots count left right
   pub titled : AreTitled slots count title
   pub filled : (m : ℕ) → m < count → slots_of (suc (n + m)) ≡ slots_of (n + m) ++ slots m ∷ []
 
--- they are the cells of the lane of its child
+-- after the first n slots of a crossfade's child come `count` cells with this title and the samples that the lanes have
+-- of that child
 pub record ChildFills (slots_of : ℕ
     → List Slot) (n count title : ℕ) (children : List ℕ) (lefts rights : Lanes) : Type 0 where
   pub child : ℕ

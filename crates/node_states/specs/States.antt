@@ -19,7 +19,7 @@ use Rattle.op_mix.specs.Mixings.{mixing_of}
 use Rattle.node_states.specs.declared.state.NodeState.{NodeState}
 use Rattle.node_states.specs.declared.state.NodeState.TheVariants.{Leaf, Select, Turn, Mix, Cross, Read, Idle}
 
--- a leaf gave so many cells
+-- the state is that of this leaf after it gave so many cells
 pub record LeafStands (library : Sounds) (leaf : TheLeaf) (given : ℕ) (state : LeafState) : Type 0 where
   pub plays : leaf_of state ≡ leaf
   pub stands : StandsAt library state given
@@ -29,30 +29,31 @@ pub record SelectStands (rule : Rule) (last : Option ℕ) (state : Selection) : 
   pub rule_is : state.rule ≡ rule
   pub last_is : state.last ≡ last
 
--- a node that chooses so is a selection that used this child when it last gave
+-- the choice is a selection's, whose state says which child it used when it last gave
 abbrev pub HasSelected : Choice → (last : Option ℕ) → Selection → Type 0
 HasSelected (Selects rule) last state = SelectStands rule last state
 HasSelected (TakesTurns turn) last state = ⊥
 
--- a node that chooses so takes turns: it used this child when it last gave, by so many choices
+-- the choice is by turns: its state stands for so many choices, and for the child that was used when the node last gave
 abbrev pub HasTurned : Choice → (last : Option ℕ) → (choices : ℕ) → Turning → Type 0
 HasTurned (Selects rule) last choices state = ⊥
 HasTurned (TakesTurns turn) last choices state = TurnStandsFor turn (record { last = last; choices = choices }) state
 
--- a crossfade was filled the first slots of its child, and no fewer of them settle item p
+-- a crossfade that was given the first `filled` slots of its child is at item p, which no fewer slots settle
 pub record CrossStands (slots : ℕ → List Slot) (filled p overlap : ℕ) (state : Crossing) : Type 0 where
   pub overlap_is : state.overlap ≡ overlap
   pub stands : StandsFor state (slots filled) p
   pub least : (m : ℕ) → m < filled → length (cross overlap (slots m)) ≤ p
 
--- a reader that has begun so many instants: before the takes of the instant after these, or behind them
+-- what the reader of a buffer has after this past: before the takes of the next instant, if it has begun no instant
+-- more than the past has, and otherwise after them
 abbrev pub reading_by : Setting → (i buffer : ℕ) → List Moment → (begun : ℕ) → Reading
 reading_by setting i buffer past begun =
     if nat_eq begun (length past) then reading_after setting i buffer past
     else reading_at setting buffer (length past) (reading_after setting i buffer past)
 
--- node i, which does this work, has the state that its past implies, where a crossfade was filled so many slots of its
--- child, and a reader has begun so many instants; an idle state stands for no past
+-- the state is the one that node i, which does this work, has after this past; `filled` is how many slots of its child
+-- a crossfade was given, or how many instants a reader has begun. An idle state stands for no past
 abbrev pub StateStands : Setting → (sub : ℕ → ℕ → List Slot) → List Moment → (filled i : ℕ) → Work → NodeState → Type 0
 StateStands setting sub past filled i (Plays leaf) (Leaf state) = LeafStands setting.library leaf (gives_before past i)
     state
@@ -67,7 +68,8 @@ StateStands setting sub past filled i (Reads buffer) (Read reader) = reader
     ≡ (reading_by setting i buffer past filled).reader
 StateStands setting sub past filled i work state = ⊥
 
--- the item of a crossfade with this past is settled by so many slots of its child; a reader has begun the next instant
+-- node i can make the instant after this past: the first `filled` slots of its child settle the item of a crossfade,
+-- and a reader has begun that instant; any other node always can
 abbrev pub IsSettled : (sub : ℕ → ℕ → List Slot) → List Moment → (filled i : ℕ) → Work → Type 0
 IsSettled sub past filled i (Plays leaf) = ⊤
 IsSettled sub past filled i (Picks choice eligible) = ⊤
@@ -75,7 +77,7 @@ IsSettled sub past filled i (Mixes mixing) = ⊤
 IsSettled sub past filled i (Fades overlap) = position past i < length (cross overlap (sub i filled))
 IsSettled sub past filled i (Reads buffer) = filled ≡ suc (length past)
 
--- it is the work of a crossfade whose item with this past asks for more slots than these
+-- the work is that of a crossfade whose item after this past needs more than the first `filled` slots of its child
 abbrev pub FadesOn : (sub : ℕ → ℕ → List Slot) → List Moment → (filled i : ℕ) → Work → Type 0
 FadesOn sub past filled i (Plays leaf) = ⊥
 FadesOn sub past filled i (Picks choice eligible) = ⊥
@@ -83,11 +85,11 @@ FadesOn sub past filled i (Mixes mixing) = ⊥
 FadesOn sub past filled i (Fades overlap) = filled < run_of overlap (sub i) (position past i)
 FadesOn sub past filled i (Reads buffer) = ⊥
 
--- m slots are a list of m, for each crossfade
+-- the first m slots of each crossfade's child are a list of m
 pub record AreLong (sub : ℕ → ℕ → List Slot) : Type 0 where
   pub each : (k m : ℕ) → length (sub k m) ≡ m
 
--- the state is one of these audio files, and of so many children
+-- the state is one of a node with so many children, in a plan with these audio files
 abbrev pub Fits : Sounds → (children : ℕ) → NodeState → Type 0
 Fits library children (Leaf state) = IsPlacedIn library state
 Fits library children (Select state) = state.children ≡ children
@@ -97,7 +99,7 @@ Fits library children (Cross state) = ⊤
 Fits library children (Read reader) = ⊤
 Fits library children Idle = ⊤
 
--- it is a crossfade, and its item is not settled
+-- whether it is a crossfade whose item is not settled
 abbrev pub wants : NodeState → Bool
 wants (Leaf state) = false
 wants (Select state) = false
@@ -107,7 +109,7 @@ wants (Cross state) = crossing_wants state
 wants (Read reader) = false
 wants Idle = false
 
--- a bound on the slots that it asks for before its item is settled
+-- a bound on how many slots of its child a crossfade takes before its item is settled; 0 for other nodes
 abbrev pub left : NodeState → ℕ
 left (Leaf state) = 0
 left (Select state) = 0
@@ -117,7 +119,7 @@ left (Cross state) = crossing_left state
 left (Read reader) = 0
 left Idle = 0
 
--- how many cells of a track that goes on a crossfade still takes for its item; 0 where it wants none
+-- how many cells of its child's running track settle a crossfade's item; 0 if it is settled, and for other nodes
 abbrev pub room : NodeState → ℕ
 room (Leaf state) = 0
 room (Select state) = 0
@@ -135,6 +137,7 @@ reads (Mixes mixing) = false
 reads (Fades overlap) = false
 reads (Reads buffer) = true
 
+-- whether node i reads a buffer, if there is such a node
 abbrev pub reads_in : Setting → ℕ → Option Node → Bool
 reads_in setting i None = false
 reads_in setting i (Some node) = reads (work_at setting i node)

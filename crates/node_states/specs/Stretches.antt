@@ -1,25 +1,27 @@
 -- A run: instants that go on as the one before them, all at once.
-use Rattle.std.specs.Prelude.{◌≡◌, ⊤, ◌<◌, ◌≤◌, ◌+◌, Bool, true, false, Option, ℕ, suc, length, nat_eq, if◌then◌else◌}
+use Rattle.std.specs.Prelude.{◌≡◌, ⊤, ◌<◌, ◌≤◌, ◌+◌, ◌∷◌, Bool, true, false, Option, ℕ, suc, List, length, nat_eq, if◌then◌else◌}
 use Rattle.std.specs.List.{list_any}
 use Rattle.plan_core.specs.declared.node.Node.{Node}
 use Rattle.plan_core.specs.Plans.{AreNodes}
 use Rattle.frame_core.specs.Library.{Sounds}
-use Rattle.frame_core.specs.Slots.{is_inner}
+use Rattle.frame_core.specs.Slots.{Slot, is_inner}
 use Rattle.op_cross.specs.States.{passes as crossing_passes, ready_stretch}
 use Rattle.op_leaf.specs.Inner.{LiesAhead as LeafLiesAhead}
 use Rattle.op_leaf.specs.Readers.{read_by, reader_slot}
-use Rattle.stream_meaning.specs.Instants.{gives, part_at, work_at}
-use Rattle.stretch_laws.specs.Stretches.{IsNode, IsStretch}
+use Rattle.stream_meaning.specs.declared.part.Part.{Part}
+use Rattle.stream_meaning.specs.Instants.{Moment, Setting, gives, part_at, work_at}
+use Rattle.stream_meaning.specs.Operators.{Reads, Work}
+use Rattle.stretch_laws.specs.Stretches.{AreFilled, IsNode, IsStretch}
 use Rattle.op_mix.specs.declared.before.Before.{Before}
 use Rattle.op_mix.specs.Stretches.{samples_of}
 use Rattle.node_states.specs.declared.state.NodeState.{NodeState}
 use Rattle.node_states.specs.declared.state.NodeState.TheVariants.{Leaf, Select, Turn, Mix, Cross, Read, Idle}
 use Rattle.node_states.specs.Passing.{ChildFills, given_part, passes}
 use Rattle.node_states.specs.Histories.{History, IsLaneOf, StandsOn, next_of}
-use Rattle.node_states.specs.States.{AreLong, reads}
+use Rattle.node_states.specs.States.{AreLong, StateStands, reads}
 
--- so many of its next cells or items are there, and none of them begins a track: what a run asks of a node that gives;
--- a crossfade through which cells pass is given them
+-- the next `count` cells or items of a node that gives are there, and none of them begins a track; a crossfade through
+-- which cells pass gets them from its child
 abbrev pub LiesAhead : Sounds → NodeState → (count : ℕ) → Type 0
 LiesAhead library (Leaf state) count = 0 < count → LeafLiesAhead library state count
 LiesAhead library (Select state) count = ⊤
@@ -37,12 +39,13 @@ pub record GoesOn (history : History) (many i : ℕ) (node : Node) : Type 0 wher
   pub is : IsNode history.setting history.clock i node
   pub gave : gives (next_of history) i ≡ true
 
--- what a node has begun or was filled, where a reader has begun so many instants more
+-- `filled` after `many` instants more: for a reader, and for a crossfade through which cells pass, as many more; for
+-- any other node as before
 abbrev pub filled_on : Bool → (many filled : ℕ) → ℕ
 filled_on reading many filled = if reading then filled + many else filled
 
--- node i has this state, gives at the next instant, and so many go on as that one: what the state stands for, and how
--- far a reader has begun; where cells pass through it come those of its child, of the title `below`
+-- node i gives at the next instant, for which its state stands too, and `many` instants go on as that one. A reader has
+-- begun that instant; a crossfade through which cells pass gets those of its child, with the title `below`
 pub record GivesOn (history : History) (many filled i : ℕ) (node : Node) (sounds : Sounds) (below : ℕ) (before : Before)
     (state : NodeState) : Type 0 where
   pub library : history.setting.library ≡ sounds
@@ -52,8 +55,8 @@ pub record GivesOn (history : History) (many filled i : ℕ) (node : Node) (soun
       → ChildFills (history.sub i) filled many below node.children before.left.now before.right.now
   pub stands : StandsOn history 1 filled i node state
 
--- what the children of node i gave at the next instant, which of them it used there, and the samples of those that
--- gave, over so many instants that go on as that one
+-- `before` has what the children of node i gave at the next instant, and the samples of those that gave over the `many`
+-- instants that go on as that one; `pick` is the place of the child that node i used there
 pub record ChildrenGive (history : History) (many i : ℕ) (node : Node) (pick : Option ℕ)
     (before : Before) : Type 0 where
   pub given : (c : ℕ) → list_any (nat_eq c) node.children ≡ true
@@ -61,3 +64,30 @@ pub record ChildrenGive (history : History) (many i : ℕ) (node : Node) (pick :
   pub used : pick ≡ (part_at (next_of history).parts i).pick
   pub lanes : (c : ℕ) → list_any (nat_eq c) node.children ≡ true → gives (next_of history) c ≡ true
       → IsLaneOf history c many (samples_of before.left.now c many) (samples_of before.right.now c many)
+
+-- an instant of a clock behind those before it, with the slots of the sub-clocks; of a node i, how many slots it was
+-- filled, or how many instants it has begun as a reader
+pub record Latest : Type 0 where
+  pub setting : Setting
+  pub sub : ℕ → ℕ → List Slot
+  pub past : List Moment
+  pub moment : Moment
+  pub filled : ℕ
+  pub i : ℕ
+
+-- The state of node i stands for that instant too, at which it gave or did not. Where cells pass through it, its child
+-- has so many slots more, of this title.
+pub record HasStood (latest : Latest) (work : Work) (gave : Bool) (below title : ℕ) (state : NodeState) : Type 0 where
+  pub long : AreLong latest.sub
+  pub stands : StateStands latest.setting latest.sub (latest.moment ∷ latest.past) latest.filled latest.i work state
+  pub gave_is : gives latest.moment latest.i ≡ gave
+  pub fills : gave ≡ true → passes state ≡ true
+      → AreFilled latest.setting latest.sub latest.i latest.filled below title
+
+-- over these audio files, and it had this part there; a reader has begun the next instant
+pub record HasRested (latest : Latest) (work : Work) (sounds : Sounds) (part : Part) (gave : Bool) (below title : ℕ)
+    (state : NodeState) : Type 0 where
+  pub library : latest.setting.library ≡ sounds
+  pub begun : (buffer : ℕ) → work ≡ Reads buffer → latest.filled ≡ suc (length latest.past)
+  pub part_is : part_at latest.moment.parts latest.i ≡ part
+  pub stood : HasStood latest work gave below title state

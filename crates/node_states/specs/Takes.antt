@@ -8,7 +8,7 @@ use Rattle.stream_meaning.specs.Instants.{Setting, Moment, next_answers, reading
 use Rattle.node_states.specs.declared.state.NodeState.{NodeState}
 use Rattle.node_states.specs.States.{StateStands, reading_by}
 
--- the first takes of a reader, which holds this by now
+-- by the first takes of a tick a reader came from `before` to `now`, whatever answers follow
 pub record IsTaking {T : Type 0} (stands : T → List Call
     → Type 0) (buffer : ℕ) (before now : Reader) (taps_old taps_new : T) : Type 0 where
   pub more : List Answer
@@ -16,7 +16,7 @@ pub record IsTaking {T : Type 0} (stands : T → List Call
   pub takes : (rest : List Answer) → reader_takes (more ++ rest) before ≡ more ++ reader_takes rest now
   pub holds : (rest : List Answer) → after_takes (more ++ rest) before ≡ after_takes rest now
 
--- all takes of a reader, which holds this by now and has not begun
+-- by all takes of a tick a reader came from `before` to `now`; it has not begun the tick yet
 pub record HasHeld {T : Type 0} (stands : T → List Call
     → Type 0) (buffer : ℕ) (before now : Reader) (taps_old taps_new : T) : Type 0 where
   pub more : List Answer
@@ -24,7 +24,7 @@ pub record HasHeld {T : Type 0} (stands : T → List Call
   pub takes : (rest : List Answer) → reader_takes (more ++ rest) before ≡ more
   pub holds : (rest : List Answer) → after_takes (more ++ rest) before ≡ now
 
--- all takes of a reader, and then it began
+-- a reader made all takes of a tick and then began it: so it came from `before` to `now`
 pub record HasTaken {T : Type 0} (stands : T → List Call
     → Type 0) (buffer : ℕ) (before now : Reader) (taps_old taps_new : T) : Type 0 where
   pub more : List Answer
@@ -32,14 +32,15 @@ pub record HasTaken {T : Type 0} (stands : T → List Call
   pub takes : (rest : List Answer) → reader_takes (more ++ rest) before ≡ more
   pub begun : (rest : List Answer) → at_start (more ++ rest) before ≡ now
 
--- some of the takes of a reader, from the first on
+-- a reader made some of the takes of a tick, from the first on
 pub record IsTaken {T : Type 0} (stands : T → List Call
     → Type 0) (buffer : ℕ) (before : Reader) (taps_old taps_new : T) : Type 0 where
   pub more : List Answer
   pub taps : Adds stands taps_old taps_new (map (Took buffer) more)
   pub begins : (rest : List Answer) → (left : List Answer) × (reader_takes (more ++ rest) before ≡ more ++ left)
 
--- what node i, which reads this buffer, has of an instant that begins a tick
+-- node i, which reads this buffer, has begun the tick after this past: it took the answers `more`, after those of
+-- `front`
 pub record HasBegunAt (setting : Setting) (sub : ℕ → ℕ
     → List Slot) (past : List Moment) (i buffer : ℕ) (front more : List Answer) (state : NodeState) : Type 0 where
   pub stands : StateStands setting sub past (suc (length past)) i (Reads buffer) state
@@ -47,8 +48,8 @@ pub record HasBegunAt (setting : Setting) (sub : ℕ → ℕ
       (reading_after setting i buffer past).reader ≡ more
   pub taken : (reading_by setting i buffer past (suc (length past))).taken ≡ length (front ++ more)
 
--- a reader that stood for instants after which a tick begins, and had taken the answers `front`, has taken the next
--- ones
+-- a reader has begun a tick: whatever instants its state stood for, by which it had taken the answers `front`, it has
+-- taken the next ones
 pub record HasBegun {T : Type 0} (stands : T → List Call
     → Type 0) (buffer : ℕ) (before now : NodeState) (taps_old taps_new : T) : Type 0 where
   pub more : List Answer
@@ -59,7 +60,7 @@ pub record HasBegun {T : Type 0} (stands : T → List Call
       → setting.answers buffer ≡ (front ++ more) ++ rest → (reading_after setting i buffer past).taken ≡ length front
       → HasBegunAt setting sub past i buffer front more now
 
--- some of these takes, from the first on
+-- a reader has made some of the takes of a tick, from the first on, whatever instants its state stood for
 pub record HasTakenSome {T : Type 0} (stands : T → List Call
     → Type 0) (buffer : ℕ) (before : NodeState) (taps_old taps_new : T) : Type 0 where
   pub more : List Answer

@@ -8,7 +8,7 @@ use Rattle.stream_meaning.specs.Instants.{Setting, Moment, clock_of, first_insta
 use Rattle.stream_meaning.specs.Sinks.{tick_bytes, ticks_bytes, IsOutput}
 use Rattle.stream_meaning.specs.Calls.{IsBegin, calls_of_tick, after_calls}
 
--- the instants that node i's clock has made
+-- the instants that the clock of node i has made, where `ran` says how many each clock made
 abbrev pub past_of : Setting → (sub : ℕ → ℕ → List Slot) → (ran : NodeClock → ℕ) → ℕ → List Moment
 past_of setting sub ran i = first_instants setting sub (clock_of setting i) (ran (clock_of setting i))
 
@@ -24,7 +24,7 @@ pub record HasTicked (stands : ℕ → (ℕ → List Answer) → Type 0) (settin
   pub grew : (rest : ℕ → List Answer) (sink node : ℕ) (output : IsOutput setting m sink node)
       → now sink ≡ grown (tick_bytes (with_rest setting (after_calls answers more) rest) output.wide node t) (held sink)
 
--- after a fault in tick t, before which these calls were made: they are the first ones of the tick's
+-- after a fault in tick t: the calls made in it are the first ones of the tick's, whatever answers follow
 pub record HasStopped (setting : Setting) (m t : ℕ) (answers : ℕ → List Answer) (made : List Call) (held now : ℕ
     → Option (List ℕ)) : Type 0 where
   pub accepted : ℕ → Bool

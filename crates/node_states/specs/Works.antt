@@ -5,6 +5,7 @@ use Rattle.op_mix.specs.Mixings.{mixing_of}
 use Rattle.node_states.specs.declared.task.Task.{Task}
 use Rattle.node_states.specs.declared.task.Task.TheVariants as task
 
+-- the code's task is this work of a node
 abbrev pub IsTask : Task → Work → Type 0
 IsTask (task.Play one) (Plays leaf) = one ≡ leaf
 IsTask (task.Pick one) (Picks (Selects rule) eligible) = one ≡ rule

@@ -33,7 +33,7 @@ impl Model for Desk {
 }
 
 impl Desk {
-    /// Room for so many children. No later call takes memory.
+    /// Room for `children` children. No later call takes memory.
     pub fn new(alloc: Global, children: usize) -> Result<Desk, Memory>
         ensures { IfOk result (λ desk. desk ≡ children) }
     {
@@ -42,7 +42,8 @@ impl Desk {
         Ok(Desk { slots, marks })
     }
 
-    /// What a node offers and uses over the parts of the nodes before it, at an instant whose second is this.
+    /// What a node offers at an instant in second `at` of the week, and if it chooses, which child it uses. `parts` are
+    /// those of the nodes before it.
     pub fn offer(
         &mut self,
         state: &NodeState,
@@ -74,7 +75,8 @@ impl Desk {
     }
 }
 
-// The same over room for slots and marks.
+// What a node offers and which child it uses, by the parts of the nodes before it. `slots` and `marks` are room for its
+// children; their content does not matter.
 fn offer_over(
     state: &NodeState,
     node: &Node,
@@ -102,7 +104,7 @@ fn offer_over(
     state.offer(node, slots, marks, library, at)
 }
 
-// Lays the slots of these nodes side by side; one that is not there offers nothing.
+// Copies the slots of a node's children from the parts of all nodes; a child without a part has an empty slot.
 fn gather(parts: &[Part], children: &[u32], slots: &mut [Option<Cell>])
     requires { length slots.old ≡ length children.now }
     ensures { slots.new ≡ slots_at parts.now children.now }

@@ -13,7 +13,7 @@ use crate::NodeState;
 use op_cross::CrossState;
 
 impl NodeState {
-    /// How many cells of a track that goes on it still takes: as many settle its item, where it is a crossfade.
+    /// How many cells of its child's running track settle a crossfade's item; 0 if it is settled, and for other nodes.
     pub fn room(&self) -> u32
         ensures { result ≡ room self.now }
     {
@@ -33,7 +33,8 @@ impl NodeState {
         }
     }
 
-    /// Takes the next slots of a crossfade's child, which are cells of this title and of a track that goes on.
+    /// Gives a crossfade the next slots of its child: cells with these samples and this title, which go on with its
+    /// track.
     pub fn fill_stretch(&mut self, title: u32, lefts: &[i16], rights: &[i16])
         requires same { length rights.now ≡ length lefts.now }
         requires few { length lefts.now ≤ room self.old }

@@ -27,7 +27,7 @@ pub fn mark_eligible(op: &Op, at: WeekSecond, marks: &mut [bool])
     }
 }
 
-// Tests each predicate.
+// Marks each child whose predicate holds at this second of the week.
 fn test_all(preds: &[SharedPred], at: WeekSecond, marks: &mut [bool])
     requires { length marks.old ≡ length preds.now }
     ensures { marks.new ≡ map (λ pred. holds (view_shared pred) at.second) preds.now }
@@ -52,7 +52,7 @@ pub fn steady_seconds(op: &Op, at: WeekSecond) -> u32
     }
 }
 
-// For how many seconds each predicate stays.
+// For how many seconds, at most a week, every predicate stays as it is at this second.
 fn least_steady(preds: &[SharedPred], at: WeekSecond) -> u32
     ensures some { 0 < result }
     ensures most { result ≤ 604800 }

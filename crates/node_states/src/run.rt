@@ -15,10 +15,10 @@ use op_mix::{Before, Sums, samples_of};
 use plan_core::Node;
 
 impl NodeState {
-    /// Makes as many instants as the slices are long of a node that gave at the latest one, with which they go on: its
-    /// samples are laid, over what the nodes before it gave, and its state goes on behind them. `pick` is the child
-    /// that it used at the latest instant; through a crossfade that passes go the samples of its child, whose cells
-    /// have the title `below`. It takes no memory.
+    /// Makes as many instants as `left` and `right` are long, of a node that gave at the latest one and goes on as
+    /// there. Writes its samples to `left` and `right`, by those of the nodes `before` it, and moves its state on.
+    /// `pick` is the place of the child that it used at the latest instant. Where cells pass through a crossfade, those
+    /// of its child have the title `below`. `sums` is room. No memory is taken.
     pub fn run(
         &mut self,
         node: &Node,
@@ -72,7 +72,7 @@ impl NodeState {
     }
 }
 
-// Lays the samples of the child that a node used; nothing where it used none.
+// Copies the samples of the child that a node used, at place `pick` among its children; without one nothing is written.
 fn copy_picked(
     children: &[u32],
     pick: Option<u32>,

@@ -7,11 +7,11 @@ ghost use Rattle.op_cross.specs.Runs.{run_of};
 ghost use Rattle.plan_core.specs.Plans.{HasChildren, IsInRange};
 ghost use Rattle.op_select.specs.declared.rule.Rule.{Rule as TheRule};
 ghost use Rattle.stream_meaning.specs.Operators.{Work, Eligible, Fades, Picks, Reads, Selects};
-ghost use Rattle.stretch_laws.specs.Stretches.{AreFilled, NodeGoes, NodeKeeps};
+ghost use Rattle.stretch_laws.specs.Stretches.{NodeGoes, NodeKeeps};
 ghost use Rattle.stream_meaning.specs.Instants.{Setting, Moment, demanded, gives, last_pick, part_at, part_by};
 ghost use Rattle.stream_meaning.specs.Instants.{position, second_at, work_at};
 ghost use Rattle.node_states.specs.Passing.{asked, passes};
-ghost use Rattle.node_states.specs.Stretches.{LiesAhead};
+ghost use Rattle.node_states.specs.Stretches.{HasRested, HasStood, Latest, LiesAhead};
 ghost use Rattle.node_states.specs.States.{AreLong, FadesOn, Fits, IsSettled, left, StateStands, wants};
 
 use crate::marks::mark_eligible;
@@ -54,7 +54,7 @@ pub enum NodeState {
     /// The reader of a buffer.
     Read(ReaderState),
 
-    /// A node of which no instant is made where the state stands: it keeps nothing.
+    /// A node of a clock that the engine does not drive: nothing is kept.
     Idle,
 }
 
@@ -93,7 +93,7 @@ impl NodeState {
         }
     }
 
-    /// Whether it is a crossfade whose item is not settled: it wants the next slot of its child.
+    /// Whether it is a crossfade that needs the next slot of its child, since its item is not settled yet.
     pub fn wants(&self) -> bool
         ensures wants { result ≡ wants self.now }
         ensures ends { result ≡ true → 0 < left self.now }
@@ -115,7 +115,7 @@ impl NodeState {
         }
     }
 
-    /// Takes the next slot of a crossfade's child.
+    /// Gives a crossfade the next slot of its child.
     pub fn feed(&mut self, slot: Option<Cell>)
         requires { wants self.old ≡ true }
         ensures fits { (library : Sounds) (children : ℕ) → Fits library children self.old
@@ -133,8 +133,8 @@ impl NodeState {
         }
     }
 
-    /// What the node offers over the slots of its children, at an instant whose second is this, and which child it
-    /// uses, where it chooses. `marks` is room for a mark a child; what stands there does not matter.
+    /// What the node offers at an instant in second `at` of the week, by the slots of its children; and if it chooses,
+    /// which child it uses. `marks` is room for one mark per child; its content does not matter.
     pub fn offer(
         &self,
         node: &Node,
@@ -168,7 +168,8 @@ impl NodeState {
         }
     }
 
-    /// The child that a selection used when it last gave.
+    /// The child that a selection used when it last gave, as its place among the children; `None` if it never gave, and
+    /// for every other node.
     pub fn last(&self) -> Option<u32>
         ensures { (setting : Setting) (sub : ℕ → ℕ
             → List TheSlot) (past : List Moment) (filled i : ℕ) (rule : TheRule) (eligible : Eligible)
@@ -181,10 +182,11 @@ impl NodeState {
         }
     }
 
-    /// How many instants, at most so many, go on behind one at which the node had this part and gave, or did not, as
-    /// far as it goes; a reader within its tick. `begins` tells whether the child that a selection used last begins a
-    /// track there, and `below` how many instants of a crossfade's sub-clock go on with a track, under the title
-    /// `below_title`. Where cells pass, each of its items asks for one of these, and else for none.
+    /// How many instants, at most `most`, go on as the latest one did, as far as this node alone decides; a reader goes
+    /// on within its tick. At the latest instant it had this part, and gave if `gave` is set. `begins` says whether the
+    /// child that a selection used last begins a track there. `below` is how many instants of a crossfade's sub-clock
+    /// go on with a track, under the title `below_title`: where cells pass, each item asks for one of these, and
+    /// otherwise for none.
     pub fn rest(
         &self,
         part: Part,
@@ -199,28 +201,16 @@ impl NodeState {
         ensures within { result ≤ most }
         ensures ahead { gave ≡ true → LiesAhead library.now self.now result }
         ensures through { gave ≡ true → passes self.now ≡ true → result ≤ below }
-        ensures goes { (setting : Setting) (sub : ℕ → ℕ
-            → List TheSlot) (past : List Moment) (moment : Moment) (filled i : ℕ) (work : Work)
-            → setting.library ≡ library.now → AreLong sub
-            → StateStands setting sub (moment ∷ past) filled i work self.now
-            → ((buffer : ℕ) → work ≡ Reads buffer → filled ≡ suc (length past))
-            → part_at moment.parts i ≡ part → gives moment i ≡ gave
-            → (gave ≡ true → passes self.now ≡ true → AreFilled setting sub i filled below below_title)
-            → NodeGoes setting sub past moment i work begins result }
-        ensures keeps { (setting : Setting) (sub : ℕ → ℕ
-            → List TheSlot) (past : List Moment) (moment : Moment) (filled i : ℕ) (work : Work)
-            → setting.library ≡ library.now → AreLong sub
-            → StateStands setting sub (moment ∷ past) filled i work self.now
-            → ((buffer : ℕ) → work ≡ Reads buffer → filled ≡ suc (length past))
-            → part_at moment.parts i ≡ part → gives moment i ≡ gave
-            → (gave ≡ true → passes self.now ≡ true → AreFilled setting sub i filled below below_title)
-            → NodeKeeps setting sub past moment i work result }
-        ensures asks { (setting : Setting) (sub : ℕ → ℕ
-            → List TheSlot) (past : List Moment) (moment : Moment) (filled i overlap j : ℕ)
-            → AreLong sub → StateStands setting sub (moment ∷ past) filled i (Fades overlap) self.now
-            → gives moment i ≡ gave → gave ≡ true → (passes self.now ≡ true
-            → AreFilled setting sub i filled below below_title) → j < result
-            → run_of overlap (sub i) (suc (position past i) + j) ≡ filled + asked (passes self.now) j }
+        ensures goes { (latest : Latest) (work : Work)
+            → HasRested latest work library.now part gave below below_title self.now
+            → NodeGoes latest.setting latest.sub latest.past latest.moment latest.i work begins result }
+        ensures keeps { (latest : Latest) (work : Work)
+            → HasRested latest work library.now part gave below below_title self.now
+            → NodeKeeps latest.setting latest.sub latest.past latest.moment latest.i work result }
+        ensures asks { (latest : Latest) (overlap j : ℕ)
+            → HasStood latest (Fades overlap) gave below below_title self.now → gave ≡ true → j < result
+            → run_of overlap (latest.sub latest.i) (suc (position latest.past latest.i) + j)
+            ≡ latest.filled + asked (passes self.now) j }
     {
         match self {
             NodeState::Leaf(state) => {
@@ -259,7 +249,8 @@ impl NodeState {
         }
     }
 
-    /// Goes on by an instant at which the node had this part and was demanded, or not.
+    /// Goes on by one instant, at which the node had this part; `is_demanded` says whether it was demanded there, and
+    /// `children` how many children it has.
     pub fn next(&mut self, part: Part, is_demanded: bool, library: &Library, children: usize)
         requires fits { Fits library.now children self.old }
         ensures fits { Fits library.now children self.new }

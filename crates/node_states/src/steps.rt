@@ -21,14 +21,14 @@ use op_select::{Picked, SelectState};
 use op_turn::TurnState;
 use stream_meaning::Part;
 
-/// The part of a node that does not choose.
+/// The part of a node that has this slot and does not choose a child.
 pub fn unpicked(slot: Option<Cell>) -> Part
     ensures { result ≡ unpicked slot }
 {
     Part { slot, pick: None }
 }
 
-/// The part of a node that chooses.
+/// The part of a node that chooses: the cell and the place of the child that it picked, or nothing.
 pub fn picked(picked: Option<Picked>) -> Part
     ensures { result ≡ picked_part picked }
 {
@@ -51,7 +51,7 @@ pub fn gives(part: Part, demanded: bool) -> bool
     demanded && part.slot.is_some()
 }
 
-/// The item of a crossfade, where it is settled.
+/// The item of a crossfade; `None` if it is not settled, or is an empty slot.
 pub fn item(state: &CrossState) -> Option<Cell>
     ensures { (slots : List Slot) (p : ℕ) → StandsFor state.now slots p → p < length (cross state.now.overlap slots)
         → result ≡ slot_at (cross state.now.overlap slots) p }
@@ -62,7 +62,7 @@ pub fn item(state: &CrossState) -> Option<Cell>
     state.offer()
 }
 
-/// Takes a leaf on by its cell, where it gave.
+/// Moves a leaf on by one cell, if it gave.
 pub fn step_leaf(state: &mut LeafState, gave: bool, library: &Library)
     requires { IsPlacedIn library.now state.old }
     ensures placed { IsPlacedIn library.now state.new }
@@ -75,7 +75,7 @@ pub fn step_leaf(state: &mut LeafState, gave: bool, library: &Library)
     }
 }
 
-/// Keeps the child that a selection used, where it gave.
+/// If a selection gave, keeps which child it used: `pick` is the child's place, and `children` how many there are.
 pub fn step_selection(state: &mut SelectState, gave: bool, pick: Option<u32>, children: usize)
     requires { state.old.children ≡ children }
     ensures children { state.new.children ≡ state.old.children }
@@ -91,7 +91,7 @@ pub fn step_selection(state: &mut SelectState, gave: bool, pick: Option<u32>, ch
     }
 }
 
-/// Takes a rotate or a random on by what it gave, where it gave.
+/// If a rotate or a random gave, moves it on by the cell and the child of its part; `children` says how many it has.
 pub fn step_turn(state: &mut TurnState, gave: bool, part: Part, children: usize)
     requires { state.old.children ≡ children }
     ensures children { state.new.children ≡ state.old.children }
@@ -110,7 +110,7 @@ pub fn step_turn(state: &mut TurnState, gave: bool, part: Part, children: usize)
     }
 }
 
-/// Takes a crossfade whose item is settled to the next one, where it gave, and where the item is empty.
+/// Moves a crossfade whose item is settled to the next item, if it gave or the item is an empty slot.
 pub fn step_crossfade(state: &mut CrossState, gave: bool)
     ensures overlap { state.new.overlap ≡ state.old.overlap }
     ensures stands { (slots : List Slot) (p : ℕ) → StandsFor state.old slots p
@@ -122,7 +122,7 @@ pub fn step_crossfade(state: &mut CrossState, gave: bool)
     }
 }
 
-/// Takes a reader on by the cell that it offers, where it gave.
+/// Moves a reader on by one cell, if it gave.
 pub fn step_reader(state: &mut ReaderState, gave: bool)
     ensures { state.new ≡ (if gave then after_cell state.old else state.old) }
 {

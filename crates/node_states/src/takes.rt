@@ -10,8 +10,8 @@ use liq_base::Memory;
 use op_leaf::ReaderState;
 
 impl NodeState {
-    /// Takes what a reader takes at the start of a tick, and begins. Where memory is refused some of these takes were
-    /// made.
+    /// At the start of a tick, a reader takes chunks from its buffer and begins the tick; other nodes do nothing. If
+    /// memory is refused, some of these takes were made.
     pub fn take<T: Taps>(&mut self, buffer: u32, taps: &mut T) -> Result<(), Memory>
         requires { buffer < T.buffers taps.old }
         ensures buffers { T.buffers taps.new ≡ T.buffers taps.old }
@@ -36,7 +36,7 @@ impl NodeState {
     }
 }
 
-// The takes, and then the reader begins.
+// Takes what the reader takes at the start of a tick, and then begins the tick.
 fn take_all<T: Taps>(reader: &mut ReaderState, buffer: u32, taps: &mut T) -> Result<(), Memory>
     requires { buffer < T.buffers taps.old }
     ensures buffers { T.buffers taps.new ≡ T.buffers taps.old }
@@ -49,7 +49,7 @@ fn take_all<T: Taps>(reader: &mut ReaderState, buffer: u32, taps: &mut T) -> Res
     Ok(())
 }
 
-// Takes while the reader wants a chunk, up to and with the first empty answer.
+// Takes chunks while the reader wants one, until the buffer is found empty.
 fn take_chunks<T: Taps>(reader: &mut ReaderState, buffer: u32, taps: &mut T) -> Result<(), Memory>
     requires { buffer < T.buffers taps.old }
     ensures buffers { T.buffers taps.new ≡ T.buffers taps.old }

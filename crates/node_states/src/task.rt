@@ -13,7 +13,7 @@ use op_turn::Turn;
 use plan_core::{Node, Op, Plan};
 
 /// What a node does: it plays, picks among its children by a rule or by turns, mixes them, fades its child's tracks or
-/// reads a buffer.
+/// reads a buffer. The number is a crossfade's overlap in cells, or that of the buffer.
 #[derive(Clone, Copy, Debug)]
 pub enum Task {
     Play(Leaf),
@@ -24,7 +24,7 @@ pub enum Task {
     Read(u32),
 }
 
-/// What node `i` does, in a plan of this rate. Nothing else tells operators apart, but for the predicates of a switch.
+/// What node `i` does, in a plan of `rate` samples a second. The predicates of a switch are left out.
 pub fn task_of(node: &Node, i: u32, rate: u32) -> Task
     ensures { IsTask result (work_of rate i node.now.kind node.now.op) }
 {
@@ -56,6 +56,7 @@ pub fn task_of(node: &Node, i: u32, rate: u32) -> Task
     }
 }
 
+// A leaf that plays the files of this node; `again` says whether the first one follows the last.
 fn files(node: u32, again: bool, kind: Kind) -> Leaf
     ensures { result ≡ Leaf.Files node again kind }
 {

@@ -52,8 +52,8 @@ impl WeekTime {
         self.place == 0
     }
 
-    /// How many instants behind this one lie in its second and the next ones, so many seconds in all, as far as a u32
-    /// counts.
+    /// How many instants after this one lie in its second and in those that follow, `seconds` seconds in all; a count
+    /// above u32 is cut to the largest u32.
     pub fn seconds_left(self, seconds: u32) -> u32
         requires { 0 < seconds }
         ensures { (start n j : ℕ) → TimeStands start n self → j ≤ result
@@ -63,7 +63,7 @@ impl WeekTime {
         (self.rate - 1 - self.samples).saturating_add(later)
     }
 
-    /// How many instants behind this one lie in its tick.
+    /// How many instants after this one lie in its tick.
     pub fn tick_left(self) -> u32
         ensures { (start n j : ℕ) → TimeStands start n self → 0 < j → j ≤ result
             → nat_eq ((n + j) % self.frame) 0 ≡ false }
@@ -71,7 +71,7 @@ impl WeekTime {
         self.frame - 1 - self.place
     }
 
-    /// The time so many instants later, at most a second.
+    /// The time `count` instants later, at most a second.
     pub fn later(self, count: u32) -> WeekTime
         requires { count ≤ self.rate }
         ensures rate { result.rate ≡ self.rate }
@@ -124,7 +124,7 @@ impl WeekTime {
     }
 }
 
-// The second after this one; behind the last of the week comes its first.
+// The second after this one; after the last of the week comes the first.
 fn next_second(at: WeekSecond) -> WeekSecond
     ensures { result.second ≡ (at.second + 1) % 604800 }
 {
@@ -133,7 +133,7 @@ fn next_second(at: WeekSecond) -> WeekSecond
     }
 }
 
-// The place in its tick of the next instant.
+// The place of the next instant in its tick, counted from 0; a tick has `frame` instants.
 fn next_place(place: u32, frame: u32) -> u32
     requires { place < frame }
     ensures small { result < frame }
@@ -145,7 +145,7 @@ fn next_place(place: u32, frame: u32) -> u32
     0
 }
 
-// The place in its tick of the instant so many instants later.
+// The place in its tick of the instant `count` instants later, counted from 0; a tick has `frame` instants.
 fn place_later(place: u32, frame: u32, count: u32) -> u32
     requires { place < frame }
     ensures small { result < frame }

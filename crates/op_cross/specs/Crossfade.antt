@@ -5,7 +5,8 @@ use Rattle.sample_kernels.specs.Mixing.{faded}
 use Rattle.frame_core.specs.Slots.{Slot}
 use Rattle.op_cross.specs.Tracks.{Border, Flag, Gap, Unended, Piece, is_closed, track_pieces}
 
--- cell `at` of a mix over `whole` cells; the first alone is flagged, and it has the title of the next track's cell
+-- cell `at` of a mix of two tracks over `whole` cells: the first cell of the mix alone is marked, and each has the
+-- title of the next track's cell
 abbrev pub mixed_cell : Cell → Cell → ℕ → ℕ → Cell
 mixed_cell a b at whole = record {
   left = faded a.left b.left at whole;
@@ -14,29 +15,29 @@ mixed_cell a b at whole = record {
   title = b.title;
 }
 
--- the mix of two lists of cells, from cell `at` of `whole` on
+-- the mix of the cells of two tracks, from cell `at` of a mix over `whole` cells on
 abbrev pub mixed_cells : List Cell → List Cell → ℕ → ℕ → List Slot
 mixed_cells [] to at whole = []
 mixed_cells (a ∷ from) [] at whole = []
 mixed_cells (a ∷ from) (b ∷ to) at whole = Some (mixed_cell a b at whole) ∷ mixed_cells from to (suc at) whole
 
--- how far the track r overlaps the next one
+-- by how many cells the track r overlaps the next one, at most `most`
 abbrev pub overlap_of : ℕ → List Cell → List Cell → ℕ
 overlap_of most r next = min most (min (length r) (length next))
 
--- the next track takes part
+-- whether the next track can be mixed into the end of track r: it has ended, or has as many cells as may overlap
 abbrev pub takes_part : ℕ → List Cell → Piece → Bool
 takes_part most r next = is_closed next.border || nat_le (min most (length r)) (length next.cells)
 
--- what is settled of a track behind which nothing is known
+-- what is settled of the track r, after which nothing is known: all but the last cells, which may be mixed
 abbrev pub held_back : ℕ → List Cell → List Slot
 held_back most r = map Some (take (length r - min most (length r)) r)
 
--- r, but its last o cells, and the mix of these with the first o of the next track
+-- the track r, whose last o cells are mixed with the first o of the next track
 abbrev pub overlapped : ℕ → List Cell → List Cell → List Slot
 overlapped o r next = map Some (take (length r - o) r) ++ mixed_cells (drop (length r - o) r) (take o next) 0 o
 
--- the settled items from the track r on, which has this border and before these pieces
+-- the settled items from the track r on, after which this border and these pieces come
 abbrev pub settled : ℕ → List Cell → Border → List Piece → List Slot
 settled most r Unended pieces = held_back most r
 settled most r Gap [] = map Some r ++ None ∷ []
@@ -48,11 +49,11 @@ settled most r Flag (next ∷ pieces) =
     ++ settled most (drop (overlap_of most r next.cells) next.cells) next.border pieces
     else held_back most r
 
--- the slots of the pieces from here on, as far as they are settled
+-- the settled items of these pieces
 abbrev pub settled_from : ℕ → List Piece → List Slot
 settled_from most [] = []
 settled_from most (piece ∷ pieces) = settled most piece.cells piece.border pieces
 
--- the settled items of a list of slots, where tracks overlap by at most so many cells
+-- the settled items of a list of slots, where tracks overlap by at most `most` cells
 abbrev pub cross : ℕ → List Slot → List Slot
 cross most slots = settled_from most (track_pieces slots)

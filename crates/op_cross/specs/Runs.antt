@@ -3,7 +3,7 @@ use Rattle.std.specs.Prelude.{Bool, List, ℕ, zero, suc, ◌+◌, ◌*◌, leng
 use Rattle.frame_core.specs.Slots.{Slot, slot_at}
 use Rattle.op_cross.specs.Crossfade.{cross}
 
--- the least number from `at` on that passes, of at most so many
+-- the least number from `at` on that passes the test; `at + most` where none before it does
 abbrev pub least_from : (ℕ → Bool) → ℕ → ℕ → ℕ
 least_from test at zero = at
 least_from test at (suc most) = if test at then at else least_from test (suc at) most
@@ -12,6 +12,6 @@ least_from test at (suc most) = if test at then at else least_from test (suc at)
 abbrev pub run_of : ℕ → (ℕ → List Slot) → ℕ → ℕ
 run_of overlap slots p = least_from (λ m. nat_lt p (length (cross overlap (slots m)))) 0 (2 * p + 2 * overlap + 2)
 
--- item p of that many slots
+-- item p, by the least number of slots that settles it; `slots m` are the first m
 abbrev pub item_of : ℕ → (ℕ → List Slot) → ℕ → Slot
 item_of overlap slots p = slot_at (cross overlap (slots (run_of overlap slots p))) p

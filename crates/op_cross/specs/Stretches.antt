@@ -14,14 +14,14 @@ stretch [] = 0
 stretch (None ∷ slots) = 0
 stretch (Some cell ∷ slots) = suc (inner_count slots)
 
--- the same, of the items that have this title too
+-- how many items, from the first on, are cells of this title that begin no track
 abbrev pub titled_count : (title : ℕ) → List Slot → ℕ
 titled_count title [] = 0
 titled_count title (None ∷ slots) = 0
 titled_count title (Some cell ∷ slots) = if cell.first || not (nat_eq cell.title title) then 0
     else suc (titled_count title slots)
 
--- how many items, from the first on, are cells of its title of which none but the first begins a track
+-- how many items, from the first on, are cells with the title of the first of which none but the first begins a track
 abbrev pub titled_stretch : List Slot → ℕ
 titled_stretch [] = 0
 titled_stretch (None ∷ slots) = 0

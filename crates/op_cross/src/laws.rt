@@ -6,19 +6,19 @@ ghost use Rattle.frame_core.specs.declared.cell.Cell.{Cell};
 ghost use Rattle.op_cross.specs.States.{AllInner, IsTrack};
 ghost use Rattle.op_cross.specs.Runs.{run_of, item_of};
 
-/// Item p is settled once so many slots are there.
+/// Item p is settled once 2p + 2 * overlap + 2 slots are there.
 pub fn settled_in_time()
     ensures many { (overlap : ℕ) (slots : List Slot) (p : ℕ) → 2 * p + 2 * overlap + 2 ≤ length slots
         → p < length (cross overlap slots) }
 {}
 
-/// A longer list keeps the settled items.
+/// More slots at the end of a list leave the items as they are that are settled.
 pub fn settled_items_stay()
     ensures begins { (overlap : ℕ) (slots more : List Slot)
         → take (length (cross overlap slots)) (cross overlap (slots ++ more)) ≡ cross overlap slots }
 {}
 
-/// A child that runs only until item p is settled has run the least number of slots.
+/// A child that runs only until item p is settled has run the least number of slots that settle it.
 pub fn least_run()
     ensures run { (overlap : ℕ) (slots : ℕ → List Slot) (p filled : ℕ) → ((m : ℕ) → length (slots m) ≡ m)
         → p < length (cross overlap (slots filled)) →

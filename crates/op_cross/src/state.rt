@@ -60,9 +60,9 @@ impl Model for CrossState {
 }
 
 impl CrossState {
-    /// The state of a crossfade that was filled nothing, whose tracks overlap by at most so many samples, from 1 to
-    /// `MAX_OVERLAP`. It reserves room for twice as many cells and one; no other call takes memory. The kind changes
-    /// nothing, since a mono cell has 0 on its right, and so has a mix of such cells.
+    /// The state of a crossfade before its first slot, whose tracks overlap by at most `overlap` cells, from 1 to
+    /// `MAX_OVERLAP`. It reserves all its room; no other call takes memory. The kind changes nothing, since a mono cell
+    /// has 0 on its right, and so has a mix of such cells.
     pub fn new(alloc: Global, overlap: u32, _kind: Kind) -> Result<CrossState, Memory>
         requires { (0 < overlap) × (overlap ≤ MAX_OVERLAP) }
         ensures overlap { IfOk result (λ state. state.overlap ≡ overlap) }
@@ -80,7 +80,7 @@ impl CrossState {
         })
     }
 
-    /// Whether its item is not settled yet: a slot that is still to come may change it.
+    /// Whether its item is not settled: a slot that is still to come may change it.
     pub fn wants(&self) -> bool
         ensures wants { result ≡ wants self.now }
         ensures unsettled { (slots : List Slot) (p : ℕ) → StandsFor self.now slots p → IsTrue result
@@ -92,7 +92,7 @@ impl CrossState {
         self.ready == 0 && !self.gap
     }
 
-    /// Takes the next slot of its source. At most twice the overlap of them settle its item.
+    /// Takes the next slot of its source. At most twice the overlap of slots settle its item.
     pub fn feed(&mut self, slot: Option<Cell>)
         requires { wants self.old ≡ true }
         ensures overlap { self.new.overlap ≡ self.old.overlap }
@@ -127,7 +127,7 @@ impl CrossState {
         }
     }
 
-    /// How many cells of a track that goes on settle its item.
+    /// How many cells of a track that goes on settle its item, which is not settled.
     pub fn room(&self) -> u32
         requires { wants self.now ≡ true }
         ensures { result ≡ track_room self.now }
@@ -141,7 +141,7 @@ impl CrossState {
     }
 
     /// Takes the next slots of its source, which are cells of this title and of a track that goes on, no more than
-    /// settle its item.
+    /// settle its item. They are given by their samples.
     pub fn fill_stretch(&mut self, title: u32, lefts: &[i16], rights: &[i16])
         requires wants { wants self.old ≡ true }
         requires same { length rights.now ≡ length lefts.now }
@@ -168,16 +168,16 @@ impl CrossState {
         }
     }
 
-    /// Whether as much of a track is held as overlaps, and nothing else: each cell that goes on with it settles one
-    /// item.
+    /// Whether as many cells of a track are held as overlap, and nothing else: each cell that goes on with it settles
+    /// one item.
     pub fn passes(&self) -> bool
         ensures { result ≡ passes self.now }
     {
         self.ready == 0 && !self.gap && self.next.len() == 0 && self.cells.len() == self.overlap
     }
 
-    /// Takes the next slots of its source, which are cells of this title and of the track that goes on, and gives as
-    /// many items.
+    /// Takes the next slots of its source, which are cells of this title and of the track that goes on, by their
+    /// samples, and writes those of as many items to `left` and `right`.
     pub fn pass(
         &mut self,
         title: u32,
@@ -209,7 +209,7 @@ impl CrossState {
         self.cells.take_into(left, right);
     }
 
-    /// Its item: a cell, or nothing.
+    /// The item at which the state stands, which is settled: a cell, or nothing.
     pub fn offer(&self) -> Option<Cell>
         requires { wants self.now ≡ false }
         ensures item { (slots : List Slot) (p : ℕ) → StandsFor self.now slots p
@@ -227,7 +227,7 @@ impl CrossState {
         Some(mixed_cell(cell, to, at, self.whole))
     }
 
-    /// How many items, from its item on and at most so many, are settled cells of its title of which none but the first
+    /// How many items, from its item on and at most `most`, are settled cells of its title of which none but the first
     /// begins a track.
     pub fn ready(&self, most: u32) -> u32
         ensures cells { result ≤ ready_stretch self.now }
@@ -243,7 +243,7 @@ impl CrossState {
         }
     }
 
-    /// Gives as many items as the slices are long, of a stretch that is ready, and goes on behind them.
+    /// Writes the samples of as many items as the slices are long, of a stretch that is ready, and goes on after them.
     pub fn copy(&mut self, left: &mut [i16], right: &mut [i16])
         requires same { length right.old ≡ length left.old }
         requires ready { length left.old ≤ ready_stretch self.old }
@@ -264,7 +264,8 @@ impl CrossState {
         }
     }
 
-    // The same of items that are given as they are.
+    // Writes the samples of as many items as the slices are long, which are cells of one track alone, and goes on after
+    // them.
     fn copy_plain(&mut self, left: &mut [i16], right: &mut [i16])
         requires same { length right.old ≡ length left.old }
         requires plain { length self.old.next < self.old.ready }
@@ -281,7 +282,8 @@ impl CrossState {
         self.ready -= left.len() as u32;
     }
 
-    // The same of items that are mixed.
+    // Writes the samples of as many items as the slices are long, which are mixed of two tracks, and goes on after
+    // them.
     fn copy_mixed(&mut self, left: &mut [i16], right: &mut [i16])
         requires same { length right.old ≡ length left.old }
         requires mixed { self.old.ready ≤ length self.old.next }
@@ -303,7 +305,7 @@ impl CrossState {
         }
     }
 
-    // Gives as many items as the slices are long, which are mixed, and goes on behind them.
+    // Writes the samples of as many mixed items as the slices are long, from 1 to 256, and goes on after them.
     fn mix_block(&mut self, left: &mut [i16], right: &mut [i16])
         requires same { length right.old ≡ length left.old }
         requires few { (0 < length left.old) × (length left.old ≤ 256) }
@@ -334,9 +336,9 @@ impl CrossState {
         self.ready -= count as u32;
     }
 
-    /// A number of items, from its item on and at most so many, that are cells of this title which begin no track:
-    /// those that are settled so, or where cells pass through, at most as many as there are behind it of a track that
-    /// its source goes on with, under the title `below_title`.
+    /// How many items, from its item on and at most `most`, are known to be cells of this title that begin no track.
+    /// Where cells pass through, they are at most `below`: so many cells of title `below_title` does its source go on
+    /// with.
     pub fn rest(&self, title: u32, below: u32, below_title: u32, most: u32) -> u32
         ensures ready { (slots : List Slot) (p j : ℕ) → StandsFor self.now slots p → passes self.now ≡ false
             → j < result
@@ -364,7 +366,8 @@ impl CrossState {
         self.ready(most)
     }
 
-    // The same where cells pass through, of at most so many.
+    // How many items, at most `most`, are known to be cells of this title that begin no track, where cells pass through
+    // and its source goes on with `most` cells of title `below_title`.
     fn rest_through(&self, title: u32, below_title: u32, most: u32) -> u32
         requires passes { passes self.now ≡ true }
         ensures within { result ≤ most }
@@ -381,7 +384,7 @@ impl CrossState {
         }
     }
 
-    /// Goes on to the next item, where this one was given or is empty.
+    /// Goes on by one instant: to the next item, where this one was given or is empty.
     pub fn advance(&mut self, gave: bool)
         requires { wants self.old ≡ false }
         ensures overlap { self.new.overlap ≡ self.old.overlap }
@@ -401,7 +404,7 @@ impl CrossState {
     }
 }
 
-// How many of so many cells, from the front one on, have its title.
+// How many cells of a ring, from the front one on and at most `most`, have the title of the front one.
 fn of_one_title(ring: &CellRing, most: u32) -> u32
     ensures within { result ≤ most }
     ensures some { 0 < most → 0 < result }
@@ -416,7 +419,8 @@ fn of_one_title(ring: &CellRing, most: u32) -> u32
     1 + ring.titled(title_of(ring.front()), 1, most - 1)
 }
 
-// Cell `at` of a mix over `whole` cells; the first alone is flagged, and it has the title of the next track's cell.
+// Cell `at` of a mix of two tracks over `whole` cells: the first cell of the mix alone is marked, and each has the
+// title of the next track's cell.
 fn mixed_cell(from: Cell, to: Cell, at: u32, whole: u32) -> Cell
     requires { at < whole }
     ensures { result ≡ mixed_cell from to at whole }

@@ -3,17 +3,17 @@ use Rattle.std.specs.Prelude.{◌≡◌, ◌<◌, true, ℕ, ℤ, List, IsSome}
 use Rattle.frame_core.specs.Slots.{Slot, title_of, is_inner}
 use Rattle.op_leaf.specs.Inner.{lefts_of, rights_of}
 
--- the first so many slots are cells that begin no track, and these are their samples
+-- the first `count` slots are cells that begin no track, and these are their samples
 pub record IsLane (slots : ℕ → Slot) (count : ℕ) (left right : List ℤ) : Type 0 where
   pub left_is : left ≡ lefts_of slots 0 count
   pub right_is : right ≡ rights_of slots 0 count
   pub inner : (j : ℕ) → j < count → is_inner (slots j) ≡ true
 
--- the first so many slots are of one track: the first is a cell, and behind it are cells that begin no track
+-- the first `count` slots are of one track: the first is a cell, and behind it are cells that begin no track
 pub record IsOneTrack (slots : ℕ → Slot) (count : ℕ) : Type 0 where
   pub here : IsSome (slots 0)
   pub inner : (j : ℕ) → 0 < j → j < count → is_inner (slots j) ≡ true
 
--- the first so many slots have this title
+-- the first `count` slots have this title
 abbrev pub AreTitled : (slots : ℕ → Slot) → (count title : ℕ) → Type 0
 AreTitled slots count title = (j : ℕ) → j < count → title_of (slots j) ≡ title

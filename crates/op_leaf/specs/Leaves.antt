@@ -10,20 +10,19 @@ use Rattle.frame_core.specs.Library.{Sounds, no_sound, tracks_of}
 use Rattle.op_leaf.specs.declared.leaf.Leaf.{Leaf}
 use Rattle.op_leaf.specs.declared.leaf.Leaf.TheVariants.{Files, Blank, Square, Never}
 
--- a file of a library
+-- the sound of a file of a library, by its number
 abbrev pub file_of : Sounds → (file : ℕ) → Sound
 file_of library file = slice_index_or library.files file no_sound
 
--- the files of a node
+-- the sounds of the files of a node, in order
 abbrev pub sounds_of : Sounds → ℕ → List Sound
 sounds_of library node = map (λ file. file_of library file) (tracks_of library node)
 
--- the samples of all these files
+-- how many samples each channel has in all these files
 abbrev pub total_of : List Sound → ℕ
 total_of sounds = sum_by length_of sounds
 
--- the slot at a position of these files, played one after the other: whole files are left out. A cell has its file's
--- title
+-- the slot at a position of these files, played once one after the other; a cell has its file's title
 abbrev pub joined_slot : Sounds → (files : List ℕ) → Kind → ℕ → Slot
 joined_slot library [] kind position = None
 joined_slot library (file ∷ files) kind position =
@@ -31,17 +30,18 @@ joined_slot library (file ∷ files) kind position =
     then Some (cell_of (file_of library file) (suc file) kind position)
     else joined_slot library files kind (position - length_of (file_of library file))
 
--- the position in a round of the files: they are played again and again, or once
+-- the position among the files: where they begin again after the last one, it is that of a single pass
 abbrev pub place_in_round : List Sound → Bool → ℕ → ℕ
 place_in_round sounds true position = position % total_of sounds
 place_in_round sounds false position = position
 
--- the slot at a position of the files of a node
+-- the slot of a node at a position, which plays its files once or, with true, again and again
 abbrev pub files_slot : Sounds → (node : ℕ) → Bool → Kind → ℕ → Slot
 files_slot library node again kind position =
     joined_slot library (tracks_of library node) kind (place_in_round (sounds_of library node) again position)
 
--- zero; a track begins at each multiple of its length, or at 0 alone where it is endless
+-- the cell of a blank at a position, zeros; a track begins at each multiple of its length, or at 0 alone where it is
+-- endless
 abbrev pub blank_cell : ℕ → ℕ → Cell
 blank_cell track position =
     record {
@@ -51,18 +51,18 @@ blank_cell track position =
       title = 0;
     }
 
--- the upper value in the first half of each period, and the lower one in the second
+-- the sample of a square wave at a position: 8192 in the first half of each period, and -8192 in the second
 abbrev pub height_at : Decimal → ℕ → ℕ → ℤ
 height_at pitch rate position =
     if nat_lt (position * unsigned_abs pitch.millionths % (rate * 1000000)) (rate * 500000) then pos 8192
     else negsuc 8191
 
--- the right sample of a source of this kind, where both sides are alike
+-- the right sample of a cell in a source of this kind, where both sides are alike; 0 in mono
 abbrev pub on_the_right : Kind → ℤ → ℤ
 on_the_right Mono sample = pos 0
 on_the_right Stereo sample = sample
 
--- a square wave of this many periods a second, at this many samples a second
+-- the cell at a position of a square wave of this many periods a second, at this many samples a second
 abbrev pub square_cell : Decimal → ℕ → Kind → ℕ → Cell
 square_cell pitch rate kind position = record {
   left = height_at pitch rate position;
@@ -71,21 +71,21 @@ square_cell pitch rate kind position = record {
   title = 0;
 }
 
--- the slot of a leaf at a position
+-- the slot of a leaf at a position, which is how many cells it has given
 abbrev pub leaf_slot : Sounds → Leaf → ℕ → Slot
 leaf_slot library (Files node again kind) position = files_slot library node again kind position
 leaf_slot library (Blank track) position = Some (blank_cell track position)
 leaf_slot library (Square pitch rate kind) position = Some (square_cell pitch rate kind position)
 leaf_slot library Never position = None
 
--- a square wave has samples
+-- a square wave has samples in a second; any other leaf has no need of them
 abbrev pub HasRate : Leaf → Type 0
 HasRate (Files node again kind) = Unit {0}
 HasRate (Blank track) = Unit {0}
 HasRate (Square pitch rate kind) = 0 < rate
 HasRate Never = Unit {0}
 
--- the library has a list of files for the leaf
+-- the library has a list of files for a leaf that plays files
 abbrev pub HasTracksOf : Sounds → Leaf → Type 0
 HasTracksOf library (Files node again kind) = node < length library.leaves
 HasTracksOf library (Blank track) = Unit {0}

@@ -4,36 +4,36 @@ use Rattle.frame_core.specs.declared.cell.Cell.{Cell}
 use Rattle.frame_core.specs.Slots.{Slot}
 use Rattle.frame_core.specs.Calls.{Answer}
 
--- the cells in their order; the samples that it holds before it plays, at least 1; and the samples of a tick
+-- a reader: the cells that it holds, in order; whether it plays; its prefill, at least 1; and the samples of a tick
 pub record Reader : Type 0 where
   pub cells : List Cell
   pub playing : Bool
   pub prefill : ℕ
   pub frame : ℕ
 
--- how many cells it is to hold after the takes of a tick
+-- how many cells it is to hold after the takes of a tick: those of a tick while it plays, else its prefill
 abbrev pub wanted : Reader → ℕ
 wanted reader = if reader.playing then reader.frame else reader.prefill
 
--- it holds fewer
+-- whether it holds fewer cells than it is to hold
 abbrev pub wants : Reader → Bool
 wants reader = nat_lt (length reader.cells) (wanted reader)
 
--- how many are missing: each take lowers it
+-- how many cells it lacks: each take lowers it
 abbrev pub missing : Reader → ℕ
 missing reader = wanted reader - length reader.cells
 
--- the cells with a track's begin at the front
+-- these cells, of which the first begins a track
 abbrev pub flag_front : List Cell → List Cell
 flag_front [] = []
 flag_front (cell ∷ cells) = record { left = cell.left; right = cell.right; first = true; title = cell.title } ∷ cells
 
--- there is a cell
+-- whether there is a cell
 abbrev pub holds_some : List Cell → Bool
 holds_some [] = false
 holds_some (cell ∷ cells) = true
 
--- after the takes of a tick
+-- the reader after the takes of a tick:
 --   where it played: it plays on where it holds a cell, else it stops
 --   where it did not, and holds its prefill: it begins to play, and its front cell begins a track
 --   otherwise: it stays as it is
@@ -47,7 +47,7 @@ begun reader = from reader.playing
         then record reader { cells = flag_front reader.cells; playing = true }
         else reader
 
--- what it offers: while it plays, the front cell
+-- what a reader offers: while it plays, the front cell
 abbrev pub reader_slot : Reader → Slot
 reader_slot reader = if reader.playing then front reader.cells else None
   where
@@ -55,29 +55,29 @@ reader_slot reader = if reader.playing then front reader.cells else None
     front [] = None
     front (cell ∷ cells) = Some cell
 
--- after a cell was given
+-- the reader after it gave a cell; it stays where it does not play
 abbrev pub after_cell : Reader → Reader
 after_cell reader = if reader.playing then record reader { cells = drop 1 reader.cells } else reader
 
--- a reader that has given so many cells more
+-- the reader after it gave j cells
 abbrev pub read_by : ℕ → Reader → Reader
 read_by zero reader = reader
 read_by (suc j) reader = after_cell (read_by j reader)
 
--- after the takes of a tick: the next answers while it wants, up to and with the first empty one
+-- the reader after the takes of a tick: it takes while it wants, up to and with the first empty answer
 abbrev pub after_takes : List Answer → Reader → Reader
 after_takes [] reader = reader
 after_takes (None ∷ answers) reader = reader
 after_takes (Some chunk ∷ answers) reader =
     if wants reader then after_takes answers (record reader { cells = reader.cells ++ chunk }) else reader
 
--- these takes
+-- the answers of the takes of a tick: while it wants, up to and with the first empty one, which ends them
 abbrev pub reader_takes : List Answer → Reader → List Answer
 reader_takes [] reader = if wants reader then None ∷ [] else []
 reader_takes (None ∷ answers) reader = if wants reader then None ∷ [] else []
 reader_takes (Some chunk ∷ answers) reader =
     if wants reader then Some chunk ∷ reader_takes answers (record reader { cells = reader.cells ++ chunk }) else []
 
--- the reader at a tick's start, over the answers that come next; past their end an answer is empty
+-- the reader at a tick's start, over the answers to come; past their end an answer is empty
 abbrev pub at_start : List Answer → Reader → Reader
 at_start answers reader = begun (after_takes answers reader)

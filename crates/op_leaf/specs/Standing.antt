@@ -12,57 +12,60 @@ use Rattle.op_leaf.specs.declared.leaf.Cursor.{Cursor}
 use Rattle.op_leaf.specs.declared.leaf.Cursor.TheVariants.{Track, Silence, Wave, Nothing}
 use Rattle.op_leaf.specs.Leaves.{place_in_round, sounds_of, total_of}
 
--- the files before the cursor and its place in its own file make up the position
+-- the files before the one that is played, and the sample in it, make up the position
 abbrev pub FilesStandAt : Sounds → FilesState → ℕ → Type 0
 FilesStandAt library files position =
     total_of (take files.track (sounds_of library files.node)) + files.at
     ≡ place_in_round (sounds_of library files.node) files.again position
 
--- the library has the node's files, and the cursor is within one of them or past the last
+-- the library has the node's files, and the state is within one of them or past the last
 pub record FilesArePlacedIn (library : Sounds) (files : FilesState) : Type 0 where
   pub there : files.node < length library.leaves
   pub within : files.track < length (tracks_of library files.node)
       → files.at < length_of (sound_at library files.node files.track)
 
--- the place in a blank's track; in an endless one, whether it has begun
+-- the sample in a blank's track is that of the position; in an endless one it is whether it has begun
 abbrev pub BlankStandsAt : Blank → ℕ → Type 0
 BlankStandsAt blank position = blank.at ≡ (if nat_eq blank.track 0 then min position 1 else (position % blank.track))
 
--- how much of its period is over, and whether it has begun
+-- the phase of a square wave is that of the position, and it has begun unless the position is 0
 pub record SquareStandsAt (square : Square) (position : ℕ) : Type 0 where
   pub phase : square.phase ≡ position * unsigned_abs square.pitch.millionths % (square.rate * 1000000)
   pub begun : square.begun ≡ not (nat_eq position 0)
 
--- what is played
+-- what a cursor plays
 abbrev pub played_by : Cursor → Leaf
 played_by (Track files) = leaf.Files files.node files.again files.kind
 played_by (Silence blank) = leaf.Blank blank.track
 played_by (Wave square) = leaf.Square square.pitch square.rate square.kind
 played_by Nothing = leaf.Never
 
+-- what the state of a leaf plays
 abbrev pub leaf_of : LeafState → Leaf
 leaf_of state = played_by state.cursor
 
--- a blank whose tracks end stands within one
+-- a blank whose tracks end is within one
 pub record BlankIsPlaced (blank : Blank) : Type 0 where
   pub within : 0 < blank.track → blank.at < blank.track
 
--- its place is one of this library
+-- where a cursor stands is a place of this library
 abbrev pub CursorIsPlacedIn : Sounds → Cursor → Type 0
 CursorIsPlacedIn library (Track files) = FilesArePlacedIn library files
 CursorIsPlacedIn library (Silence blank) = BlankIsPlaced blank
 CursorIsPlacedIn library (Wave square) = Unit {0}
 CursorIsPlacedIn library Nothing = Unit {0}
 
+-- where a leaf stands is a place of this library
 abbrev pub IsPlacedIn : Sounds → LeafState → Type 0
 IsPlacedIn library state = CursorIsPlacedIn library state.cursor
 
--- it stands at this position
+-- a cursor stands for this position
 abbrev pub CursorStandsAt : Sounds → Cursor → ℕ → Type 0
 CursorStandsAt library (Track files) position = FilesStandAt library files position
 CursorStandsAt library (Silence blank) position = BlankStandsAt blank position
 CursorStandsAt library (Wave square) position = SquareStandsAt square position
 CursorStandsAt library Nothing position = Unit {0}
 
+-- the state of a leaf stands for this position, which is how many cells it may have given
 abbrev pub StandsAt : Sounds → LeafState → ℕ → Type 0
 StandsAt library state position = CursorStandsAt library state.cursor position

@@ -4,7 +4,7 @@ use Rattle.frame_core.specs.declared.cell.Cell.{Cell}
 use Rattle.cell_ring.specs.Rings.{Ring}
 use Rattle.op_leaf.specs.Readers.{flag_front}
 
--- the cells of the queue, of which the first begins a track where the reader has just begun
+-- the cells of a reader's queue, of which the first begins a track if the reader has just begun to play
 abbrev pub shown : Bool → List Cell → List Cell
 shown true cells = flag_front cells
 shown false cells = cells

@@ -6,18 +6,18 @@ ghost use Rattle.op_leaf.specs.Standing.{BlankIsPlaced, BlankStandsAt};
 
 use frame_core::Cell;
 
-/// A blank between two instants.
+/// The state of a blank between two instants.
 #[derive(Debug, Drop)]
 pub struct Blank {
     /// The length of a track in samples; 0 is endless.
     pub track: u64,
 
-    /// The place in the track; in an endless one 0 at first, and 1 from then on.
+    /// The sample in the track, counted from 0; in an endless one 0 at first, and 1 from then on.
     pub at: u64,
 }
 
 impl Blank {
-    /// At its start.
+    /// A blank at its start. `track` is the length of a track in samples; 0 is endless.
     pub fn new(track: u64) -> Blank
         ensures track { result.track ≡ track }
         ensures placed { BlankIsPlaced result }
@@ -26,7 +26,7 @@ impl Blank {
         Blank { track, at: 0 }
     }
 
-    /// A zero, which begins a track at each multiple of its length.
+    /// The cell that it offers: zeros, which begin a track at each multiple of its length.
     pub fn offer(&self) -> Cell
         ensures { (p : ℕ) → BlankStandsAt self.now p → result ≡ blank_cell self.now.track p }
     {
@@ -38,7 +38,7 @@ impl Blank {
         }
     }
 
-    /// How many samples, from its own on and at most so many, lie in its track.
+    /// How many cells, from the offered one on and at most `most`, are of its track.
     pub fn stretch(&self, most: u32) -> u32
         requires placed { BlankIsPlaced self.now }
         requires some { 0 < most }
@@ -54,7 +54,7 @@ impl Blank {
         u64::from(most).min(self.track - self.at) as u32
     }
 
-    /// Goes on by so many samples, which lie in its track.
+    /// Goes on by `count` samples, which lie in its track.
     pub fn run(&mut self, count: u64)
         requires some { 0 < count }
         requires ahead { LieInTrack self.old count }
@@ -71,7 +71,7 @@ impl Blank {
         }
     }
 
-    /// Goes on by one sample.
+    /// Goes on by one cell.
     pub fn advance(&mut self)
         ensures track { self.new.track ≡ self.old.track }
         ensures placed { BlankIsPlaced self.new }

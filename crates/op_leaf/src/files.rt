@@ -9,7 +9,7 @@ ghost use Rattle.op_leaf.specs.Standing.{FilesArePlacedIn, FilesStandAt};
 use frame_core::{Cell, Library};
 use liq_base::Kind;
 
-/// The files of a node between two instants.
+/// The state of a node's files between two instants.
 #[derive(Debug, Drop)]
 pub struct FilesState {
     /// The node whose files these are.
@@ -24,12 +24,12 @@ pub struct FilesState {
     /// The file that is played, among those of the node; past the last one where they are over.
     pub track: u32,
 
-    /// The place in this file.
+    /// The sample in this file, counted from 0.
     pub at: u64,
 }
 
 impl FilesState {
-    /// At the start of the first file.
+    /// The files of a node, at the start of the first one.
     pub fn new(node: u32, again: bool, kind: Kind) -> FilesState
         ensures start { result ≡ record { node = node; again = again; kind = kind; track = 0; at = 0 } }
         ensures placed { (library : Sounds) → IsLibrary library → node < length library.leaves
@@ -44,7 +44,7 @@ impl FilesState {
         }
     }
 
-    /// The cell at its place, with its file's title; nothing past the last file.
+    /// The cell that it offers, with the title of its file; `None` past the last file.
     pub fn offer(&self, library: &Library) -> Option<Cell>
         requires { FilesArePlacedIn library.now self.now }
         ensures offered { (p : ℕ) → FilesStandAt library.now self.now p
@@ -58,7 +58,7 @@ impl FilesState {
         }
     }
 
-    /// How many cells, from its own on and at most so many, lie in its file.
+    /// How many cells, from the offered one on and at most `most`, are of its file.
     pub fn stretch(&self, library: &Library, most: u32) -> u32
         requires placed { FilesArePlacedIn library.now self.now }
         requires some { 0 < most }
@@ -80,7 +80,7 @@ impl FilesState {
         u64::from(most).min(left) as u32
     }
 
-    /// Gives as many cells as the slices are long, which lie in its file, and goes on behind them.
+    /// Writes as many cells as the slices are long, which lie in its file, and goes on behind them.
     pub fn run(&mut self, library: &Library, left: &mut [i16], right: &mut [i16])
         requires placed { FilesArePlacedIn library.now self.old }
         requires same { length right.old ≡ length left.old }
@@ -137,7 +137,7 @@ impl FilesState {
     }
 }
 
-// The file after this one, which is the first where they begin again.
+// The file after file `track` of `tracks`: the first where they begin again after the last one.
 fn track_after(track: u32, tracks: u32, again: bool) -> u32
     requires { track < tracks }
     ensures { result ≡ (if again && nat_eq (track + 1) tracks then 0 else track + 1) }

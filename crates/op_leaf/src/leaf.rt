@@ -40,12 +40,14 @@ pub enum Leaf {
     Never,
 }
 
-/// A leaf between two instants: where it stands in its files, in its blank track or in the period of its wave.
+/// The state of a leaf between two instants: where it stands in its files, in its blank track or in the period of its
+/// wave.
 #[derive(Debug, Drop)]
 pub struct LeafState {
     cursor: Cursor,
 }
 
+/// What a leaf plays, and where it stands in it.
 #[derive(Debug, Drop)]
 enum Cursor {
     Track(FilesState),
@@ -55,7 +57,7 @@ enum Cursor {
 }
 
 impl LeafState {
-    /// A leaf that gave nothing yet.
+    /// A leaf that has given nothing.
     pub fn new(leaf: Leaf) -> LeafState
         requires { HasRate leaf }
         ensures leaf { leaf_of result ≡ leaf }
@@ -71,7 +73,7 @@ impl LeafState {
         LeafState { cursor }
     }
 
-    /// What it offers. All calls on one state are given one library.
+    /// The cell that it offers, or `None`. All calls on one state are given one library.
     pub fn offer(&self, library: &Library) -> Option<Cell>
         requires { IsPlacedIn library.now self.now }
         ensures offered { (p : ℕ) → StandsAt library.now self.now p
@@ -86,7 +88,7 @@ impl LeafState {
         }
     }
 
-    /// How many of its cells, from the offered one on and at most so many, are of one track. They have one title.
+    /// How many cells, from the offered one on and at most `most`, are of one track. They have one title.
     pub fn stretch(&self, library: &Library, most: u32) -> u32
         requires placed { IsPlacedIn library.now self.now }
         requires some { 0 < most }
@@ -109,7 +111,8 @@ impl LeafState {
         }
     }
 
-    /// A number of cells, from the offered one on and at most so many, that have this title and begin no track.
+    /// How many cells, from the offered one on and at most `most`, go on with the track of this title; 0 where none is
+    /// offered, or it is of another or begins one. There may be more.
     pub fn rest(&self, library: &Library, title: u32, most: u32) -> u32
         requires placed { IsPlacedIn library.now self.now }
         ensures inner { (p j : ℕ) → StandsAt library.now self.now p → j < result
@@ -125,7 +128,7 @@ impl LeafState {
         self.stretch(library, most)
     }
 
-    /// Gives as many cells as the slices are long, and goes on behind them.
+    /// Writes as many cells as the slices are long, which are of one track, and goes on behind them.
     pub fn run(&mut self, library: &Library, left: &mut [i16], right: &mut [i16])
         requires placed { IsPlacedIn library.now self.old }
         requires same { length right.old ≡ length left.old }
@@ -171,7 +174,7 @@ impl LeafState {
     }
 }
 
-// Lays zeros.
+// Writes zeros.
 fn silence(into: &mut [i16])
     ensures { (p : ℕ) → into.new ≡ map (λ q. pos 0) (range_with_len p (length into.old)) }
 {

@@ -11,7 +11,7 @@ use liq_base::Memory;
 use std::alloc::Global;
 use std::marker::Model;
 
-/// The reader of a buffer: it takes chunks at a tick's start, and plays their cells once it holds enough of them.
+/// The state of a buffer's reader: it takes chunks at a tick's start, and plays their cells once it holds its prefill.
 /// `docs/streams.md` has the rules.
 #[derive(Drop)]
 pub struct ReaderState {
@@ -63,7 +63,7 @@ impl ReaderState {
         })
     }
 
-    /// Whether it is to take once more in this tick. Each chunk lowers what is missing.
+    /// Whether it is to take once more in this tick: it holds fewer cells than it needs.
     pub fn wants(&self) -> bool
         ensures wants { result ≡ wants self.now }
         ensures ends { result ≡ true → 0 < missing self.now }
@@ -76,7 +76,7 @@ impl ReaderState {
         self.queue.len() < u64::from(wanted)
     }
 
-    /// How many cells more it wants.
+    /// How many cells it lacks: of a tick while it plays, else of its prefill.
     pub fn missing(&self) -> u64
         ensures { result ≡ missing self.now }
     {
@@ -88,7 +88,8 @@ impl ReaderState {
         u64::from(wanted).saturating_sub(self.queue.len())
     }
 
-    /// Holds the cells of a chunk too. It takes no memory: a chunk that is longer than a tick may be kept as it came.
+    /// Holds the cells of a chunk behind the others. It takes no memory: a chunk that is longer than a tick may be kept
+    /// as it came.
     pub fn accept(&mut self, chunk: Chunk)
         requires { wants self.old ≡ true }
         ensures accepted { self.new ≡ record self.old { cells = self.old.cells ++ chunk } }
@@ -97,7 +98,7 @@ impl ReaderState {
         self.queue.push(chunk);
     }
 
-    /// After the takes of a tick: begins to play where it holds enough, and stops where it holds nothing.
+    /// After the takes of a tick: begins to play if it holds its prefill, and stops if it holds nothing.
     pub fn begin(&mut self)
         ensures { self.new ≡ begun self.old }
     {
@@ -110,7 +111,7 @@ impl ReaderState {
         }
     }
 
-    /// The cell that it offers: the front one, while it plays.
+    /// The cell that it offers: the front one while it plays, else `None`.
     pub fn offer(&self) -> Option<Cell>
         ensures { result ≡ reader_slot self.now }
     {
@@ -122,7 +123,7 @@ impl ReaderState {
         Some(Cell { first, ..cell })
     }
 
-    /// How many of its cells, from the offered one on and at most so many, are of one track and of one title.
+    /// How many cells, from the offered one on and at most `most`, are of one track and of one title.
     pub fn stretch(&self, most: u32) -> u32
         requires some { 0 < most }
         ensures stretch { IsSome (reader_slot self.now)
@@ -134,7 +135,8 @@ impl ReaderState {
         1 + self.queue.inner(title_of(self.queue.front()), 1, most - 1)
     }
 
-    /// A number of cells, from the offered one on and at most so many, that have this title and begin no track.
+    /// How many cells, from the offered one on and at most `most`, go on with the track of this title; 0 where none is
+    /// offered, or it is of another or begins one. There may be more.
     pub fn rest(&self, title: u32, most: u32) -> u32
         ensures inner { (j : ℕ) → j < result → is_inner (reader_slot (read_by j self.now)) ≡ true }
         ensures titled { (j : ℕ) → j < result → title_of (reader_slot (read_by j self.now)) ≡ title }
@@ -146,7 +148,7 @@ impl ReaderState {
         self.stretch(most)
     }
 
-    /// Gives as many cells as the slices are long, which are of one track, and goes on behind them.
+    /// Writes as many cells as the slices are long, which are of one track, and goes on behind them.
     pub fn run(&mut self, left: &mut [i16], right: &mut [i16])
         requires same { length right.old ≡ length left.old }
         requires some { 0 < length left.old }

@@ -6,11 +6,13 @@ use fixed_text::Decimal;
 use frame_core::Cell;
 use liq_base::Kind;
 
+/// The sample in the first half of a period; the second half has its opposite.
 const HEIGHT: i16 = 8192;
 
+/// A period has `rate` times this many parts, of which the pitch in millionths goes by with each sample.
 const MILLION: u64 = 1_000_000;
 
-/// A square wave between two instants.
+/// The state of a square wave between two instants.
 #[derive(Debug, Drop)]
 pub struct Square {
     /// Periods a second.
@@ -35,7 +37,7 @@ pub struct Square {
 impl Square {
     ghost use Rattle.op_leaf.specs.Standing.{SquareStandsAt};
 
-    /// At its start.
+    /// A square wave at its start, of `pitch` periods a second at `rate` samples a second.
     pub fn new(pitch: Decimal, rate: u32, kind: Kind) -> Square
         requires { 0 < rate }
         ensures pitch { result.pitch ≡ pitch }
@@ -52,7 +54,7 @@ impl Square {
         }
     }
 
-    /// The upper value in the first half of each period, and the lower one in the second.
+    /// The cell that it offers: the upper value in the first half of each period, and the lower one in the second.
     pub fn offer(&self) -> Cell
         ensures { (p : ℕ) → SquareStandsAt self.now p
             → result ≡ square_cell self.now.pitch self.now.rate self.now.kind p }
@@ -74,7 +76,7 @@ impl Square {
         }
     }
 
-    /// Goes on by one sample.
+    /// Goes on by one cell.
     pub fn advance(&mut self)
         ensures pitch { self.new.pitch ≡ self.old.pitch }
         ensures rate { self.new.rate ≡ self.old.rate }
@@ -91,7 +93,7 @@ impl Square {
     ghost use Rattle.op_leaf.specs.Inner.{lefts_of, rights_of};
     ghost use Rattle.op_leaf.specs.Standing.{SquareStandsAt};
 
-    /// Gives as many samples as the slices are long.
+    /// Writes as many samples as the slices are long, and goes on behind them.
     pub fn run(&mut self, left: &mut [i16], right: &mut [i16])
         requires same { length right.old ≡ length left.old }
         ensures pitch { self.new.pitch ≡ self.old.pitch }
@@ -114,7 +116,7 @@ impl Square {
     }
 }
 
-// How much of a period goes by with each sample, where the rate in millions is a whole one.
+// How much of a period goes by with each sample, where the rate in millions is a whole period.
 fn step_of(pitch: Decimal) -> u64
     ensures step { result ≡ unsigned_abs pitch.millionths }
     ensures bound { result ≤ 1000000000000000 }

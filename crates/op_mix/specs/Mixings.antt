@@ -7,6 +7,7 @@ use Rattle.stream_meaning.specs.Arithmetic as mixing
 use Rattle.op_mix.specs.declared.mixer.Mixer.{Mixer}
 use Rattle.op_mix.specs.declared.mixer.Mixer.TheVariants.{Adds, Scales, Halves, Doubles, Passes}
 
+-- what a mixer makes of its children's slots, as the definitions say it
 abbrev pub mixing_of : Mixer → Mixing
 mixing_of (Adds normalize) = mixing.Adds normalize
 mixing_of (Scales factor) = mixing.Scales factor.millionths

@@ -1,15 +1,15 @@
 // What the nodes before a node gave.
 use stream_meaning::Part;
 
-/// What the nodes before a node gave in a stretch. Each slice goes by node.
+/// What the nodes before a node gave in a stretch, by a node's number.
 #[derive(Clone, Copy)]
 pub struct Before<'a> {
-    /// What a node gave at the instant as which the others go on.
+    /// What each node gave at the first instant, as which the others go on.
     pub parts: &'a [Part],
 
-    /// The left samples of a node, the first of which are those of the stretch.
+    /// The left samples of each node, the first of which are those of the stretch.
     pub left: &'a [Vec<i16>],
 
-    /// And its right ones.
+    /// The right samples of each node, the first of which are those of the stretch.
     pub right: &'a [Vec<i16>],
 }

@@ -19,7 +19,7 @@ pub fn first_cell(slots: &[Option<Cell>]) -> Option<Cell>
     None
 }
 
-/// Each sample times a factor.
+/// A cell, each of whose samples is multiplied by a factor.
 pub fn amplified(cell: Cell, factor: Decimal) -> Cell
     ensures { result ≡ amplified factor.millionths cell }
 {
@@ -34,7 +34,7 @@ pub fn amplified(cell: Cell, factor: Decimal) -> Cell
     }
 }
 
-/// Half the sum of both sides, in mono.
+/// The mono cell of a stereo one: half the sum of its two samples.
 pub fn halved(cell: Cell) -> Cell
     ensures { result ≡ halved cell }
 {
@@ -49,7 +49,7 @@ pub fn halved(cell: Cell) -> Cell
     }
 }
 
-/// The left sample on both sides.
+/// The stereo cell of a mono one: its sample on both sides.
 pub fn doubled(cell: Cell) -> Cell
     ensures { result ≡ doubled cell }
 {

@@ -16,8 +16,8 @@ use sample_kernels::{add_into, clamp_all, divide, halves, scale};
 use stream_meaning::Part;
 
 impl Mixer {
-    /// The samples of a node in a stretch, on both sides, over what the nodes before it gave. A child is heard where it
-    /// offers by its part there. Where none does nothing is written. It takes no memory.
+    /// Writes the samples of a node in a stretch to `left` and `right`, by what the nodes before it gave. A child is
+    /// heard where it offers by its part there; where none does nothing is written. `sums` is room. It takes no memory.
     pub fn run(
         &self,
         children: &[u32],
@@ -46,7 +46,8 @@ impl Mixer {
         }
     }
 
-    // The samples of a node that changes the first child that offers.
+    // Writes the samples of a node that changes the first of its children that offers; where none does it writes
+    // nothing.
     fn change_first(
         &self,
         children: &[u32],
@@ -72,7 +73,7 @@ impl Mixer {
         self.change(from_left, from_right, left, right);
     }
 
-    // The samples of a node that changes one child, from those of that child. A sum copies them.
+    // Writes the samples of a node that changes one child, from those of that child. A sum copies them.
     fn change(&self, from_left: &[i16], from_right: &[i16], left: &mut [i16], right: &mut [i16])
         requires from { length from_right.now ≡ length from_left.now }
         requires same { length left.old ≡ length from_left.now }
@@ -101,8 +102,8 @@ impl Mixer {
     }
 }
 
-/// One side of the samples of a sum: that of the children that offer, at each instant. Where none does nothing is
-/// written.
+/// Writes one side of the samples of a sum: at each instant that of the children that offer, by the lanes of all nodes.
+/// `sums` and `counts` are room. Where no child offers nothing is written.
 pub fn sum_lane(
     children: &[u32],
     parts: &[Part],
@@ -129,7 +130,7 @@ pub fn sum_lane(
     }
 }
 
-// Adds the samples of the children that offer, at each instant, and answers how many they are.
+// Writes to `sums` the sum of the samples of the children that offer, at each instant, and answers how many they are.
 fn add_all(children: &[u32], parts: &[Part], lanes: &[Vec<i16>], sums: &mut [i32]) -> u16
     requires few { length children.now ≤ 65535 }
     requires short { length sums.old ≤ 2048 }
@@ -151,8 +152,8 @@ fn add_all(children: &[u32], parts: &[Part], lanes: &[Vec<i16>], sums: &mut [i32
     count
 }
 
-// One side of the samples of a sum, from the sums of so many children: their mean with `normalize`, or the sum cut to
-// the range of a sample.
+// Writes one side of the samples of a sum, from the sums of `parts` children: their mean with `normalize`, or the sum
+// cut to the range of a sample. `counts` is room.
 fn level_all(sums: &[i32], parts: u16, normalize: bool, counts: &mut [u16], into: &mut [i16])
     requires counts { length counts.old ≡ length sums.now }
     requires same { length into.old ≡ length sums.now }

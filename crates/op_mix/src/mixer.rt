@@ -28,7 +28,7 @@ pub enum Mixer {
 }
 
 impl Mixer {
-    /// The slot that it makes of those of its children, in their order. It takes no memory.
+    /// The slot that a node makes of those of its children, in their order. It takes no memory.
     pub fn slot(&self, slots: &[Option<Cell>]) -> Option<Cell>
         requires { length slots.now ≤ 65535 }
         ensures { result ≡ mix_slot (mixing_of self.now) slots.now }

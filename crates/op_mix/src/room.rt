@@ -8,7 +8,7 @@ use std::alloc::Global;
 use std::marker::Model;
 use stream_meaning::Part;
 
-/// The most instants of a run.
+/// The most instants of a run at once.
 pub const MAX_STRETCH: u32 = 2048;
 
 /// Room for a sum at each instant of a run, and for how many samples it has. Contracts see for how many instants, which
@@ -30,15 +30,15 @@ impl Model for Sums {
 }
 
 impl Sums {
-    /// No later call takes memory.
+    /// Room for the sums of any run. No later call takes memory.
     pub fn new(alloc: Global) -> Result<Sums, Memory> {
         let sums = vec![in alloc; 0; MAX_STRETCH as usize]?;
         let counts = vec![in alloc; 0; MAX_STRETCH as usize]?;
         Ok(Sums { sums, counts })
     }
 
-    /// One side of the samples of a sum: that of the children that offer, at each instant. Where none does nothing is
-    /// written.
+    /// Writes one side of the samples of a sum: at each instant that of the children that offer, by the lanes of all
+    /// nodes. Where no child offers nothing is written.
     pub fn sum(
         &mut self,
         children: &[u32],

@@ -31,7 +31,7 @@ pub fn summed(slots: &[Option<Cell>], normalize: bool) -> Option<Cell>
     })
 }
 
-/// The sum of so many samples and of one more.
+/// The sum of `parts` samples and of one more.
 pub fn added(sum: i32, parts: u16, sample: i16) -> i32
     requires few { parts < 65535 }
     requires sum { IsSumOf parts sum }
@@ -41,7 +41,7 @@ pub fn added(sum: i32, parts: u16, sample: i16) -> i32
     sum + i32::from(sample)
 }
 
-// The mean of so many samples, by their sum, or the sum cut to the range of a sample.
+// One sample of `parts`, by their sum: the mean with `normalize`, or the sum cut to the range of a sample.
 fn level(sum: i32, parts: u16, normalize: bool) -> i16
     requires some { 0 < parts }
     requires sum { IsSumOf parts sum }

@@ -8,7 +8,7 @@ use stream_meaning::Part;
 // What a node that has no lane gives over a run.
 static SILENCE: [i16; MAX_STRETCH as usize] = [0; MAX_STRETCH as usize];
 
-/// Whether a node offers a cell.
+/// Whether a node offers a cell, by what each node did at an instant.
 pub fn offers(parts: &[Part], node: u32) -> bool
     ensures { result ≡ offers_in parts.now node }
 {
@@ -30,7 +30,8 @@ pub fn first_that_offers(children: &[u32], parts: &[Part]) -> Option<u32>
     None
 }
 
-/// The samples of a node over so many instants of a run, by the lanes of the nodes: silence where it has no lane.
+/// The samples of a node over the first `count` instants of a run, by the lanes of the nodes: silence where it has no
+/// lane.
 pub fn samples_of(lanes: &[Vec<i16>], node: u32, count: usize) -> &[i16]
     requires short { count ≤ 2048 }
     ensures is { result.now ≡ samples_of lanes.now node count }
@@ -54,7 +55,7 @@ fn lane_of(lanes: &[Vec<i16>], node: u32) -> &[i16]
     }
 }
 
-// So many samples of silence.
+// `count` samples of silence.
 fn silence(count: usize) -> &'static [i16]
     requires short { count ≤ 2048 }
     ensures { result.now ≡ replicate count (pos 0) }

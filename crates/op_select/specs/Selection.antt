@@ -18,15 +18,15 @@ abbrev pub last_used : List ℕ → Option ℕ
 last_used [] = None
 last_used (child ∷ used) = Some child
 
--- the child offers a cell
+-- whether the child offers a cell
 abbrev pub offers : List Slot → ℕ → Bool
 offers slots child = is_some (slot_at slots child)
 
--- the child offers a cell that does not begin a track
+-- whether the child offers a cell that does not begin a track
 abbrev pub goes_on : List Slot → ℕ → Bool
 goes_on slots child = is_inner (slot_at slots child)
 
--- the child used last, if there is one, goes on with its track
+-- whether the child that was used last, if there is one, goes on with its track
 abbrev pub plays_on : List Slot → (last : Option ℕ) → Bool
 plays_on slots None = false
 plays_on slots (Some last) = goes_on slots last
@@ -43,19 +43,15 @@ abbrev pub first_offering : List Slot → ℕ → Option ℕ
 first_offering [] from = None
 first_offering (slot ∷ slots) from = if is_some slot then Some from else first_offering slots (suc from)
 
--- a fallback or a switch
---   where it is track-sensitive, and the child used last goes on with its track: that child
---   otherwise: the least eligible child that offers
+-- the child of a fallback or a switch: the one used last, where it is track-sensitive and that child goes on with its
+-- track; otherwise the first eligible child that offers
 abbrev pub first_pick : Bool → List Slot → List Bool → Option ℕ → Option ℕ
 first_pick true slots eligible (Some last) = if goes_on slots last then Some last else first_ready slots eligible 0
 first_pick true slots eligible None = first_ready slots eligible 0
 first_pick false slots eligible last = first_ready slots eligible 0
 
--- a sequence
---   where no child was used: the least that offers
---   where the child used last is the last of all: that child, if it offers
---   where the child used last goes on with its track: that child
---   otherwise: the least child after it that offers
+-- the child of a sequence: the first that offers, where none was used; the last of all once it was used, if it offers;
+-- the one used last while it goes on with its track; otherwise the first after it that offers
 abbrev pub turn_pick : List Slot → Option ℕ → Option ℕ
 turn_pick slots None = first_offering slots 0
 turn_pick slots (Some last) =
@@ -63,22 +59,23 @@ turn_pick slots (Some last) =
     else if goes_on slots last then Some last
     else first_offering (drop (suc last) slots) (suc last)
 
--- the child that a selection uses
+-- the child that a selection of this rule uses, by its children's slots, which are eligible, and the one used last
 abbrev pub pick_of : Rule → List Slot → List Bool → Option ℕ → Option ℕ
 pick_of (First sensitive) slots eligible last = first_pick sensitive slots eligible last
 pick_of Turns slots eligible last = turn_pick slots last
 
--- this is the child that was used last
+-- whether this is the child that was used last
 abbrev pub is_last : Option ℕ → ℕ → Bool
 is_last None child = false
 is_last (Some last) child = nat_eq last child
 
--- the child's cell, flagged where it was, where another child was used last, and where none was
+-- the child's cell, which is marked also where another child was used last, or none
 abbrev pub picked_cell : Option ℕ → ℕ → Cell → Cell
 picked_cell last child cell =
     record { left = cell.left; right = cell.right; first = cell.first || not (is_last last child); title = cell.title }
 
--- what a selection offers with this child; nothing without a child
+-- what a selection offers with this child, where `last` is the one used last; nothing without a child, or where that
+-- offers nothing
 abbrev pub picked : List Slot → Option ℕ → Option ℕ → Option Picked
 picked slots last None = None
 picked slots last (Some child) = with_cell (slot_at slots child)
@@ -87,7 +84,7 @@ picked slots last (Some child) = with_cell (slot_at slots child)
     with_cell None = None
     with_cell (Some cell) = Some (record { child = child; cell = picked_cell last child cell })
 
--- what a selection offers over its children's slots and marks
+-- what a selection offers, by its children's slots and which of them are eligible
 abbrev pub offered : Selection → List Slot → List Bool → Option Picked
 offered selection slots eligible =
     picked slots selection.last (pick_of selection.rule slots eligible selection.last)

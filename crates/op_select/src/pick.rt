@@ -4,7 +4,8 @@ ghost use Rattle.op_select.specs.Selection.{first_offering, first_pick, first_re
 
 use frame_core::Cell;
 
-/// The child of a fallback or a switch.
+/// The child that a fallback or a switch uses, by what its children offer, which are eligible, and the one that it used
+/// last; `None` where it uses none.
 pub fn pick_first(
     sensitive: bool,
     offers: &[Option<Cell>],
@@ -21,7 +22,7 @@ pub fn pick_first(
     find_ready(offers, eligible)
 }
 
-/// The child of a sequence.
+/// The child that a sequence uses, by what its children offer and the one that it used last; `None` where it uses none.
 pub fn pick_turn(offers: &[Option<Cell>], last: Option<u32>) -> Option<u32>
     requires { length offers.now < 2 ^ 32 }
     ensures { result ≡ turn_pick offers.now last }
@@ -39,7 +40,7 @@ pub fn pick_turn(offers: &[Option<Cell>], last: Option<u32>) -> Option<u32>
     }
 }
 
-/// Whether the child that was used last is in the middle of a track.
+/// Whether the child that was used last offers a cell in the middle of a track.
 pub fn plays_on(offers: &[Option<Cell>], last: Option<u32>) -> bool
     ensures { result ≡ plays_on offers.now last }
 {
@@ -52,7 +53,7 @@ pub fn plays_on(offers: &[Option<Cell>], last: Option<u32>) -> bool
     }
 }
 
-// The first eligible child that offers.
+// The first eligible child that offers a cell.
 fn find_ready(offers: &[Option<Cell>], eligible: &[bool]) -> Option<u32>
     requires marks { length eligible.now ≡ length offers.now }
     requires children { length offers.now < 2 ^ 32 }
@@ -66,7 +67,7 @@ fn find_ready(offers: &[Option<Cell>], eligible: &[bool]) -> Option<u32>
     None
 }
 
-// The first child from `start` on that offers.
+// The first child from `start` on that offers a cell.
 fn find_offering(offers: &[Option<Cell>], start: usize) -> Option<u32>
     requires { length offers.now < 2 ^ 32 }
     ensures { result ≡ first_offering (drop start offers.now) start }

@@ -27,7 +27,7 @@ impl Model for SelectState {
 }
 
 impl SelectState {
-    /// A selection over so many children, none of which was used yet.
+    /// A selection over so many children, before any was used.
     pub fn new(rule: Rule, children: u32) -> SelectState
         ensures { result ≡ record { rule = rule; children = children; last = last_used [] } }
     {
@@ -58,7 +58,7 @@ impl SelectState {
         })
     }
 
-    /// The child that was used last.
+    /// The child that was used last; `None` where none was.
     pub fn last(&self) -> Option<u32>
         ensures { result ≡ self.now.last }
     {

@@ -5,11 +5,11 @@ use Rattle.seed_words.specs.Words.{Unread}
 use Rattle.op_select.specs.Selection.{plays_on}
 use Rattle.op_turn.specs.Turns.{random_pick, rotated}
 
--- the child that a choice finds: without words a rotate's
+-- the child that a choice finds, by the words that a random has left; a rotate has none
 abbrev pub chosen_by : Option Unread → (last : Option ℕ) → List Slot → Option ℕ
 chosen_by None last slots = rotated slots last
 chosen_by (Some words) last slots = random_pick slots words.next
 
--- the child that is used
+-- the child that is used: the one used last while it goes on with its track, or else the one that a choice finds
 abbrev pub used_by : Option Unread → (last : Option ℕ) → List Slot → Option ℕ
 used_by words last slots = if plays_on slots last then last else chosen_by words last slots

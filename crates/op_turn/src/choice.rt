@@ -28,7 +28,7 @@ pub fn use_word(words: &mut Option<SeedWords>)
     }
 }
 
-/// The child that a rotate chooses.
+/// The child that a rotate chooses: the next one that offers after the child that was used last, in a ring.
 pub fn rotated(offers: &[Option<Cell>], last: Option<u32>) -> Option<u32>
     requires children { length offers.now < 2 ^ 32 }
     requires last { IfSome last (λ child. child < length offers.now) }
@@ -44,7 +44,7 @@ pub fn rotated(offers: &[Option<Cell>], last: Option<u32>) -> Option<u32>
     }
 }
 
-/// The child that a random chooses by this word.
+/// The child that a random chooses by this word, among those that offer; `None` where none does.
 pub fn drawn(offers: &[Option<Cell>], word: u32) -> Option<u32>
     requires { length offers.now < 2 ^ 32 }
     ensures { result ≡ random_pick offers.now word }
@@ -56,7 +56,7 @@ pub fn drawn(offers: &[Option<Cell>], word: u32) -> Option<u32>
     find_offering(offers, 0, word % count)
 }
 
-/// The child that is used, with the cell that is offered with it.
+/// The child that is used, with the cell that is offered with it; `last` is the one that was used last.
 pub fn picked(offers: &[Option<Cell>], last: Option<u32>, used: Option<u32>) -> Option<Pick>
     ensures { result ≡ picked offers.now last used }
 {
@@ -69,8 +69,7 @@ pub fn picked(offers: &[Option<Cell>], last: Option<u32>, used: Option<u32>) -> 
     })
 }
 
-// Of the children that offer, in their order, the one with this number, from 0. The first offer is that of child
-// `from`.
+// The child with this number, from 0, among those that offer, in their order. The first offer is that of child `from`.
 fn find_offering(offers: &[Option<Cell>], from: u32, number: u32) -> Option<u32>
     requires { from + length offers.now < 2 ^ 32 }
     ensures { result ≡ slice_get (offering_from offers.now from) number }

@@ -6,8 +6,8 @@ ghost use Rattle.op_select.specs.declared.rule.Picked.{Picked};
 ghost use Rattle.op_turn.specs.declared.turn.Turn.{Turn};
 ghost use Rattle.op_turn.specs.Turns.{offered, Past, past_behind, past_given};
 
-/// A cell that a rotate or a random gives is marked exactly where its child was found by a choice, so what is given
-/// tells the past behind it.
+/// A cell that a rotate or a random gives is marked exactly where its child was found by a choice, so the past after it
+/// follows from what was given.
 pub fn marked_cells_are_choices()
     ensures { (turn : Turn) (past : Past) (slots : List Slot) (pick : Picked) → Some pick ≡ offered turn past slots
         → past_behind turn past slots ≡ past_given past pick }

@@ -35,7 +35,7 @@ impl Model for TurnState {
 }
 
 impl TurnState {
-    /// A node over so many children that gave at no instant yet.
+    /// A rotate or a random over so many children, before the first instant at which it gave.
     pub fn new(turn: Turn, children: u32) -> TurnState
         ensures children { result.children ≡ children }
         ensures stands { StandsFor turn (past_of turn []) result }
@@ -59,7 +59,7 @@ impl TurnState {
         picked(offers, self.last, self.used(offers))
     }
 
-    /// Goes on by one instant at which the node gave, over what each child offered. Some child offered.
+    /// Goes on by one instant at which the node gave, where the children offered this. Some child offered.
     pub fn advance(&mut self, offers: &[Option<Cell>])
         requires offers { length offers.now ≡ self.old.children }
         requires some { list_any is_some offers.now ≡ true }
@@ -86,7 +86,8 @@ impl TurnState {
         }
     }
 
-    // The child that is used.
+    // The child that is used, by what each child offers: the one used last while it plays its track, or else one by
+    // choice.
     fn used(&self, offers: &[Option<Cell>]) -> Option<u32>
         requires { length offers.now ≡ self.now.children }
         ensures { result ≡ used_by self.now.words self.now.last offers.now }

@@ -7,10 +7,12 @@ use Rattle.parse_base.specs.declared.token.Class.{Class}
 use Rattle.parse_base.specs.declared.token.Class.TheVariants as class
 use Rattle.script_grammar.specs.Kinds.{is_added, is_and, is_any, is_assign, is_close_curly, is_close_round, is_close_square, is_comma, is_else, is_end, is_multiplied, is_not, is_open_round, is_or, is_semicolon, is_then}
 
+-- whether a token is a name
 abbrev pub is_name : TokenKind → Bool
 is_name (Name n) = true
 is_name k = false
 
+-- whether a token is a name with "(" behind it
 abbrev pub is_open_name : TokenKind → Bool
 is_open_name (NameOpen n) = true
 is_open_name k = false
@@ -23,7 +25,7 @@ abbrev pub is_if : TokenKind → Bool
 is_if (Keyword word.If) = true
 is_if k = false
 
--- the tokens of a class
+-- whether a token is in this class
 abbrev pub is_in : Class → TokenKind → Bool
 is_in class.Any = is_any
 is_in class.Name = is_name

@@ -10,11 +10,11 @@ use Rattle.parse_base.specs.declared.fault.Fault.TheVariants as faults
 abbrev pub token_kind : Token → TokenKind
 token_kind t = t.kind
 
--- the kinds of tokens
+-- what each of these tokens is, without where it stands
 abbrev pub kinds : List Token → List TokenKind
 kinds ts = map token_kind ts
 
--- want of memory is free, and a fault of the tokens is the one of reading
+-- a fault is right for what reading gives: want of memory always, and a fault of the tokens if reading stops there
 abbrev pub Fails : {Y : Type 0} → Fault → Result Y ℕ → Type 0
 Fails faults.Memory read = Unit {0}
 Fails (faults.Syntax left) read = read ≡ Err left
@@ -24,7 +24,7 @@ abbrev pub Gives : {X Y : Type 0} → (X → Y) → Result X Fault → Result Y 
 Gives view (Ok x) read = read ≡ Ok (view x)
 Gives view (Err e) read = Fails e read
 
--- the index of the token where so many are left
+-- the index of the token from which on so many of `total` are left
 abbrev pub places : ℕ → ℕ → ℕ
 places total left = total - left
 
@@ -35,7 +35,7 @@ pub record Reads {X Y : Type 0} (view : X → Y) (Whole : X → Type 0) (rule : 
   pub gives : Gives (λ x. (view x.0, kinds x.1.now)) result (rule (kinds tokens))
   pub whole : IfOk result (λ x. Whole x.0)
 
--- the same of a rule that may read nothing
+-- what was read of these tokens by a rule that may read nothing: a whole tree, and the tokens behind it
 pub record ReadsOn {X Y : Type 0} (view : X → Y) (Whole : X → Type 0) (rule : List TokenKind → Result (Y × List TokenKind) ℕ)
     (tokens : List Token) (result : Result (X × Bor (List Token)) Fault) : Type 0 where
   pub shorter : IfOk result (λ x. length x.1.now ≤ length tokens)

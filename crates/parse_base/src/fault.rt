@@ -10,7 +10,7 @@ pub enum Fault {
     /// Memory was refused.
     Memory,
 
-    /// The tokens from the fault on are so many.
+    /// Reading stops at a token: the tokens from there on are so many.
     Syntax(usize),
 }
 

@@ -26,8 +26,8 @@ pub fn predicate(alloc: Global, tokens: &[Token]) -> Result<(POr, &[Token]), Fau
     por(alloc, tokens.len() + 1, tokens)
 }
 
-// The same with so many levels at most: one for the predicate itself, and one for each that it nests. More
-// levels than tokens are enough.
+// A predicate of at most `levels` levels: one for itself, and one for each that it nests. More levels than tokens are
+// enough.
 #[cycle(predicate)]
 fn por(alloc: Global, levels: usize, tokens: &[Token]) -> Result<(POr, &[Token]), Fault>
     ensures { Reads view_por IsWholePOr (por_by levels) tokens.now result }
@@ -39,6 +39,7 @@ fn por(alloc: Global, levels: usize, tokens: &[Token]) -> Result<(POr, &[Token])
     }
 }
 
+// predicate: and (`or` and)*, where others nest in at most `levels` levels.
 #[cycle(predicate)]
 #[tactic(auto, unfolding(script_grammar::specs::ReadPredicate::por_step, script_grammar::specs::Read::chain))]
 fn por_step(alloc: Global, levels: usize, tokens: &[Token]) -> Result<(POr, &[Token]), Fault>
@@ -49,6 +50,7 @@ fn por_step(alloc: Global, levels: usize, tokens: &[Token]) -> Result<(POr, &[To
     Ok((make::predicate(first, others)?, rest))
 }
 
+// (`or` and)*
 #[cycle(predicate)]
 fn pands(alloc: Global, levels: usize, tokens: &[Token]) -> Result<(Vec<PAnd>, &[Token]), Fault>
     ensures shorter { IfOk result (λ x. length x.1.now ≤ length tokens.now) }
@@ -66,6 +68,7 @@ fn pands(alloc: Global, levels: usize, tokens: &[Token]) -> Result<(Vec<PAnd>, &
     Ok((items, rest))
 }
 
+// `or` and
 #[cycle(predicate)]
 #[tactic(auto, unfolding(script_grammar::specs::Read::behind))]
 fn or_pand(alloc: Global, levels: usize, tokens: &[Token]) -> Result<(PAnd, &[Token]), Fault>
@@ -75,6 +78,7 @@ fn or_pand(alloc: Global, levels: usize, tokens: &[Token]) -> Result<(PAnd, &[To
     pand(alloc, levels, rest)
 }
 
+// and: not (`and` not)*
 #[cycle(predicate)]
 #[tactic(auto, unfolding(script_grammar::specs::ReadPredicate::pand, script_grammar::specs::Read::chain))]
 fn pand(alloc: Global, levels: usize, tokens: &[Token]) -> Result<(PAnd, &[Token]), Fault>
@@ -85,6 +89,7 @@ fn pand(alloc: Global, levels: usize, tokens: &[Token]) -> Result<(PAnd, &[Token
     Ok((make::predicate_term(first, others)?, rest))
 }
 
+// (`and` not)*
 #[cycle(predicate)]
 fn pnots(alloc: Global, levels: usize, tokens: &[Token]) -> Result<(Vec<PNot>, &[Token]), Fault>
     ensures shorter { IfOk result (λ x. length x.1.now ≤ length tokens.now) }
@@ -102,6 +107,7 @@ fn pnots(alloc: Global, levels: usize, tokens: &[Token]) -> Result<(Vec<PNot>, &
     Ok((items, rest))
 }
 
+// `and` not
 #[cycle(predicate)]
 #[tactic(auto, unfolding(script_grammar::specs::Read::behind))]
 fn and_pnot(alloc: Global, levels: usize, tokens: &[Token]) -> Result<(PNot, &[Token]), Fault>
@@ -111,6 +117,7 @@ fn and_pnot(alloc: Global, levels: usize, tokens: &[Token]) -> Result<(PNot, &[T
     pnot(alloc, levels, rest)
 }
 
+// not: `not`? atom
 #[cycle(predicate)]
 #[tactic(auto, unfolding(script_grammar::specs::ReadPredicate::pnot))]
 fn pnot(alloc: Global, levels: usize, tokens: &[Token]) -> Result<(PNot, &[Token]), Fault>
@@ -121,6 +128,7 @@ fn pnot(alloc: Global, levels: usize, tokens: &[Token]) -> Result<(PNot, &[Token
     Ok((PNot { negated, atom }, rest))
 }
 
+// atom: `true` | `false` | time | time `-` time | `(` predicate `)`
 #[cycle(predicate)]
 #[tactic(auto, unfolding(script_grammar::specs::ReadPredicate::patom))]
 fn patom(alloc: Global, levels: usize, tokens: &[Token]) -> Result<(PAtom, &[Token]), Fault>
@@ -142,7 +150,7 @@ fn patom(alloc: Global, levels: usize, tokens: &[Token]) -> Result<(PAtom, &[Tok
     }
 }
 
-// A time mark, or two with a `-` between: the tokens behind the first.
+// time | time `-` time, behind the first time, which is `from`.
 #[tactic(auto, unfolding(script_grammar::specs::ReadPredicate::interval))]
 fn interval(from: TimeMark, tokens: &[Token]) -> Result<(PAtom, &[Token]), Fault>
     ensures shorter { IfOk result (λ x. length x.1.now ≤ length tokens.now) }

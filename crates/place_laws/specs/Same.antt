@@ -10,7 +10,7 @@ use Rattle.refusal_lines.specs.Lines.{wav_number}
 use Rattle.station_facts.specs.Files.{wav_number as told_number}
 use Rattle.about_cli.specs.Told.{IsRefused, sizes}
 
--- the number that is told of a fault of a WAV file is that of the line E21
+-- `about` tells a fault of a WAV file by the number that the line E21 has
 abbrev pub NumbersAgree : Type 0
 NumbersAgree = (fault : WavFault) → told_number fault ≡ wav_number fault
 
@@ -18,10 +18,11 @@ NumbersAgree = (fault : WavFault) → told_number fault ≡ wav_number fault
 abbrev pub RulesAgree : Type 0
 RulesAgree = (plan : Plan) → rules_for plan sizes ≡ rules_of plan
 
--- the output that a picture marks is the one that the line E25 names, and where it marks none there is no such line
+-- where a picture marks no output, there is no line E25
 abbrev pub NoneIsNone : Type 0
 NoneIsNone = (plan : Plan) (mark : ℕ → Bool) → IsRefused plan mark None → first_name (refuses mark) plan.sinks ≡ None
 
+-- the output that a picture marks is the one that the line E25 names
 abbrev pub OutputsAgree : Type 0
 OutputsAgree = (plan : Plan) (mark : ℕ → Bool) (k : ℕ) (sink : SinkPlan) → IsRefused plan mark (Some k)
     → slice_get plan.sinks k ≡ Some sink → first_name (refuses mark) plan.sinks ≡ Some (sink_name sink)

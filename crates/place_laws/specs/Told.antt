@@ -23,21 +23,24 @@ use Rattle.script_places.specs.Naming.{IsNamed}
 use Rattle.script_places.specs.declared.named.Named.{Named}
 use Rattle.script_places.specs.declared.named.Named.TheVariants.{Byte, Token, Statement, Source, Clash, Text, Fallible}
 
--- a text that stands behind these words
+-- a name is the place, as the part of the line after these words
 abbrev pub behind : List ℕ → List ℕ → Option Named
 behind words name = Some (Text (length words) (length words + length name))
 
+-- the place of a fault of bytes
 abbrev pub lex_place : LexFault → Option Named
 lex_place (BadByte at) = Some (Byte at)
 lex_place (UnclosedString at) = Some (Byte at)
 lex_place (NumberTooLarge at) = Some (Byte at)
 lex_place fault = None
 
+-- the place of a fault of tokens
 abbrev pub parse_place : ParseFault → Option Named
 parse_place (Syntax at) = Some (Token at)
 parse_place (TooDeep at) = Some (Token at)
 parse_place fault = None
 
+-- the place of a fault of types
 abbrev pub type_place : TypeFault → Option Named
 type_place (UnknownName stmt at) = Some (Token at)
 type_place (MissingArgument stmt at label) = Some (Token at)
@@ -46,6 +49,7 @@ type_place (RepeatedName stmt at) = Some (Token at)
 type_place (TypeClash stmt) = Some (Clash stmt)
 type_place fault = None
 
+-- the place of a fault of values
 abbrev pub eval_place : EvalFault → Option Named
 eval_place (BadSetting stmt) = Some (Statement stmt)
 eval_place (BadValue stmt at) = Some (Token at)
@@ -53,6 +57,7 @@ eval_place (TooMuchWork stmt) = Some (Statement stmt)
 eval_place (SameOutput name) = behind (codes "E18 two outputs ") name
 eval_place fault = None
 
+-- the place of a fault of a script
 abbrev pub script_place : ScriptFault → Option Named
 script_place (Lex fault) = lex_place fault
 script_place (Parse fault) = parse_place fault
@@ -60,31 +65,34 @@ script_place (ScriptFault.Type fault) = type_place fault
 script_place (Eval fault) = eval_place fault
 script_place fault = None
 
+-- the place of a fault of files
 abbrev pub file_place : LoadFault → Option Named
 file_place (Missing name) = behind (codes "E20 missing file ") name
 file_place (BadAudio name fault) = behind (codes "E21 bad audio ") name
 file_place (FileTooLarge name) = behind (codes "E23 file too large ") name
 file_place fault = None
 
+-- the place of a fault of clocks
 abbrev pub clock_place : ClockFault → Option Named
 clock_place (TwoClocks node first second) = Some (Source node)
 clock_place (Nested node) = Some (Source node)
 clock_place fault = None
 
+-- the place of a fault of a plan's files, outputs and clocks
 abbrev pub station_place : StationFault → Option Named
 station_place (Files fault) = file_place fault
 station_place (FallibleOutput name) = Some (Fallible 20 (20 + length name))
 station_place (Clocks fault) = clock_place fault
 station_place (OutputTooLong name) = behind (codes "E29 output too long ") name
 
--- of a fault; the others tell none
+-- the place that a fault tells, if it tells one
 abbrev pub place_of : Fault → Option Named
 place_of (Script fault) = script_place fault
 place_of (SameFile name) = behind (codes "E18 two outputs ") name
 place_of (Station fault) = station_place fault
 place_of fault = None
 
--- a number of the program, if it has one
+-- a place has a number that fits into 64 bits, if it has one
 abbrev pub IsSmall : Named → Type 0
 IsSmall (Byte n) = n < 2 ^ 64
 IsSmall (Token n) = n < 2 ^ 64
@@ -94,7 +102,7 @@ IsSmall (Clash n) = n < 2 ^ 64
 IsSmall (Text from to) = ⊤
 IsSmall (Fallible from to) = ⊤
 
--- a line names this place, or none
+-- a line names this place; or if there is none, it names none
 abbrev pub NamesIt : Option Named → List ℕ → Type 0
 NamesIt None line = (named : Named) → IsNamed line named → ⊥
 NamesIt (Some named) line = IsSmall named → IsNamed line named

@@ -19,23 +19,24 @@ use Rattle.clock_forcings.specs.Forcings.{id_or}
 use Rattle.plan_blames.specs.Needs.{needs}
 use Rattle.plan_blames.specs.Texts.{escaped}
 
--- whether source n is red for a silence: it is the one that was refused, or may offer nothing and is needed by a red
--- one of those behind it
+-- whether source n is red for a silence: it is the one that was refused, or it may offer nothing (`mark` is false) and
+-- a red source after it needs it; `reds` has of each of these whether it is red
 abbrev pub is_to_blame : (mark : ℕ → Bool) → (refused n : ℕ) → (behind : List Node) → (reds : List Bool) → Bool
 is_to_blame mark refused n behind reds = nat_eq n refused
     || (not (mark n) && list_any (λ pair. pair.1 && needs (pair.0).op (pair.0).children n) (zip behind reds))
 
--- the same of each of these sources, of which the first has this number
+-- of each of these sources whether it is red for the silence of source `refused`; the first one has number n
 abbrev pub reds_from : (mark : ℕ → Bool) → (refused n : ℕ) → List Node → List Bool
 reds_from mark refused n [] = []
 reds_from mark refused n (node ∷ nodes) = is_to_blame mark refused n nodes (reds_from mark refused (suc n) nodes)
     ∷ reds_from mark refused (suc n) nodes
 
+-- the line of a source without children: that it has nothing to play
 abbrev pub childless_words : (children : List ℕ) → List ℕ
 childless_words [] = codes "\\nhas nothing to play"
 childless_words (child ∷ children) = []
 
--- of a red source why it may offer nothing, where that lies in itself
+-- why a red source may offer nothing, if that lies in itself: a line of its label
 abbrev pub reason : Op → (children : List ℕ) → List ℕ
 reason (Playlist file again) children = codes "\\nmay have no file to play"
 reason (Buffer number) children = codes "\\nmay run dry"
@@ -43,28 +44,32 @@ reason Fail children = codes "\\nnever plays"
 reason (Switch sensitive preds) children = if list_any is_always preds then [] else codes "\\nno case is always true"
 reason _ children = childless_words children
 
--- a clock that was asked for
+-- how a picture calls a clock that was asked for
 abbrev pub name_text : ClockName → List ℕ
 name_text (Named id) = escaped id
 name_text (ClockName.Sub k) = codes "crossfade " ++ decimal k
 name_text AnyMain = codes "an output"
 
+-- how a picture calls two clocks that were asked for
 abbrev pub both_names : (first second : ClockName) → List ℕ
 both_names first second = name_text first ++ (codes " and " ++ name_text second)
 
+-- whether source k is a clock node of this id
 abbrev pub clock_asks : (id : List ℕ) → (k : ℕ) → Op → Bool
 clock_asks id k (Clock written) = bytes_eq id (id_or k written)
 clock_asks id k _ = false
 
--- whether source k is one that asks for this clock: a clock of this id, or this crossfade
+-- whether source k is one that asks for this clock: it is a clock node of this id, or this crossfade
 abbrev pub asks : ClockName → (k : ℕ) → Op → Bool
 asks (Named id) k op = clock_asks id k op
 asks (ClockName.Sub j) k op = nat_eq j k
 asks AnyMain k op = false
 
+-- whether source k asks for one of these two clocks
 abbrev pub either_asks : (first second : ClockName) → (k : ℕ) → Op → Bool
 either_asks first second k op = asks first k op || asks second k op
 
+-- which clock source k wants for what it plays: a line of its label
 abbrev pub asking : (k : ℕ) → Op → List ℕ
 asking k (Clock id) = codes "\\nwants clock " ++ (escaped (id_or k id) ++ codes " for what it plays")
 asking k _ = codes "\\nwants its own clock for what it plays"
@@ -77,18 +82,22 @@ clock_red (Err (Nested node)) k op = nat_eq node k
 clock_red (Err TooManyClocks) k op = false
 clock_red (Err Memory) k op = false
 
+-- the line of the source that two clocks would drive, if a source is that one
 abbrev pub shared_words : (is_it : Bool) → (first second : ClockName) → List ℕ
 shared_words true first second = codes "\\nE26 under clocks " ++ both_names first second
 shared_words false first second = []
 
+-- the line of source k, if it asks for a clock: which one it wants
 abbrev pub asking_words : (asks : Bool) → (k : ℕ) → Op → List ℕ
 asking_words true k op = asking k op
 asking_words false k op = []
 
+-- the line of the crossfade that lies in its own clock, if a source is that one
 abbrev pub nested_words : (is_it : Bool) → List ℕ
 nested_words true = codes "\\nE27 lies in its own clock"
 nested_words false = []
 
+-- the lines of source k for a fault of clocks
 abbrev pub clock_words : Result ClockMap ClockFault → (k : ℕ) → Op → List ℕ
 clock_words (Ok map) k op = []
 clock_words (Err (TwoClocks node first second)) k op = shared_words (nat_eq node k) first second
@@ -97,25 +106,28 @@ clock_words (Err (Nested node)) k op = nested_words (nat_eq node k)
 clock_words (Err TooManyClocks) k op = []
 clock_words (Err Memory) k op = []
 
--- whether source k is red: a silence comes before a fault of clocks
+-- whether source k is red: for the silence, if the plan is refused for one, and otherwise for a fault of clocks
 abbrev pub node_red : (silent : Bool) → (reds : List Bool) → Result ClockMap ClockFault → (k : ℕ) → Op → Bool
 node_red true reds clocks k op = mark_at reds k
 node_red false reds clocks k op = clock_red clocks k op
 
+-- the line of a source that may be red for a silence: its reason, if it is red
 abbrev pub reason_words : (red : Bool) → Node → List ℕ
 reason_words true node = reason node.op node.children
 reason_words false node = []
 
+-- the lines that say why source k is red: for the silence, if the plan is refused for one, and otherwise for a fault of
+-- clocks
 abbrev pub red_words : (silent red : Bool) → Result ClockMap ClockFault → (k : ℕ) → Node → List ℕ
 red_words true red clocks k node = reason_words red node
 red_words false red clocks k node = clock_words clocks k node.op
 
--- whether the edge from this child to source k is red
+-- whether the edge from this child to source k is red; `silent` says that the plan is refused for a silence
 abbrev pub edge_red : (silent : Bool) → (reds : List Bool) → Result ClockMap ClockFault → (k child : ℕ) → Bool
 edge_red true reds clocks k child = mark_at reds k && mark_at reds child
 edge_red false reds (Err (Nested node)) k child = nat_eq node k
 edge_red false reds _ k child = false
 
--- the source of a sink that was refused
+-- the number of the source of the sink that was refused
 abbrev pub refused_node : List SinkPlan → (sink : ℕ) → ℕ
 refused_node sinks sink = option_map_or (λ s. sink_node s) (slice_get sinks sink) 0

@@ -9,18 +9,20 @@ use Rattle.clock_infer.specs.declared.clock_map.ClockFault.TheVariants.{TwoClock
 use Rattle.plan_blames.specs.Texts.{numbered}
 use Rattle.plan_blames.specs.Blames.{both_names}
 
--- whether source k is in the group of one of these
+-- whether source k is in the group of one of these sources
 abbrev pub shares : (group : ℕ → ℕ) → (these : List ℕ) → (k : ℕ) → Bool
 shares group these k = list_any (λ source. nat_eq (group source) (group k)) these
 
+-- the name of source k in the region, if it is in it
 abbrev pub red_member : (is_in : Bool) → (k : ℕ) → List ℕ
 red_member true k = codes "n" ++ decimal k ++ codes "; "
 red_member false k = []
 
--- the sources of the groups of these, each once
+-- the names of the sources in the groups of these, each once
 abbrev pub red_members : (group : ℕ → ℕ) → (these : List ℕ) → List Node → List ℕ
 red_members group these nodes = numbered (λ k node. red_member (shares group these k) k) 0 nodes
 
+-- the rest of a red region, after its label: how it looks, and the sources in the groups of these
 abbrev pub red_rest : (group : ℕ → ℕ) → (these : List ℕ) → List Node → List ℕ
 red_rest group these nodes = codes "\"; style=\"rounded,dashed\"; color=\"#b3261e\"; fontsize=11;\n"
     ++ (red_members group these nodes ++ codes "}\n")
@@ -29,34 +31,38 @@ red_rest group these nodes = codes "\"; style=\"rounded,dashed\"; color=\"#b3261
 abbrev pub red_region : (label : List ℕ) → (group : ℕ → ℕ) → (these : List ℕ) → List Node → List ℕ
 red_region label group these nodes = codes "subgraph cluster_red { label=\"" ++ (label ++ red_rest group these nodes)
 
--- that a group would be driven by both of these clocks
+-- the label of the region of a group for which both of these clocks are wanted
 abbrev pub shared_label : (first second : ClockName) → List ℕ
 shared_label first second = codes "one clock for all of these, but " ++ (both_names first second ++ codes " are wanted")
 
+-- the label of the region of what lies in the own clock of crossfade k
 abbrev pub own_label : (k : ℕ) → List ℕ
 own_label k = codes "own clock of crossfade " ++ decimal k
 
+-- the children of source k; none where there is no such source
 abbrev pub children_at : List Node → (k : ℕ) → List ℕ
 children_at nodes k = option_map_or (λ node. node.children) (slice_get nodes k) []
 
--- round what one clock would drive: the group that is forced into two, or what lies in the clock of a crossfade that
--- lies in it too
+-- the region of a fault of clocks: round the group that two clocks would drive, or round what lies in the clock of a
+-- crossfade that lies in it too
 abbrev pub fault_region : List Node → ClockFault → (group : ℕ → ℕ) → List ℕ
 fault_region nodes (TwoClocks node first second) group = red_region (shared_label first second) group (node ∷ []) nodes
 fault_region nodes (Nested node) group = red_region (own_label node) group (children_at nodes node) nodes
 fault_region nodes TooManyClocks group = []
 fault_region nodes Memory group = []
 
+-- the line over a picture for a fault of clocks
 abbrev pub heading : ClockFault → List ℕ
 heading (TwoClocks node first second) = codes "E26 a source would be driven by two clocks"
 heading (Nested node) = codes "E27 a crossfade lies in its own clock"
 heading TooManyClocks = codes "E28 more than 64 clocks would run"
 heading Memory = []
 
+-- the heading of a picture for a fault of clocks, as graphviz reads it
 abbrev pub told_text : ClockFault → List ℕ
 told_text fault = codes "labelloc=t; fontcolor=\"#b3261e\"; label=\"" ++ (heading fault ++ codes "\";\n")
 
--- a fault of clocks is told where no silence is
+-- what a picture tells of a fault of clocks: nothing if the plan is refused for a silence
 abbrev pub fault_text : (silent : Bool) → List Node → ClockFault → (group : ℕ → ℕ) → List ℕ
 fault_text true nodes fault group = []
 fault_text false nodes fault group = told_text fault ++ fault_region nodes fault group

@@ -7,6 +7,7 @@ use Rattle.plan_core.specs.declared.node.Op.{Op}
 use Rattle.time_pred.specs.Predicates.{Predicate, is_always}
 use Rattle.fallible_infer.specs.Infallible.{Rests, OnCases, OnLast, last_of, rests_of}
 
+-- the other number is that of this child
 abbrev pub is_child : (child other : ℕ) → Bool
 is_child child other = nat_eq other child
 
@@ -14,41 +15,44 @@ is_child child other = nat_eq other child
 abbrev pub is_case : (child : ℕ) → Predicate × ℕ → Bool
 is_case child pair = is_always pair.0 && is_child child pair.1
 
+-- the child is one of the children
 abbrev pub some_child : (children : List ℕ) → (child : ℕ) → Bool
 some_child children child = list_any (is_child child) children
 
+-- the child is the last of the children
 abbrev pub is_last : (children : List ℕ) → (child : ℕ) → Bool
 is_last children child = option_map_or (is_child child) (last_of children) false
 
+-- the child has a case whose predicate is always true by its form
 abbrev pub some_case : List Predicate → (children : List ℕ) → (child : ℕ) → Bool
 some_case preds children child = list_any (is_case child) (zip preds children)
 
--- whether a source that rests on this, and may offer nothing, needs this child, so that it would always offer something
--- if this child did: where it rests on its last child, that one; where on its cases, each whose predicate is always
--- true; and else each of its children
+-- Whether a source that may offer nothing needs this child, so that it would always offer something if this child did.
+-- A source that rests on its last child needs that one; one that rests on its cases, each whose predicate is always
+-- true; and another, each of its children.
 abbrev pub needs_on : Rests → (children : List ℕ) → (child : ℕ) → Bool
 needs_on (OnCases preds) children child = some_case preds children child
 needs_on OnLast children child = is_last children child
 needs_on _ children child = some_child children child
 
--- the same for a source of this operator
+-- whether a source of this operator that may offer nothing needs this child
 abbrev pub needs : Op → (children : List ℕ) → (child : ℕ) → Bool
 needs op children child = needs_on (rests_of op) children child
 
--- no number but this one passes
+-- no number but this one passes the test
 abbrev pub IsAlone : (ℕ → Bool) → ℕ → Type 0
 IsAlone test one = (other : ℕ) → test other ≡ true → other ≡ one
 
--- another one than this passes
+-- another number than this one passes the test
 abbrev pub HasOther : (ℕ → Bool) → ℕ → Type 0
 HasOther test one = (other : ℕ) × (test other ≡ true) × (other ≢ one)
 
--- the one number that passes; nothing where none does, or several do
+-- the one number that passes the test; nothing where none does, or several do
 abbrev pub IsOnly : (ℕ → Bool) → Option ℕ → Type 0
 IsOnly test (Some one) = (test one ≡ true) × IsAlone test one
 IsOnly test None = (one : ℕ) → test one ≡ true → HasOther test one
 
--- the one source that source n needs, where it may offer nothing
+-- the one source that source n needs if it may offer nothing; `None` where it needs none, or several
 pub record IsOnlyNeeded (nodes : List Node) (n : ℕ) (needed : Option ℕ) : Type 0 where
   pub node : Node
   pub there : slice_get nodes n ≡ Some node
@@ -59,7 +63,7 @@ pub data Leads (nodes : List Node) (from : ℕ) : ℕ → Type 0 where
   here : Leads nodes from from
   below : (n child : ℕ) → Leads nodes from n → IsOnlyNeeded nodes n (Some child) → Leads nodes from child
 
--- where a silence is to be mended: as far down from a source as one source alone is needed
+-- a silence of source `from` is to be mended at source n: as far down as one source alone is needed
 pub record IsCause (nodes : List Node) (from n : ℕ) : Type 0 where
   pub leads : Leads nodes from n
   pub ends : IsOnlyNeeded nodes n None

@@ -23,7 +23,8 @@ pub fn mark(marks: &[bool], number: usize) -> bool
     marks.get(number).copied().unwrap_or(false)
 }
 
-/// Whether source k is red.
+/// Whether source k is red: by `reds` if the plan is refused for a silence (`silent`), and otherwise for a fault of
+/// clocks.
 pub fn is_red(
     alloc: Global,
     silent: bool,
@@ -41,6 +42,7 @@ pub fn is_red(
     }
 }
 
+// Whether source k is red for a fault of clocks.
 fn is_clock_red(
     alloc: Global,
     clocks: &Result<ClockMap, ClockFault>,
@@ -64,6 +66,7 @@ fn is_clock_red(
     }
 }
 
+// Whether source k asks for one of these two clocks.
 fn either_asks(
     alloc: Global,
     first: &ClockName,
@@ -89,6 +92,7 @@ fn asks(alloc: Global, name: &ClockName, k: u64, op: &Op) -> Result<bool, Memory
     }
 }
 
+// Whether source k is a clock node of this id.
 fn clock_asks(alloc: Global, id: &str, k: u64, op: &Op) -> Result<bool, Memory>
     ensures { IfOk result (λ yes. yes ≡ clock_asks id.now k op.now) }
 {
@@ -101,7 +105,7 @@ fn clock_asks(alloc: Global, id: &str, k: u64, op: &Op) -> Result<bool, Memory>
     }
 }
 
-/// Whether the edge from a child to source k is red.
+/// Whether the edge from a child to source k is red; `silent` says that the plan is refused for a silence.
 pub fn is_edge_red(
     silent: bool,
     reds: &[bool],
@@ -120,7 +124,8 @@ pub fn is_edge_red(
     }
 }
 
-/// Appends why source k is red, where that lies in itself.
+/// Appends the lines that say why source k is red. If the plan is refused for a silence (`silent`), that is its own
+/// reason if it is to blame (`red`); otherwise it is a fault of clocks.
 pub fn push_red_words(
     alloc: Global,
     into: &mut Vec<u8>,
@@ -139,6 +144,7 @@ pub fn push_red_words(
     }
 }
 
+// Appends why a source may offer nothing, if it is red.
 fn push_reason_words(into: &mut Vec<u8>, red: bool, node: &Node) -> Result<(), Memory>
     ensures { OnOk result (into.new.items ≡ into.old.items ++ reason_words red node.now) }
 {
@@ -149,6 +155,7 @@ fn push_reason_words(into: &mut Vec<u8>, red: bool, node: &Node) -> Result<(), M
     }
 }
 
+// Appends why a red source may offer nothing, if that lies in itself.
 fn push_reason(into: &mut Vec<u8>, op: &Op, children: &[u32]) -> Result<(), Memory>
     ensures { OnOk result (into.new.items ≡ into.old.items ++ reason op.now children.now) }
 {
@@ -161,6 +168,7 @@ fn push_reason(into: &mut Vec<u8>, op: &Op, children: &[u32]) -> Result<(), Memo
     }
 }
 
+// Appends that no case of a switch is always true, if none is.
 fn push_switch_reason(into: &mut Vec<u8>, preds: &[SharedPred]) -> Result<(), Memory>
     ensures { OnOk result (into.new.items ≡ into.old.items
         ++ (if list_any is_always (map view_shared preds.now) then [] else codes "\\nno case is always true")) }
@@ -184,6 +192,7 @@ fn some_always(preds: &[SharedPred]) -> bool
     false
 }
 
+// Appends that a source has nothing to play, if it has no children.
 fn push_childless(into: &mut Vec<u8>, children: &[u32]) -> Result<(), Memory>
     ensures { OnOk result (into.new.items ≡ into.old.items ++ childless_words children.now) }
 {
@@ -194,6 +203,7 @@ fn push_childless(into: &mut Vec<u8>, children: &[u32]) -> Result<(), Memory>
     }
 }
 
+// Appends the lines of source k for a fault of clocks.
 fn push_clock_words(
     alloc: Global,
     into: &mut Vec<u8>,
@@ -218,6 +228,7 @@ fn push_clock_words(
     }
 }
 
+// Appends that a crossfade lies in its own clock, if this is the one.
 fn push_nested(into: &mut Vec<u8>, is_it: bool) -> Result<(), Memory>
     ensures { OnOk result (into.new.items ≡ into.old.items ++ nested_words is_it) }
 {
@@ -228,6 +239,7 @@ fn push_nested(into: &mut Vec<u8>, is_it: bool) -> Result<(), Memory>
     }
 }
 
+// Appends the lines of source k where two clocks would drive a source; `is_it` says that this is source k.
 fn push_two_clocks(
     alloc: Global,
     into: &mut Vec<u8>,
@@ -246,6 +258,7 @@ fn push_two_clocks(
     push_asking_words(alloc, into, asks, k, op)
 }
 
+// Appends under which two clocks a source would be, if this is the one.
 fn push_shared(
     into: &mut Vec<u8>,
     is_it: bool,
@@ -261,6 +274,7 @@ fn push_shared(
     }
 }
 
+// Appends under which two clocks a source would be.
 fn push_both(into: &mut Vec<u8>, first: &ClockName, second: &ClockName) -> Result<(), Memory>
     ensures { OnOk result (into.new.items ≡ into.old.items
         ++ (codes "\\nE26 under clocks " ++ both_names first.now second.now)) }
@@ -278,6 +292,7 @@ pub fn push_names(into: &mut Vec<u8>, first: &ClockName, second: &ClockName) -> 
     push_name(into, second)
 }
 
+// Appends how a picture calls a clock that was asked for.
 fn push_name(into: &mut Vec<u8>, name: &ClockName) -> Result<(), Memory>
     ensures { OnOk result (into.new.items ≡ into.old.items ++ name_text name.now) }
 {
@@ -288,6 +303,7 @@ fn push_name(into: &mut Vec<u8>, name: &ClockName) -> Result<(), Memory>
     }
 }
 
+// Appends which clock source k wants, if it asks for one.
 fn push_asking_words(
     alloc: Global,
     into: &mut Vec<u8>,
@@ -304,6 +320,7 @@ fn push_asking_words(
     }
 }
 
+// Appends which clock source k wants for what it plays.
 fn push_asking(alloc: Global, into: &mut Vec<u8>, k: u64, op: &Op) -> Result<(), Memory>
     ensures { OnOk result (into.new.items ≡ into.old.items ++ asking k op.now) }
 {
@@ -316,7 +333,7 @@ fn push_asking(alloc: Global, into: &mut Vec<u8>, k: u64, op: &Op) -> Result<(),
     }
 }
 
-/// The source of the sink of this number.
+/// The number of the source of this sink; 0 where there is no such sink.
 pub fn refused_node(sinks: &[SinkPlan], sink: u32) -> u32
     ensures { result ≡ refused_node sinks.now sink }
 {

@@ -20,7 +20,7 @@ pub fn cause(nodes: &[Node], from: u32) -> u32
     at
 }
 
-// The one source that source n needs.
+// The one source that source n needs; `None` where it needs none, or several.
 fn needed_at(nodes: &[Node], n: u32) -> Option<u32>
     requires nodes { AreNodes nodes.now }
     requires there { n < length nodes.now }

@@ -9,7 +9,8 @@ use clock_infer::{ClockFault, ClockName};
 use liq_base::Memory;
 use plan_core::Node;
 
-/// Appends what is told of a fault of clocks: nothing where a silence is told.
+/// Appends what is told of a fault of clocks: nothing if the plan is refused for a silence (`silent`). `groups` has the
+/// group of each source.
 pub fn push_fault(
     into: &mut Vec<u8>,
     silent: bool,
@@ -27,6 +28,7 @@ pub fn push_fault(
     push_region(into, nodes, fault, groups)
 }
 
+// Appends the heading of a picture for a fault of clocks.
 fn push_told(into: &mut Vec<u8>, fault: &ClockFault) -> Result<(), Memory>
     ensures { OnOk result (into.new.items ≡ into.old.items ++ told_text fault.now) }
 {
@@ -35,6 +37,7 @@ fn push_told(into: &mut Vec<u8>, fault: &ClockFault) -> Result<(), Memory>
     push_plain(into, b"\";\n")
 }
 
+// Appends the line over a picture for a fault of clocks.
 fn push_heading(into: &mut Vec<u8>, fault: &ClockFault) -> Result<(), Memory>
     ensures { OnOk result (into.new.items ≡ into.old.items ++ heading fault.now) }
 {
@@ -48,7 +51,7 @@ fn push_heading(into: &mut Vec<u8>, fault: &ClockFault) -> Result<(), Memory>
     }
 }
 
-// Appends the region round the sources of the group of the fault.
+// Appends the region round the sources that would share a clock, if the fault is of such.
 fn push_region(
     into: &mut Vec<u8>,
     nodes: &[Node],
@@ -70,6 +73,7 @@ fn push_region(
     }
 }
 
+// Appends the region round the group of this source, which two clocks would drive.
 fn push_shared_region(
     into: &mut Vec<u8>,
     nodes: &[Node],
@@ -87,6 +91,7 @@ fn push_shared_region(
     Ok(())
 }
 
+// Appends the label of a group for which both of these clocks are wanted.
 fn push_shared_label(
     into: &mut Vec<u8>,
     first: &ClockName,
@@ -99,6 +104,7 @@ fn push_shared_label(
     push_plain(into, b" are wanted")
 }
 
+// Appends the region round what lies in the own clock of this crossfade.
 fn push_own_region(
     into: &mut Vec<u8>,
     nodes: &[Node],
@@ -114,12 +120,14 @@ fn push_own_region(
     Ok(())
 }
 
+// Appends the label of what lies in the own clock of crossfade k.
 fn push_own_label(into: &mut Vec<u8>, k: u64) -> Result<(), Memory>
     ensures { OnOk result (into.new.items ≡ into.old.items ++ own_label k) }
 {
     push_number(into, b"own clock of crossfade ", k)
 }
 
+// Appends the rest of a region, after its label, round the groups of the children of this crossfade.
 fn push_own_rest(
     into: &mut Vec<u8>,
     nodes: &[Node],
@@ -135,6 +143,7 @@ fn push_own_rest(
     }
 }
 
+// Appends the rest of a region, after its label: how it looks, and the sources in the groups of `these`.
 fn push_red_rest(
     into: &mut Vec<u8>,
     groups: &[u32],
@@ -153,6 +162,7 @@ fn push_red_rest(
     Ok(())
 }
 
+// Appends the names of the sources in the groups of `these`.
 fn push_red_members(
     into: &mut Vec<u8>,
     groups: &[u32],
@@ -168,6 +178,7 @@ fn push_red_members(
     Ok(())
 }
 
+// Appends the name of source k, if it is in the region.
 fn push_red_member(into: &mut Vec<u8>, is_in: bool, k: u64) -> Result<(), Memory>
     ensures { OnOk result (into.new.items ≡ into.old.items ++ red_member is_in k) }
 {
@@ -178,7 +189,7 @@ fn push_red_member(into: &mut Vec<u8>, is_in: bool, k: u64) -> Result<(), Memory
     }
 }
 
-// Whether source k is in the group of one of these.
+// Whether source k is in the group of one of `these`.
 fn shares(groups: &[u32], these: &[u32], k: u64) -> bool
     ensures { result ≡ shares (λ source. slice_index groups.now source) these.now k }
 {

@@ -5,7 +5,7 @@ ghost use Rattle.clock_forcings.specs.Forcings.{id_or};
 use liq_base::{Memory, Text};
 use std::alloc::Global;
 
-/// The id of clock node k, of which the script says this.
+/// The id of the clock of node k, a `clock(..)`: the one that the script wrote, or `clock.k` if it wrote none.
 pub fn id_of(alloc: Global, k: u64, written: &Text) -> Result<String, Memory>
     ensures { IfOk result (λ id. string_bytes id ≡ id_or k written.now) }
 {
@@ -15,7 +15,7 @@ pub fn id_of(alloc: Global, k: u64, written: &Text) -> Result<String, Memory>
     Ok(String::from_str(alloc, written.as_str())?)
 }
 
-// The id of a clock node without one.
+// The id of clock node k, for which the script wrote none: `clock.k`.
 fn numbered(alloc: Global, k: u64) -> Result<String, Memory>
     ensures { IfOk result (λ id. string_bytes id ≡ id_or k []) }
 {

@@ -7,14 +7,14 @@ ghost use Rattle.plan_core.specs.Plans.{AreNodes, HasChildren};
 ghost use Rattle.plan_blames.specs.Blames.{reds_from};
 ghost use Rattle.plan_blames.specs.Needs.{Leads, needs};
 
-/// Where a source that is needed never falls silent, the one that needs it does not.
+/// If a source that is needed never falls silent, the source that needs it does not either.
 pub fn needed_mends()
     ensures { (mark : ℕ → Bool) (op : PlanOp) (children : List ℕ) (child : ℕ)
         → HasChildren op (length children) → needs op children child ≡ true
         → mark child ≡ true → infallible_by mark op children ≡ true }
 {}
 
-/// Whatever is needed for a source that was refused, one source after the other, is red.
+/// From a refused source down, from each to the only one that it needs, all sources are red.
 pub fn needed_is_red()
     ensures { (nodes : List PlanNode) (mark : ℕ → Bool) (refused n : ℕ)
         → AreNodes nodes → IsMarking nodes mark → refused < length nodes

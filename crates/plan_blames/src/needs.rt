@@ -8,7 +8,8 @@ ghost use Rattle.plan_blames.specs.Needs.{HasOther, IsAlone, IsOnly, is_last, ne
 use plan_core::Op;
 use time_pred::SharedPred;
 
-/// Whether a source of this operator over these children, where it may offer nothing, does so for this one.
+/// Whether a source of this operator over these children, if it may offer nothing, needs this one: it would always
+/// offer something if this one did.
 pub fn needs(op: &Op, children: &[u32], child: u64) -> bool
     ensures { result ≡ needs op.now children.now child }
 {
@@ -32,6 +33,7 @@ fn is_sure(preds: &[SharedPred], children: &[u32], child: u64) -> bool
     false
 }
 
+// Whether a child is the last one.
 fn is_last(children: &[u32], child: u64) -> bool
     ensures { result ≡ is_last children.now child }
 {
@@ -41,6 +43,7 @@ fn is_last(children: &[u32], child: u64) -> bool
     }
 }
 
+// Whether a child is one of these.
 fn contains(children: &[u32], child: u64) -> bool
     ensures { result ≡ some_child children.now child }
 {
@@ -88,7 +91,7 @@ fn first_sure(preds: &[SharedPred], children: &[u32]) -> Option<u32>
     None
 }
 
-// This one, where no predicate of another child is always true by its form.
+// `first`, if no predicate of another child is always true by its form, and otherwise nothing.
 fn lone_sure(preds: &[SharedPred], children: &[u32], first: u32) -> Option<u32>
     requires { some_case (map view_shared preds.now) children.now first ≡ true }
     ensures { IsOnly (some_case (map view_shared preds.now) children.now) result }
@@ -99,7 +102,7 @@ fn lone_sure(preds: &[SharedPred], children: &[u32], first: u32) -> Option<u32>
     Some(first)
 }
 
-// Whether a predicate of another child is always true by its form.
+// Whether a predicate of another child than `first` is always true by its form.
 fn other_sure(preds: &[SharedPred], children: &[u32], first: u32) -> bool
     ensures yes { result ≡ true → HasOther (some_case (map view_shared preds.now) children.now) first }
     ensures no { result ≡ false → IsAlone (some_case (map view_shared preds.now) children.now) first }
@@ -113,7 +116,7 @@ fn other_sure(preds: &[SharedPred], children: &[u32], first: u32) -> bool
     false
 }
 
-// Whether a predicate is always true by its form, of another child than this one.
+// Whether a predicate is always true by its form, and its child is another one than `first`.
 fn is_other_case(pred: &SharedPred, child: u32, first: u32) -> bool
     ensures yes { result ≡ true → (is_always (view_shared pred.now) ≡ true) × (child ≢ first) }
     ensures no { result ≡ false → is_always (view_shared pred.now) ≡ true → child ≡ first }
@@ -121,20 +124,21 @@ fn is_other_case(pred: &SharedPred, child: u32, first: u32) -> bool
     if pred.always() { child != first } else { false }
 }
 
-// The last child.
+// The last child, which alone is needed; nothing where there is none.
 fn only_last(children: &[u32]) -> Option<u32>
     ensures { IsOnly (is_last children.now) result }
 {
     last_of(children)
 }
 
+// The last child; nothing where there is none.
 fn last_of(children: &[u32]) -> Option<u32>
     ensures { result ≡ last_of children.now }
 {
     children.last().copied()
 }
 
-// The child that all children are.
+// The one child that all children are; nothing where there is none, or another.
 fn only_child(children: &[u32]) -> Option<u32>
     ensures { IsOnly (some_child children.now) result }
 {
@@ -144,13 +148,14 @@ fn only_child(children: &[u32]) -> Option<u32>
     }
 }
 
+// The first child; nothing where there is none.
 fn first_of(children: &[u32]) -> Option<u32>
     ensures { result ≡ slice_get children.now 0 }
 {
     children.first().copied()
 }
 
-// This one, where there is no other.
+// `first`, if there is no other child, and otherwise nothing.
 fn lone_child(children: &[u32], first: u32) -> Option<u32>
     requires { some_child children.now first ≡ true }
     ensures { IsOnly (some_child children.now) result }
@@ -161,7 +166,7 @@ fn lone_child(children: &[u32], first: u32) -> Option<u32>
     Some(first)
 }
 
-// Whether there is another child.
+// Whether there is another child than `first`.
 fn other_child(children: &[u32], first: u32) -> bool
     ensures yes { result ≡ true → HasOther (some_child children.now) first }
     ensures no { result ≡ false → IsAlone (some_child children.now) first }

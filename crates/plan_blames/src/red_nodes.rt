@@ -11,8 +11,8 @@ use liq_base::Memory;
 use plan_core::Node;
 use std::alloc::Global;
 
-/// Of each source whether it is to blame for the silence of the source that was refused: that one is, and each source
-/// that may offer nothing and for which one to blame does.
+/// Of each source whether it is to blame for a silence: the refused one is, and so is each source that may offer
+/// nothing and that a source to blame needs. `marks` has of each source whether it always offers something.
 pub fn reds(
     alloc: Global,
     nodes: &[Node],
@@ -31,7 +31,7 @@ pub fn reds(
     Ok(reds)
 }
 
-// Whether source k is to blame, by those behind it.
+// Whether source k is to blame; of each source after it `reds` says so already.
 fn is_to_blame(nodes: &[Node], reds: &[bool], marks: &[bool], refused: u32, k: usize) -> bool
     requires here { k < length nodes.now }
     requires size { length reds.now ≡ length nodes.now }

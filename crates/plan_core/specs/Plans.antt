@@ -36,7 +36,7 @@ HasKind Mean children kind = (children ≡ Kind.Stereo) × (kind ≡ Mono)
 HasKind Stereo children kind = (children ≡ Mono) × (kind ≡ Kind.Stereo)
 HasKind _ children kind = kind ≡ children
 
--- a pitch is above 0, and an overlap has at least a sample
+-- the pitch of a square wave is above 0, and an overlap is from 1 to MAX_OVERLAP
 abbrev pub IsInRange : Op → Type 0
 IsInRange (Square pitch) = pos 0 <ℤ pitch.millionths
 IsInRange (Crossfade overlap) = (1 ≤ overlap) × (overlap ≤ MAX_OVERLAP)
@@ -61,7 +61,7 @@ abbrev pub is_output : SinkPlan → Bool
 is_output (Output name node fallible wide) = true
 is_output (Feed buffer node) = false
 
--- the node of a sink
+-- the number of the node of a sink
 abbrev pub sink_node : SinkPlan → ℕ
 sink_node (Output name node fallible wide) = node
 sink_node (Feed buffer node) = node
@@ -71,11 +71,11 @@ abbrev pub greatest : List ℕ → ℕ
 greatest [] = 0
 greatest (n ∷ ns) = max n (greatest ns)
 
--- the most crossfades on a path down from a node, where each node below has these
+-- the most crossfades on a path down from a node, itself among them, where `counts` has that number for each node below
 abbrev pub crossfades_over : List ℕ → Node → ℕ
 crossfades_over counts node = own_crossfades node.op + greatest (map (λ child. slice_index counts child) node.children)
 
--- for each node, how many crossfades lie within each other at most on a way down from it
+-- the counts of crossfades with those of further nodes behind them, each reckoned by the counts before it
 abbrev pub counts_after : List ℕ → List Node → List ℕ
 counts_after counts [] = counts
 counts_after counts (node ∷ nodes) = counts_after (counts ++ crossfades_over counts node ∷ []) nodes
@@ -84,11 +84,11 @@ counts_after counts (node ∷ nodes) = counts_after (counts ++ crossfades_over c
 abbrev pub crossfade_counts : List Node → List ℕ
 crossfade_counts nodes = counts_after [] nodes
 
--- the same for a node over these nodes
+-- the most crossfades on a path down from a node that is added over these nodes, itself among them
 abbrev pub crossfades_from : List Node → Node → ℕ
 crossfades_from nodes node = crossfades_over (crossfade_counts nodes) node
 
--- what a node over these nodes has to meet
+-- what a node has to meet whose children are among the nodes `below`
 pub record IsNodeOver (below : List Node) (node : Node) : Type 0 where
   pub children : All (λ child. child < length below) node.children
   pub few : length node.children ≤ MAX_CHILDREN
@@ -102,11 +102,11 @@ pub record IsNodeOver (below : List Node) (node : Node) : Type 0 where
 abbrev pub AreNodes : List Node → Type 0
 AreNodes nodes = (i : ℕ) (node : Node) → slice_get nodes i ≡ Some node → IsNodeOver (take i nodes) node
 
--- sink i feeds the buffer from this node
+-- sink i is a feed of the buffer from this node
 abbrev pub FeedsFrom : Plan → (buffer i node : ℕ) → Type 0
 FeedsFrom plan buffer i node = slice_get plan.sinks i ≡ Some (Feed buffer node)
 
--- sink i feeds the buffer, from some node
+-- sink i is a feed of the buffer, from some node
 abbrev pub FeedsBuffer : Plan → (buffer i : ℕ) → Type 0
 FeedsBuffer plan buffer i = (node : ℕ) × FeedsFrom plan buffer i node
 
@@ -114,7 +114,7 @@ FeedsBuffer plan buffer i = (node : ℕ) × FeedsFrom plan buffer i node
 abbrev pub ReadsBuffer : Plan → (buffer i : ℕ) → Type 0
 ReadsBuffer plan buffer i = (reader : Node) × (slice_get plan.nodes i ≡ Some reader) × (reader.op ≡ Buffer buffer)
 
--- exactly one number is such
+-- exactly one number has the property `such`
 abbrev pub IsOfOne : (ℕ → Type 0) → Type 0
 IsOfOne such = (i : ℕ) × such i × ((j : ℕ) → such j → j ≡ i)
 
@@ -124,7 +124,7 @@ ReadersHaveKind plan = (buffer i j node : ℕ) (reader source : Node) → slice_
     → reader.op ≡ Buffer buffer → FeedsFrom plan buffer j node → slice_get plan.nodes node ≡ Some source
     → reader.kind ≡ source.kind
 
--- what a buffer has to meet
+-- a buffer's prefill and capacity are in range
 abbrev pub IsBuffer : BufferPlan → Type 0
 IsBuffer buffer = (buffer.pre ≤ MAX_PREFILL) × (1 ≤ buffer.capacity) × (buffer.capacity ≤ MAX_CAPACITY)
 
@@ -143,7 +143,7 @@ pub record IsWellFormed (plan : Plan) : Type 0 where
   pub one_reader : (buffer : ℕ) → buffer < length plan.buffers → IsOfOne (ReadsBuffer plan buffer)
   pub readers : ReadersHaveKind plan
 
--- a plan with one node, one output, or one buffer more; a buffer comes with its reader and its feed
+-- the plan with one more node
 abbrev pub with_node : Plan → Node → Plan
 with_node plan node = record plan { nodes = plan.nodes ++ node ∷ [] }
 
@@ -163,13 +163,13 @@ with_buffer plan source kind buffer = record plan {
   buffers = plan.buffers ++ buffer ∷ [];
 }
 
--- a path down from a node: a child of it, a child of that one, and so on
+-- a path down from node i: a child of it, a child of that one, and so on
 abbrev pub IsPathDown : List Node → ℕ → List ℕ → Type 0
 IsPathDown nodes i [] = i < length nodes
 IsPathDown nodes i (child ∷ path) = ((node : Node) × (slice_get nodes i ≡ Some node) × Contains node.children child)
     × IsPathDown nodes child path
 
--- 1 if there is a crossfade of this number
+-- 1 if node i is a crossfade, else 0
 abbrev pub crossfades_at : List Node → ℕ → ℕ
 crossfades_at nodes i = option_map_or (λ node. own_crossfades node.op) (slice_get nodes i) 0
 

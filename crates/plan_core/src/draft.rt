@@ -57,21 +57,21 @@ impl Draft {
         }
     }
 
-    /// The plan as it stands.
+    /// The plan as it stands, to be read.
     pub fn plan(&self) -> &Plan
         ensures same { result.now ≡ self.now }
     {
         &self.plan
     }
 
-    /// The plan.
+    /// The plan, whose making ends here.
     pub fn into_plan(self) -> Plan
         ensures same { result ≡ self }
     {
         self.plan
     }
 
-    /// The most crossfades on a path down from the node of this number, itself among them; 0 if there is none. It takes
+    /// The most crossfades on a path down from node `number`, itself among them; 0 if there is no such node. It takes
     /// the same time in every plan.
     pub fn crossfades_of(&self, number: u32) -> u32
         ensures count { result ≡ slice_index (crossfade_counts self.now.nodes) number }
@@ -83,8 +83,8 @@ impl Draft {
         }
     }
 
-    /// The most crossfades on a path down from a node over those of the plan, itself among them. It takes a step for
-    /// each child.
+    /// The most crossfades on a path down from `node` if it were added to the plan, itself among them. It takes a step
+    /// for each child.
     pub fn crossfades_from(&self, node: &Node) -> u32
         ensures count { result ≡ crossfades_from self.now.nodes node.now }
     {
@@ -110,7 +110,8 @@ impl Draft {
         self.plan.frame = frame;
     }
 
-    /// Adds a node as `Plan::push_node` does.
+    /// Adds a node, and returns its number. `TooManySources` comes exactly where `MAX_NODES` nodes are there. The plan
+    /// is unchanged after that, and where memory is refused.
     pub fn push_node(&mut self, node: Node) -> Result<u32, PlanFault>
         requires children { All (λ child. child < length self.old.nodes) node.children }
         requires few { length node.children ≤ MAX_CHILDREN }

@@ -16,12 +16,12 @@ pub fn children_are_below()
         → slice_get nodes i ≡ Some node → Contains node.children child → child < i }
 {}
 
-/// The nodes before a number meet by themselves what nodes have to meet: they are closed under children.
+/// The first n nodes of a plan meet by themselves what nodes have to meet: they are closed under children.
 pub fn fronts_are_nodes()
     ensures { (nodes : List Node) (n : ℕ) → AreNodes nodes → AreNodes (take n nodes) }
 {}
 
-/// The most crossfades on a path down from a node rest on that node and on those before it.
+/// How many crossfades are at most on a path down from a node depends on that node and on those before it alone.
 pub fn crossfades_rest_on_nodes_below()
     ensures { (nodes : List Node) (i : ℕ) (node : Node) → slice_get nodes i ≡ Some node
         → slice_index (crossfade_counts nodes) i ≡ crossfades_from (take i nodes) node }

@@ -62,7 +62,7 @@ pub enum Op {
 }
 
 impl Op {
-    /// The buffer that a node of this operator reads; none where it is no reader.
+    /// The number of the buffer that a node of this operator reads; `None` where it is no reader.
     pub fn buffer_read(&self) -> Option<u32>
         ensures same { result ≡ buffer_read self.now }
         ensures reader { IfSome result (λ buffer. self.now ≡ Op.Buffer buffer) }

@@ -75,8 +75,8 @@ impl Plan {
         Ok(number as u32)
     }
 
-    /// Adds a buffer and its feed, and answers the buffer's number. Where there is no room for both, the plan is as it
-    /// was.
+    /// Adds a buffer and its feed from the node `source`, and returns the buffer's number. Where there is no room for
+    /// both, the plan is as it was.
     pub(crate) fn push_fed(&mut self, source: u32, buffer: BufferPlan) -> Result<u32, Memory>
         ensures number { IfOk result (λ number. number ≡ length self.old.buffers) }
         ensures added { OnOk result (self.new ≡ record self.old {

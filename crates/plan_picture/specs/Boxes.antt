@@ -14,51 +14,61 @@ abbrev pub border : (infallible : Bool) → List ℕ
 border true = []
 border false = codes ", style=\"filled,rounded,dashed\""
 
+-- how a box is drawn in red
 abbrev pub red_style : (red : Bool) → List ℕ
 red_style true = codes ", color=\"#b3261e\", penwidth=2.2, fontcolor=\"#b3261e\""
 red_style false = []
 
+-- the end of the box of a source, after its label: how it is drawn
 abbrev pub box_end : (infallible red : Bool) → List ℕ
 box_end infallible red = codes "\"" ++ (border infallible ++ (red_style red ++ codes "];\n"))
 
+-- the front of the box of source k, up to its label
 abbrev pub box_front : (k : ℕ) → List ℕ
 box_front k = (codes "n" ++ decimal k) ++ (codes " [label=\"" ++ decimal k ++ codes "  ")
 
+-- the label of source k: what it does, and why it is red; `silent` says that the plan is refused for a silence
 abbrev pub box_label : Plan → (silent : Bool) → Result ClockMap ClockFault → (k : ℕ) → Node → (red : Bool) → List ℕ
 box_label plan silent clocks k node red = words plan k node.op ++ red_words silent red clocks k node
 
--- the box of source k
+-- the box of source k; `silent` says that the plan is refused for a silence
 abbrev pub node_box : Plan → (silent : Bool) → Result ClockMap ClockFault → (k : ℕ) → Node → (infallible red : Bool)
     → List ℕ
 node_box plan silent clocks k node infallible red = box_front k
     ++ (box_label plan silent clocks k node red ++ box_end infallible red)
 
--- the boxes of the sources, each once
+-- the boxes of the sources, each once; `mark` says which always offer something, and `reds` which are red for a
+-- silence, if the plan is refused for one (`silent`)
 abbrev pub node_boxes : Plan → List Node → (mark : ℕ → Bool) → (silent : Bool) → (reds : List Bool)
     → Result ClockMap ClockFault → List ℕ
 node_boxes plan nodes mark silent reds clocks = numbered
     (λ k node. node_box plan silent clocks k node (mark k) (node_red silent reds clocks k node.op)) 0 nodes
 
--- an output that may offer nothing has a dashed border too
+-- how the sheet of an output is drawn: with a dashed border, if its source may offer nothing
 abbrev pub sheet : (infallible : Bool) → List ℕ
 sheet true = codes " [shape=note, margin=\"0.16,0.08\", style=\"filled\""
 sheet false = codes " [shape=note, margin=\"0.16,0.08\", style=\"filled,dashed\""
 
+-- the words for an output that the script lets be fallible
 abbrev pub fallible_words : (fallible : Bool) → List ℕ
 fallible_words true = codes "\\nfallible"
 fallible_words false = []
 
+-- the words for an output that was refused, since it may fall silent
 abbrev pub silence_words : (red : Bool) → List ℕ
 silence_words true = codes "\\nE25 may fall silent"
 silence_words false = []
 
+-- the label of an output: its name, and what is said of it
 abbrev pub output_label : (name : List ℕ) → (fallible red : Bool) → List ℕ
 output_label name fallible red = escaped name ++ (fallible_words fallible ++ silence_words red)
 
+-- the front of the sheet of output k, up to its label
 abbrev pub output_front : (k : ℕ) → (infallible red : Bool) → List ℕ
 output_front k infallible red = (codes "s" ++ decimal k) ++ (sheet infallible ++ red_style red)
 
--- the sheet of output k
+-- the sheet of output k: `fallible` is what the script says of it, `infallible` whether its source always offers
+-- something, and `red` whether the output was refused
 abbrev pub output_box : (k : ℕ) → (name : List ℕ) → (fallible infallible red : Bool) → List ℕ
 output_box k name fallible infallible red = output_front k infallible red
     ++ (codes ", label=\"" ++ (output_label name fallible red ++ codes "\"];\n"))

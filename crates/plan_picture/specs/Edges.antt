@@ -18,9 +18,11 @@ use Rattle.plan_picture.specs.Predicates.{pred_text, shown}
 use Rattle.plan_blames.specs.Blames.{edge_red}
 use Rattle.plan_picture.specs.Boxes.{is_refused, output_box}
 
+-- the predicate of the case at this place, as an edge shows it
 abbrev pub pred_at : List Predicate → (place : ℕ) → List ℕ
 pred_at preds place = option_map_or (λ pred. shown (pred_text false pred)) (slice_get preds place) []
 
+-- the label of an edge with the child's place, counted from 1, if there are several
 abbrev pub place_label : (many : Bool) → (place : ℕ) → List ℕ
 place_label true place = codes "label=\" " ++ decimal (place + 1) ++ codes " \""
 place_label false place = []
@@ -32,57 +34,69 @@ edge_label (Switch sensitive preds) count place = codes "label=\" " ++ (pred_at 
 edge_label (Add normalize) count place = []
 edge_label _ count place = place_label (nat_lt 1 count) place
 
+-- how an edge is drawn in red
 abbrev pub edge_style : (red : Bool) → List ℕ
 edge_style true = codes " color=\"#b3261e\" penwidth=2"
 edge_style false = []
 
+-- the front of an edge: from which source to which it goes
 abbrev pub edge_ends : (from to : ℕ) → List ℕ
 edge_ends from to = (codes "n" ++ decimal from) ++ (codes " -> n" ++ decimal to)
 
--- the edge from the child at this place of source k
+-- the edge from the child at this place of source k, which has `count` children
 abbrev pub child_edge : Op → (count k child place : ℕ) → (red : Bool) → List ℕ
 child_edge op count k child place red = edge_ends child k
     ++ (codes " [" ++ (edge_label op count place ++ (edge_style red ++ codes "];\n")))
 
+-- the edges from the children of source k; `reds` says which sources are red for a silence, if the plan is refused for
+-- one (`silent`)
 abbrev pub child_edges : (silent : Bool) → (reds : List Bool) → Result ClockMap ClockFault → (k : ℕ) → Op
     → (children : List ℕ) → List ℕ
 child_edges silent reds clocks k op children = numbered
     (λ place child. child_edge op (length children) k child place (edge_red silent reds clocks k child)) 0 children
 
--- the edges between sources, each once
+-- the edges between sources, each once; `reds` says which are red for a silence, if the plan is refused for one
+-- (`silent`)
 abbrev pub node_edges : List Node → (silent : Bool) → (reds : List Bool) → Result ClockMap ClockFault → List ℕ
 node_edges nodes silent reds clocks = numbered (λ k node. child_edges silent reds clocks k node.op node.children) 0
     nodes
 
+-- the edge from a source to output k
 abbrev pub output_edge : (k node : ℕ) → (red : Bool) → List ℕ
 output_edge k node red = (codes "n" ++ decimal node)
     ++ ((codes " -> s" ++ decimal k) ++ (codes " [" ++ (edge_style red ++ codes "];\n")))
 
+-- whether a source of this operator reads this buffer
 abbrev pub reads : Op → (buffer : ℕ) → Bool
 reads op buffer = option_map_or (λ read. nat_eq read buffer) (buffer_read op) false
 
+-- how much a buffer holds at most: how many chunks, and for how long
 abbrev pub capacity : Plan → BufferPlan → List ℕ
 capacity plan size = (codes "  at most " ++ decimal size.capacity)
     ++ (codes " chunks, " ++ (seconds (size.capacity * plan.frame) plan.rate ++ codes "  "))
 
+-- the label of the edge through a buffer
 abbrev pub buffer_label : Plan → (buffer : ℕ) → List ℕ
 buffer_label plan buffer = option_map_or (capacity plan) (slice_get plan.buffers buffer) []
 
--- a thick edge through a buffer to its reader k
+-- the thick edge through a buffer, from the feed's source to source k, if that is its reader
 abbrev pub through : (is_reader : Bool) → Plan → (buffer node k : ℕ) → List ℕ
 through true plan buffer node k = edge_ends node k
     ++ (codes " [style=bold, color=\"#7a4a00\", fontcolor=\"#7a4a00\", penwidth=2.5, label=\""
     ++ (buffer_label plan buffer ++ codes "\"];\n"))
 through false plan buffer node k = []
 
+-- the edge of a feed, through its buffer to the reader
 abbrev pub feed_edges : Plan → List Node → (buffer node : ℕ) → List ℕ
 feed_edges plan nodes buffer node = numbered (λ k reader. through (reads reader.op buffer) plan buffer node k) 0 nodes
 
--- an output with the edge to it; of a feed the edge through its buffer
+-- sink k: an output with the edge to it, or the edge of a feed through its buffer; `mark` says which sources always
+-- offer something, and `refused` is the number of the sink that was refused
 abbrev pub sink_text : Plan → (mark : ℕ → Bool) → (refused : Option ℕ) → (k : ℕ) → SinkPlan → List ℕ
 sink_text plan mark refused k (Output name node fallible wide) = output_box k name fallible (mark node)
     (is_refused refused k) ++ output_edge k node (is_refused refused k)
 sink_text plan mark refused k (Feed buffer node) = feed_edges plan plan.nodes buffer node
 
+-- the outputs with the edges to them, and the edges through buffers
 abbrev pub sink_texts : Plan → List SinkPlan → (mark : ℕ → Bool) → (refused : Option ℕ) → List ℕ
 sink_texts plan sinks mark refused = numbered (sink_text plan mark refused) 0 sinks

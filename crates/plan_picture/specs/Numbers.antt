@@ -1,31 +1,34 @@
 -- Numbers with a point, and lengths in seconds.
 use Rattle.std.specs.Prelude.{ℕ, zero, suc, ◌*◌, ◌/◌, ◌%◌, ◌&&◌, ℤ, pos, negsuc, List, [], ◌++◌, codes, decimal, nat_eq, if◌then◌else◌}
 
--- at most so many further digits of a part of one in millionths, without zeros at the end
+-- the digits of a part of one, given in millionths: at most `places` of them, without zeros at the end
 abbrev pub further : (places millionths : ℕ) → List ℕ
 further places zero = []
 further zero (suc rest) = []
 further (suc places) (suc rest) = decimal (suc rest / 100000) ++ further places (suc rest % 100000 * 10)
 
--- behind the point there is at least one digit
+-- the digits after a point, at least one
 abbrev pub fraction : (millionths : ℕ) → List ℕ
 fraction millionths = decimal (millionths / 100000) ++ further 5 (millionths % 100000 * 10)
 
+-- a number without its sign, as `2.0` or `1.25`: its whole units and its millionths
 abbrev pub pointed : (whole millionths : ℕ) → List ℕ
 pointed whole millionths = decimal whole ++ (codes "." ++ fraction millionths)
 
--- a number of millionths
+-- a number of millionths, with its sign and a point
 abbrev pub signed : ℤ → List ℕ
 signed (pos n) = pointed (n / 1000000) (n % 1000000)
 signed (negsuc n) = codes "-" ++ pointed (suc n / 1000000) (suc n % 1000000)
 
+-- the milliseconds of a length beyond its whole seconds, cut
 abbrev pub thousandths : (samples rate : ℕ) → ℕ
 thousandths samples rate = samples % rate * 1000 / rate
 
+-- the unit of a length in samples
 abbrev pub samples_word : ℕ → List ℕ
 samples_word samples = if nat_eq samples 1 then codes " sample" else codes " samples"
 
--- so many samples as seconds, cut behind the third digit; below a millisecond the samples
+-- so many samples as seconds, cut behind the third digit; if they last less than a millisecond, as samples
 abbrev pub seconds : (samples rate : ℕ) → List ℕ
 seconds samples rate =
     if nat_eq (samples / rate) 0 && nat_eq (thousandths samples rate) 0 then decimal samples ++ samples_word samples

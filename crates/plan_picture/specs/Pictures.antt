@@ -10,6 +10,7 @@ use Rattle.plan_picture.specs.Boxes.{node_boxes}
 use Rattle.plan_picture.specs.Edges.{node_edges, sink_texts}
 use Rattle.plan_picture.specs.Regions.{regions_of}
 
+-- the beginning of each picture: how all of it is drawn
 unfoldable pub beginning : List ℕ
 beginning = codes "digraph station {\nrankdir=LR; bgcolor=\"#ffffff\"; fontname=\"DejaVu Sans,Helvetica,sans-serif\"; fontsize=12; labeljust=l; nodesep=0.25; ranksep=0.5;\nnode [shape=box, style=\"filled,rounded\", fillcolor=\"#ffffff\", color=\"#3a4450\", fontname=\"DejaVu Sans,Helvetica,sans-serif\", fontsize=11, margin=\"0.12,0.06\", height=0.4];\nedge [color=\"#3a4450\", fontname=\"DejaVu Sans,Helvetica,sans-serif\", fontsize=9, arrowsize=0.7];\n"
 
@@ -18,6 +19,8 @@ abbrev pub reds : Plan → (mark : ℕ → Bool) → Option ℕ → List Bool
 reds plan mark None = []
 reds plan mark (Some sink) = reds_from mark (refused_node plan.sinks sink) 0 plan.nodes
 
+-- the text of a plan, where `silent` says that an output was refused, and `red` has of each source whether it is red
+-- for that
 abbrev pub picture_with : Plan → (mark : ℕ → Bool) → Option ℕ → Result ClockMap ClockFault → (group : ℕ → ℕ)
     → (silent : Bool) → (red : List Bool) → List ℕ
 picture_with plan mark refused clocks group silent red = beginning
@@ -30,7 +33,7 @@ abbrev pub picture : Plan → (mark : ℕ → Bool) → Option ℕ → Result Cl
 picture plan mark refused clocks group = picture_with plan mark refused clocks group (is_some refused)
     (reds plan mark refused)
 
--- a text is that of a plan with its groups, of which there is one grouping alone
+-- a text is the picture of a plan, by the groups of its sources that share a clock; there is one such grouping alone
 pub record IsPicture (plan : Plan) (mark : ℕ
     → Bool) (refused : Option ℕ) (clocks : Result ClockMap ClockFault) (text : List ℕ) : Type 0 where
   pub group : ℕ → ℕ

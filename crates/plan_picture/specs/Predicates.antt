@@ -3,6 +3,7 @@ use Rattle.std.specs.Prelude.{ℕ, zero, suc, Bool, true, false, Option, Some, N
 use Rattle.fixed_text.specs.declared.time_mark.TimeMark.{TimeMark}
 use Rattle.time_pred.specs.Predicates.{PredicateTree, OnePredicate, PredicateParts, Always, Never, At, Between, Negated, All, Any, no_parts, first_part}
 
+-- a part of a time mark with its unit, if it is written
 abbrev pub part_text : Option ℕ → (unit : List ℕ) → List ℕ
 part_text (Some n) unit = decimal n ++ unit
 part_text None unit = []
@@ -12,13 +13,16 @@ abbrev pub mark_text : TimeMark → List ℕ
 mark_text mark = (part_text mark.day (codes "w") ++ part_text mark.hour (codes "h"))
     ++ (part_text mark.minute (codes "m") ++ part_text mark.second (codes "s"))
 
+-- an interval of the week, as `6h-22h`
 abbrev pub interval_text : TimeMark → TimeMark → List ℕ
 interval_text from to = mark_text from ++ (codes "-" ++ mark_text to)
 
+-- the bracket before the parts of a predicate that stands within another
 abbrev pub opening : (within : Bool) → List ℕ
 opening true = codes "("
 opening false = []
 
+-- the bracket after the parts of a predicate that stands within another
 abbrev pub closing : (within : Bool) → List ℕ
 closing true = codes ")"
 closing false = []

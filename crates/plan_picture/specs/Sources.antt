@@ -9,11 +9,12 @@ use Rattle.clock_forcings.specs.Forcings.{id_or}
 use Rattle.plan_blames.specs.Texts.{escaped}
 use Rattle.plan_picture.specs.Numbers.{seconds, signed}
 
--- a choice that changes within a track says so
+-- a selection that changes its child within a track says so
 abbrev pub choice_words : (sensitive : Bool) → List ℕ
 choice_words true = []
 choice_words false = codes "\\nbreaks into tracks"
 
+-- a playlist says if it is played once
 abbrev pub playlist_words : (again : Bool) → List ℕ
 playlist_words true = codes "playlist\\n"
 playlist_words false = codes "playlist (once)\\n"
@@ -22,20 +23,24 @@ playlist_words false = codes "playlist (once)\\n"
 abbrev pub blank_words : (track rate : ℕ) → List ℕ
 blank_words track rate = if nat_eq track 0 then codes "blank" else codes "blank\\ntracks of " ++ seconds track rate
 
+-- an addition says if it is a sum, which is not normalized
 abbrev pub add_words : (normalize : Bool) → List ℕ
 add_words true = codes "add"
 add_words false = codes "add\\nsum"
 
+-- a reader says how long it collects before it begins to play
 abbrev pub prefill : BufferPlan → (rate : ℕ) → List ℕ
 prefill buffer rate = codes "\\nstarts at " ++ seconds (max 1 buffer.pre) rate
 
+-- the prefill of a buffer of the plan
 abbrev pub size_words : Plan → (buffer : ℕ) → List ℕ
 size_words plan buffer = option_map_or (λ size. prefill size plan.rate) (slice_get plan.buffers buffer) []
 
+-- a reader: the number of its buffer, and its prefill
 abbrev pub reader_words : Plan → (buffer : ℕ) → List ℕ
 reader_words plan buffer = (codes "buffer " ++ decimal buffer) ++ size_words plan buffer
 
--- source k of this operator
+-- what stands in the box of source k: its operator, and below it its file, or what it does it with
 abbrev pub words : Plan → (k : ℕ) → Op → List ℕ
 words plan k (Single file) = codes "single\\n" ++ escaped file
 words plan k (Playlist file again) = playlist_words again ++ escaped file

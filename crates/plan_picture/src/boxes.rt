@@ -14,7 +14,9 @@ use plan_blames::{
 use plan_core::{Node, Plan};
 use std::alloc::Global;
 
-/// Appends a box for each source, dashed where it may offer nothing, and red where it is to blame for a fault.
+/// Appends a box for each source, dashed where it may offer nothing, and red where it is to blame for a fault. `marks`
+/// has of each source whether it always offers something; `reds` whether it is to blame for a silence, if the plan is
+/// refused for one (`silent`).
 pub fn push_nodes(
     alloc: Global,
     into: &mut Vec<u8>,
@@ -46,6 +48,7 @@ pub fn push_nodes(
     Ok(())
 }
 
+// Appends the box of source k; `silent` says that the plan is refused for a silence.
 fn push_node(
     alloc: Global,
     into: &mut Vec<u8>,
@@ -66,6 +69,7 @@ fn push_node(
     push_end(into, infallible, red)
 }
 
+// Appends the front of the box of source k, up to its label.
 fn push_front(into: &mut Vec<u8>, k: u64) -> Result<(), Memory>
     ensures { OnOk result (into.new.items ≡ into.old.items ++ box_front k) }
 {
@@ -73,6 +77,7 @@ fn push_front(into: &mut Vec<u8>, k: u64) -> Result<(), Memory>
     push_between(into, b" [label=\"", k, b"  ")
 }
 
+// Appends the label of source k: what it does, and why it is red; `silent` says that the plan is refused for a silence.
 fn push_label(
     alloc: Global,
     into: &mut Vec<u8>,
@@ -90,6 +95,7 @@ fn push_label(
     push_red_words(alloc, into, silent, red, clocks, k, node)
 }
 
+// Appends the end of the box of a source, after its label: how it is drawn.
 fn push_end(into: &mut Vec<u8>, infallible: bool, red: bool) -> Result<(), Memory>
     ensures { OnOk result (into.new.items ≡ into.old.items ++ box_end infallible red) }
 {
@@ -98,6 +104,7 @@ fn push_end(into: &mut Vec<u8>, infallible: bool, red: bool) -> Result<(), Memor
     push_style(into, red)
 }
 
+// Appends that a border is dashed, if its source may offer nothing.
 fn push_border(into: &mut Vec<u8>, infallible: bool) -> Result<(), Memory>
     ensures { OnOk result (into.new.items ≡ into.old.items ++ border infallible) }
 {
@@ -108,6 +115,7 @@ fn push_border(into: &mut Vec<u8>, infallible: bool) -> Result<(), Memory>
     }
 }
 
+// Appends the end of a box, which may be red.
 fn push_style(into: &mut Vec<u8>, red: bool) -> Result<(), Memory>
     ensures { OnOk result (into.new.items ≡ into.old.items ++ (red_style red ++ codes "];\n")) }
 {
@@ -115,6 +123,7 @@ fn push_style(into: &mut Vec<u8>, red: bool) -> Result<(), Memory>
     push_plain(into, b"];\n")
 }
 
+// Appends how a box is drawn in red, if it is.
 fn push_red(into: &mut Vec<u8>, red: bool) -> Result<(), Memory>
     ensures { OnOk result (into.new.items ≡ into.old.items ++ red_style red) }
 {
@@ -128,7 +137,8 @@ fn push_red(into: &mut Vec<u8>, red: bool) -> Result<(), Memory>
     }
 }
 
-/// Appends the sheet of an output.
+/// Appends the sheet of output k: `fallible` is what the script says of it, `infallible` whether its source always
+/// offers something, and `red` whether the output was refused.
 pub fn push_output(
     into: &mut Vec<u8>,
     k: u64,
@@ -143,6 +153,7 @@ pub fn push_output(
     push_output_label(into, name, fallible, red)
 }
 
+// Appends the front of the sheet of output k, up to its label.
 fn push_sheet(into: &mut Vec<u8>, k: u64, infallible: bool, red: bool) -> Result<(), Memory>
     ensures { OnOk result (into.new.items ≡ into.old.items ++ output_front k infallible red) }
 {
@@ -151,6 +162,7 @@ fn push_sheet(into: &mut Vec<u8>, k: u64, infallible: bool, red: bool) -> Result
     push_red(into, red)
 }
 
+// Appends how the sheet of an output is drawn.
 fn push_sheet_style(into: &mut Vec<u8>, infallible: bool) -> Result<(), Memory>
     ensures { OnOk result (into.new.items ≡ into.old.items ++ sheet infallible) }
 {
@@ -167,6 +179,7 @@ fn push_sheet_style(into: &mut Vec<u8>, infallible: bool) -> Result<(), Memory>
     }
 }
 
+// Appends the label of an output's sheet, to the end of the line; `red` says that the output is refused (E25).
 fn push_output_label(
     into: &mut Vec<u8>,
     name: &Text,
@@ -181,6 +194,7 @@ fn push_output_label(
     push_plain(into, b"\"];\n")
 }
 
+// Appends the name of an output, and what is said of it.
 fn push_output_words(
     into: &mut Vec<u8>,
     name: &Text,
@@ -194,6 +208,7 @@ fn push_output_words(
     push_silence(into, red)
 }
 
+// Appends that the script lets an output be fallible, if it does.
 fn push_fallible(into: &mut Vec<u8>, fallible: bool) -> Result<(), Memory>
     ensures { OnOk result (into.new.items ≡ into.old.items ++ fallible_words fallible) }
 {
@@ -204,6 +219,7 @@ fn push_fallible(into: &mut Vec<u8>, fallible: bool) -> Result<(), Memory>
     }
 }
 
+// Appends that an output may fall silent, if it was refused for that.
 fn push_silence(into: &mut Vec<u8>, red: bool) -> Result<(), Memory>
     ensures { OnOk result (into.new.items ≡ into.old.items ++ silence_words red) }
 {

@@ -17,9 +17,9 @@ use plan_core::Plan;
 use std::alloc::Global;
 
 /// The text from which graphviz draws a plan: a box for each source and output, an edge wherever one plays another, and
-/// a region for each clock. A source that may offer nothing has a dashed box. In red stands why the plan is refused:
-/// the sink of the number `refused` may fall silent, or there are no clocks; then a region lies round the sources that
-/// would share one.
+/// a region for each clock. A source that may offer nothing by `marks` has a dashed box. In red stands why the plan is
+/// refused: the sink of the number `refused` may fall silent, or there are no clocks; then a region lies round the
+/// sources that would share one.
 pub fn picture(
     alloc: Global,
     plan: &Plan,
@@ -39,7 +39,8 @@ pub fn picture(
     Ok(text)
 }
 
-// The sources that are to blame for a silence: none where no output was refused.
+// Of each source whether it is to blame for a silence; nothing where no output was refused. `marks` says which sources
+// always offer something.
 fn all_reds(
     alloc: Global,
     plan: &Plan,
@@ -57,6 +58,7 @@ fn all_reds(
     }
 }
 
+// Appends the whole text. `groups` has the group of each source, and `red` whether it is to blame for a silence.
 fn push_picture(
     alloc: Global,
     into: &mut Vec<u8>,
@@ -88,6 +90,8 @@ fn push_picture(
     push_rest(into, plan, marks, refused, silent, clocks, groups)
 }
 
+// Appends what comes after the edges between sources: the outputs, the edges through buffers, and the regions. `silent`
+// says that the plan is refused for a silence.
 fn push_rest(
     into: &mut Vec<u8>,
     plan: &Plan,
@@ -107,6 +111,7 @@ fn push_rest(
     push_plain(into, b"}\n")
 }
 
+// Appends the beginning of each picture: how all of it is drawn.
 fn push_beginning(into: &mut Vec<u8>) -> Result<(), Memory>
     ensures { OnOk result (into.new.items ≡ into.old.items ++ beginning) }
 {

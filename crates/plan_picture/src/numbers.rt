@@ -22,6 +22,7 @@ pub fn push_seconds(into: &mut Vec<u8>, samples: u64, rate: u32) -> Result<(), M
     push_plain(into, b" s")
 }
 
+// The milliseconds of a length beyond its whole seconds, cut.
 fn thousandths(samples: u64, rate: u32) -> u64
     requires { 0 < rate }
     ensures is { result ≡ thousandths samples rate }
@@ -30,6 +31,7 @@ fn thousandths(samples: u64, rate: u32) -> u64
     samples % u64::from(rate) * 1000 / u64::from(rate)
 }
 
+// Appends a length in samples.
 fn push_samples(into: &mut Vec<u8>, samples: u64) -> Result<(), Memory>
     ensures { OnOk result (into.new.items ≡ into.old.items ++ (decimal samples ++ samples_word samples)) }
 {
@@ -37,6 +39,7 @@ fn push_samples(into: &mut Vec<u8>, samples: u64) -> Result<(), Memory>
     push_samples_word(into, samples)
 }
 
+// Appends the unit of a length in samples.
 fn push_samples_word(into: &mut Vec<u8>, samples: u64) -> Result<(), Memory>
     ensures { OnOk result (into.new.items ≡ into.old.items ++ samples_word samples) }
 {
@@ -58,7 +61,7 @@ pub fn push_decimal(into: &mut Vec<u8>, value: Decimal) -> Result<(), Memory>
     push_pointed(into, size / MILLION, size % MILLION)
 }
 
-// Appends a number of whole units and millionths.
+// Appends a decimal without its sign, as `2.0` or `1.25`: its whole units and its millionths.
 fn push_pointed(into: &mut Vec<u8>, whole: u64, millionths: u64) -> Result<(), Memory>
     requires { millionths < 1000000 }
     ensures { OnOk result (into.new.items ≡ into.old.items ++ pointed whole millionths) }
@@ -67,6 +70,7 @@ fn push_pointed(into: &mut Vec<u8>, whole: u64, millionths: u64) -> Result<(), M
     push_point(into, millionths)
 }
 
+// Appends a point and the digits after it, at least one.
 fn push_point(into: &mut Vec<u8>, millionths: u64) -> Result<(), Memory>
     requires { millionths < 1000000 }
     ensures { OnOk result (into.new.items ≡ into.old.items ++ (codes "." ++ fraction millionths)) }
@@ -75,7 +79,7 @@ fn push_point(into: &mut Vec<u8>, millionths: u64) -> Result<(), Memory>
     push_further(into, millionths % 100_000 * 10)
 }
 
-// Appends the digits of a part of one behind its first one, but for zeros at the end.
+// Appends the digits of these millionths, at most five, but for zeros at the end.
 fn push_further(into: &mut Vec<u8>, millionths: u64) -> Result<(), Memory>
     requires { millionths < 1000000 }
     ensures { OnOk result (into.new.items ≡ into.old.items ++ further 5 millionths) }

@@ -19,7 +19,8 @@ pub fn push_shown(into: &mut Vec<u8>, pred: &Pred) -> Result<(), Memory>
     cut(into, before)
 }
 
-// Cuts what stands behind the first bytes, so many, where it is long.
+// Cuts the text after the first `before` bytes, if it has more than 200 characters: to the first 200, and how many it
+// has.
 fn cut(into: &mut Vec<u8>, before: usize) -> Result<(), Memory>
     requires { before ≤ length into.old.items }
     ensures { OnOk result (into.new.items ≡ take before into.old.items ++ shown (drop before into.old.items)) }
@@ -51,6 +52,7 @@ fn push_pred(into: &mut Vec<u8>, pred: &Pred, within: bool) -> Result<(), Memory
     }
 }
 
+// Appends the parts of a predicate with a word between them, in brackets if it stands within another.
 #[cycle(pred)]
 fn push_group(into: &mut Vec<u8>, word: &[u8], parts: &[Pred], within: bool) -> Result<(), Memory>
     ensures { OnOk result (into.new.items ≡ into.old.items
@@ -61,6 +63,7 @@ fn push_group(into: &mut Vec<u8>, word: &[u8], parts: &[Pred], within: bool) -> 
     push_closing(into, within)
 }
 
+// Appends predicates with a word between them.
 #[cycle(pred)]
 fn push_parts(into: &mut Vec<u8>, word: &[u8], parts: &[Pred]) -> Result<(), Memory>
     ensures { OnOk result (into.new.items ≡ into.old.items ++ joined word.now 0 (parts_of (map view_pred parts.now))) }
@@ -72,6 +75,7 @@ fn push_parts(into: &mut Vec<u8>, word: &[u8], parts: &[Pred]) -> Result<(), Mem
     Ok(())
 }
 
+// Appends a word before the part of this number, but for the first one.
 fn push_before(into: &mut Vec<u8>, word: &[u8], number: usize) -> Result<(), Memory>
     ensures { OnOk result (into.new.items ≡ into.old.items ++ before_part word.now number) }
 {
@@ -82,6 +86,7 @@ fn push_before(into: &mut Vec<u8>, word: &[u8], number: usize) -> Result<(), Mem
     }
 }
 
+// Appends the bracket before the parts of a predicate that stands within another.
 fn push_opening(into: &mut Vec<u8>, within: bool) -> Result<(), Memory>
     ensures { OnOk result (into.new.items ≡ into.old.items ++ opening within) }
 {
@@ -92,6 +97,7 @@ fn push_opening(into: &mut Vec<u8>, within: bool) -> Result<(), Memory>
     }
 }
 
+// Appends the bracket after the parts of a predicate that stands within another.
 fn push_closing(into: &mut Vec<u8>, within: bool) -> Result<(), Memory>
     ensures { OnOk result (into.new.items ≡ into.old.items ++ closing within) }
 {
@@ -102,6 +108,7 @@ fn push_closing(into: &mut Vec<u8>, within: bool) -> Result<(), Memory>
     }
 }
 
+// Appends an interval of the week, as `6h-22h`.
 fn push_interval(into: &mut Vec<u8>, from: TimeMark, to: TimeMark) -> Result<(), Memory>
     ensures { OnOk result (into.new.items ≡ into.old.items ++ interval_text from to) }
 {
@@ -110,6 +117,7 @@ fn push_interval(into: &mut Vec<u8>, from: TimeMark, to: TimeMark) -> Result<(),
     push_mark(into, to)
 }
 
+// Appends a time mark: its parts with their units.
 fn push_mark(into: &mut Vec<u8>, mark: TimeMark) -> Result<(), Memory>
     ensures { OnOk result (into.new.items ≡ into.old.items ++ mark_text mark) }
 {
@@ -117,6 +125,7 @@ fn push_mark(into: &mut Vec<u8>, mark: TimeMark) -> Result<(), Memory>
     push_two(into, mark.minute, b"m", mark.second, b"s")
 }
 
+// Appends two parts of a time mark with their units.
 fn push_two(
     into: &mut Vec<u8>,
     one: Option<u8>,
@@ -131,6 +140,7 @@ fn push_two(
     push_part(into, other, other_unit)
 }
 
+// Appends a part of a time mark with its unit, if it is written.
 fn push_part(into: &mut Vec<u8>, part: Option<u8>, unit: &[u8]) -> Result<(), Memory>
     ensures { OnOk result (into.new.items ≡ into.old.items ++ part_text part unit.now) }
 {

@@ -29,7 +29,7 @@ pub record IsSuited (op : Op) (children : ℕ) : Type 0 where
   pub range : IsInRange op
   pub reader : IsNoReader op
 
--- this node may be the next one of a plan
+-- a node may be the next one of a plan
 pub record CanStand (plan : Plan) (node : Node) : Type 0 where
   pub over : IsNodeOver plan.nodes node
   pub reader : IsNoReader node.op
@@ -38,7 +38,7 @@ pub record CanStand (plan : Plan) (node : Node) : Type 0 where
 abbrev pub AreFeeds : List SinkPlan → Type 0
 AreFeeds sinks = All (λ sink. is_output sink ≡ false) sinks
 
--- the node of the only output, where it is the last sink
+-- the node of the only output, if that is the last sink
 abbrev pub sole_node : List SinkPlan → Option ℕ
 sole_node [] = None
 sole_node (Feed buffer node ∷ sinks) = sole_node sinks

@@ -43,7 +43,7 @@ impl CheckedDraft {
         CheckedDraft::of(alloc, 44_100, 1764)
     }
 
-    /// No nodes, at so many samples a second in ticks of so many.
+    /// No nodes, at so many samples a second in ticks of `frame` samples.
     pub fn of(alloc: Global, rate: u32, frame: u32) -> CheckedDraft
         requires rate { (MIN_RATE ≤ rate) × (rate ≤ MAX_RATE) }
         requires frame { (1 ≤ frame) × (frame ≤ MAX_FRAME) }
@@ -54,8 +54,8 @@ impl CheckedDraft {
         }
     }
 
-    /// Adds a node over these, and answers its number. `None` comes where the node may not stand over these, where 4096
-    /// nodes are there, or where memory is refused; then the plan is as it was.
+    /// Adds a node over these children, and answers its number. `None` comes where the node may not stand over them,
+    /// where 4096 nodes are there, or where memory is refused; then the plan is as it was.
     pub fn push(&mut self, op: Op, children: Vec<u32>) -> Option<u32>
         ensures number { IfSome result (λ number. number ≡ length self.old.nodes) }
         ensures added { OnSome result (self.new ≡ with_node self.old (stereo_node op children.items)) }
@@ -99,7 +99,8 @@ impl CheckedDraft {
     }
 }
 
-// Adds this node if it may stand over the others, and answers its number.
+// Adds this node, and answers its number; nothing where it may not stand over its children, where 4096 nodes are there,
+// or where memory is refused.
 fn push_fitting(draft: &mut Draft, node: Node) -> Option<u32>
     requires stereo { IsStereo draft.old }
     requires kind { node.kind ≡ Kind.Stereo }

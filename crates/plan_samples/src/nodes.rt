@@ -111,12 +111,14 @@ fn push_plain(draft: &mut Draft, op: Op, children: Vec<u32>) -> Result<u32, Plan
     Ok(number)
 }
 
+// One child.
 fn one(alloc: Global, child: u32) -> Result<Vec<u32>, Memory>
     ensures { IfOk result (λ children. children.items ≡ child ∷ []) }
 {
     Ok(vec![in alloc; child]?)
 }
 
+// Two children.
 fn two(alloc: Global, first: u32, second: u32) -> Result<Vec<u32>, Memory>
     ensures { IfOk result (λ children. children.items ≡ first ∷ second ∷ []) }
 {

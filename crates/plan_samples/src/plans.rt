@@ -50,7 +50,7 @@ fn begun(alloc: Global) -> Draft
     begun_at(alloc, 44_100, 1764)
 }
 
-// A draft without nodes, at so many samples a second in ticks of so many.
+// A draft without nodes, at so many samples a second in ticks of `frame` samples.
 pub(crate) fn begun_at(alloc: Global, rate: u32, frame: u32) -> Draft
     requires rate { (MIN_RATE ≤ rate) × (rate ≤ MAX_RATE) }
     requires frame { (1 ≤ frame) × (frame ≤ MAX_FRAME) }
@@ -61,7 +61,7 @@ pub(crate) fn begun_at(alloc: Global, rate: u32, frame: u32) -> Draft
     Draft::new(alloc, rate, frame)
 }
 
-// An output of this node, without a name.
+// Adds an output of this node, without a name.
 pub(crate) fn write(alloc: Global, draft: &mut Draft, node: u32) -> Result<(), Memory>
     requires well_formed { IsWellFormed draft.old }
     requires node { node < length draft.old.nodes }
@@ -73,7 +73,7 @@ pub(crate) fn write(alloc: Global, draft: &mut Draft, node: u32) -> Result<(), M
     Ok(())
 }
 
-// Adds a blank, a crossfade of it, and the sum of that crossfade and of this node, which nobody uses. Answers the
+// Adds a blank, a crossfade of it, and the sum of that crossfade and of node `outer`, which nobody uses. Answers the
 // blank.
 fn push_nested(alloc: Global, draft: &mut Draft, outer: u32) -> Result<u32, PlanFault>
     requires stereo { IsStereo draft.old }

@@ -7,10 +7,12 @@ use std::process::Abort;
 use std::test::Fail;
 use type_terms::{KindTerm, Subst, Ty, resolved, unify};
 
+// The type of a list of such items.
 fn list(alloc: Global, item: Ty) -> Result<Ty, Memory> {
     Ok(Ty::List(Box::new(alloc, item)?))
 }
 
+// The type of a pair.
 fn pair(alloc: Global, first: Ty, second: Ty) -> Result<Ty, Memory> {
     let mut parts = Vec::new(alloc);
     parts.push(first)?;
@@ -39,7 +41,7 @@ fn named(name: &str) -> Ty {
     }
 }
 
-// The type of this text: a name, the list of one, or the pair of two.
+// The type of this text: a name, `list` and the name of its items, or the names of a pair's two parts.
 fn made(alloc: Global, text: &str) -> Result<Ty, Memory> {
     match text.split_once(' ') {
         Some((first, second)) => made_of(alloc, first, second),
@@ -47,6 +49,7 @@ fn made(alloc: Global, text: &str) -> Result<Ty, Memory> {
     }
 }
 
+// The list of the second name, if the first is `list`, or the pair of the two.
 fn made_of(alloc: Global, first: &str, second: &str) -> Result<Ty, Memory> {
     if first == "list" {
         list(alloc, named(second))
@@ -67,7 +70,7 @@ fn six_variables(alloc: Global) -> Result<Subst, Memory> {
     Ok(subst)
 }
 
-// `unify`, where the types are over variables of the substitution.
+// `unify` of two types, which must be over variables of the substitution.
 fn unified(
     rt: &impl Abort,
     alloc: Global,
@@ -155,6 +158,7 @@ fn types_that_can_be_made_equal_and_not(rt: HostRuntime) -> Result<(), Fail> {
     check_rows(&rt, rt.alloc(), ROWS)
 }
 
+// The number of a type variable; 0 of another type.
 fn number_of(ty: &Ty) -> u64 {
     match ty {
         Ty::Var(number) => *number,
@@ -162,7 +166,7 @@ fn number_of(ty: &Ty) -> u64 {
     }
 }
 
-// A new variable that is bound to the list, or the pair, of the one below.
+// A new variable that is bound to the list of variable `below`, or to the pair of it and itself (`double`).
 fn storey(
     rt: &impl Abort,
     alloc: Global,
@@ -181,7 +185,7 @@ fn storey(
     Ok(top)
 }
 
-// Each variable is bound to what is made of the one below.
+// A variable over `height` others, each bound to the list of the one below, or to the pair of it and itself (`double`).
 fn tower(
     rt: &impl Abort,
     alloc: Global,
@@ -196,7 +200,7 @@ fn tower(
     Ok(top)
 }
 
-// Two types are made equal, and the first cannot be built.
+// Two types can be made equal, and the first one cannot be built.
 fn check_large(
     rt: &impl Abort,
     alloc: Global,
@@ -217,7 +221,7 @@ fn check_large(
     Ok(())
 }
 
-// Two such towers are made equal, and none can be built.
+// Two towers can be made equal, and cannot be built.
 fn check_towers(rt: &impl Abort, alloc: Global, height: u64, double: bool) -> Result<(), Memory> {
     let mut subst = Subst::new(alloc)?;
     let top = tower(rt, alloc, &mut subst, height, double)?;
@@ -235,6 +239,7 @@ fn a_type_that_doubles_thirty_times(rt: HostRuntime) -> Result<(), Fail> {
     Ok(check_towers(&rt, rt.alloc(), 30, true)?)
 }
 
+// Lists within lists, so many levels, of whole numbers.
 fn nested(alloc: Global, height: u64) -> Result<Ty, Memory> {
     let mut deep = Ty::Int;
     for _level in 0..height {

@@ -43,7 +43,7 @@ const OLD: &[u8] = b"what was there";
 /// The report of two outputs, which begins with that of the first one.
 const REPORT: &[u8; 54] = b"output A samples 16 gaps 0\noutput C samples 16 gaps 0\n";
 
-/// By threads, in windows of any length, and on one thread.
+/// Words of a rendering of two ticks: by threads, in windows of two lengths, and on one thread.
 const LINES: &[&str] = &[
     "render f 2",
     "render f 2 --window=1",
@@ -58,16 +58,17 @@ enum Left {
     Front(usize, usize),
 }
 
-/// The front of so many bytes.
+/// What is left: the front of an output, of so many bytes.
 fn front(length: usize) -> Left {
     Left::Front(length, length)
 }
 
-/// The whole output.
+/// What is left: the whole output.
 fn whole() -> Left {
     front(ALL)
 }
 
+// Whether this is what is left under a name, by what was found there and what stood there before.
 fn is_left(left: Left, found: Option<&[u8]>, before: Option<&[u8]>) -> bool {
     match left {
         Left::Before => found == before,
@@ -89,7 +90,7 @@ struct Ending {
     told: usize,
 }
 
-/// A write failed, and nothing was told.
+/// The end of a call of which a write failed: nothing is told.
 fn failed(first: Left, second: Left) -> Ending {
     Ending {
         status: 4,
@@ -118,7 +119,7 @@ fn report_sink(alloc: Global, failing: Failing) -> Result<MemSink, Fail> {
     }
 }
 
-// What is left of the outputs and of the report.
+// The outputs and the report are left so.
 fn check_left(rt: &impl Abort, shelf: &MemShelf, told: &[u8], ending: Ending, is_old: bool) {
     let before = if is_old { Some(OLD) } else { None };
     assert!(rt; is_left(ending.first, shelf.get("A"), before));
@@ -126,7 +127,7 @@ fn check_left(rt: &impl Abort, shelf: &MemShelf, told: &[u8], ending: Ending, is
     assert!(rt; told.len() == ending.told && REPORT.starts_with(told));
 }
 
-// What a call of these words leaves on a shelf.
+// A call of these words on a shelf ends so, where this call of a device fails.
 fn check_shelf<R: Abort + Threads + Wait + Sync>(
     rt: &R,
     alloc: Global,
@@ -144,7 +145,8 @@ fn check_shelf<R: Abort + Threads + Wait + Sync>(
     Ok(())
 }
 
-// What a call of these words leaves, over old outputs or none.
+// Over old outputs or none, a call of these words has this end, where this call of a device fails. `run` is a script
+// and the words.
 fn check_over<R: Abort + Threads + Wait + Sync>(
     rt: &R,
     alloc: Global,
@@ -158,7 +160,8 @@ fn check_over<R: Abort + Threads + Wait + Sync>(
     check_shelf(rt, alloc, line, &mut shelf, failing, ending, is_old)
 }
 
-// What a call of these words leaves.
+// A call of these words ends so, where this call of a device fails, over old outputs and over none. `run` is a script
+// and the words.
 fn check<R: Abort + Threads + Wait + Sync>(
     rt: &R,
     alloc: Global,
@@ -186,7 +189,8 @@ fn check_reads<R: Abort + Threads + Wait + Sync>(
     check(rt, alloc, run, Failing::Read(1), ending)
 }
 
-// The report breaks off at each byte, with all outputs whole.
+// The report, of `length` bytes, breaks off at each byte, with all outputs whole. `second` is what is left of the
+// second output, which may not be there.
 fn check_reports<R: Abort + Threads + Wait + Sync>(
     rt: &R,
     alloc: Global,
@@ -206,7 +210,7 @@ fn check_reports<R: Abort + Threads + Wait + Sync>(
     Ok(())
 }
 
-// Where this call is told to fail, none does: there are no more.
+// Where this call of a device is told to fail, none does: there are no more. `told` is how long the report is.
 fn check_no_more<R: Abort + Threads + Wait + Sync>(
     rt: &R,
     alloc: Global,
@@ -224,7 +228,7 @@ fn check_no_more<R: Abort + Threads + Wait + Sync>(
     check(rt, alloc, run, failing, ending)
 }
 
-// The header or a tick of the one output breaks off at each byte: so many bytes stand before it.
+// A piece of the one output, of `size` bytes, breaks off at each byte: `before` bytes are written before it.
 fn check_one_piece<R: Abort + Threads + Wait + Sync>(
     rt: &R,
     alloc: Global,
@@ -272,8 +276,9 @@ fn each_call_of_one_output_fails(rt: HostRuntime) -> Result<(), Fail> {
     Ok(())
 }
 
-// A piece of one of two outputs breaks off at each byte: so many bytes of it stand before. What is left of the other
-// one.
+// A piece of one of two outputs breaks off after each number of bytes, up to those of a tick: `before` bytes of the
+// output are written before it. `piece` is the number of the output and of its piece, and `other` what is left of the
+// other output.
 fn check_piece_of_two<R: Abort + Threads + Wait + Sync>(
     rt: &R,
     alloc: Global,
@@ -399,7 +404,7 @@ fn one_clock_stops_and_the_other_ends_its_window(rt: HostRuntime) -> Result<(), 
     Ok(())
 }
 
-// A call of these words tells this much of its line; no file is changed.
+// A call of these words tells `taken` bytes of its line, and changes no file.
 fn check_front<R: Abort + Threads + Wait + Sync>(
     rt: &R,
     alloc: Global,

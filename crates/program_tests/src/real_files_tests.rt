@@ -26,6 +26,7 @@ impl Device {
         }
     }
 
+    // How many bytes of so many go through at this call.
     fn turn(&mut self, length: usize) -> io::Result<usize> {
         self.interrupted = !self.interrupted;
         if self.interrupted {
@@ -98,6 +99,8 @@ fn a_failed_write_leaves_the_front_of_the_piece(rt: HostRuntime) -> Result<(), F
 #[test]
 fn a_read_that_fails_in_the_middle_is_no_end(rt: HostRuntime) -> Result<(), Fail> {
     let alloc = rt.alloc();
+    // Each row: whether the eleven bytes end, or the device fails after them; the bytes that are allowed, the answer,
+    // and how many were read.
     let rows = [
         (true, 100, Ok(Fetched::Found), 11),
         (true, 11, Ok(Fetched::Found), 11),
@@ -136,6 +139,8 @@ fn a_look_at_a_front_reads_no_more(rt: HostRuntime) -> Result<(), Fail> {
 #[test]
 fn a_look_at_a_whole_file_tells_its_size(rt: HostRuntime) -> Result<(), Fail> {
     let alloc = rt.alloc();
+    // Each row: whether the eleven bytes end, or the device fails after them; the bytes that are allowed, the answer,
+    // and how many were read.
     let rows = [
         (true, 11, Ok(Looked::Found(11)), 11),
         (true, 10, Ok(Looked::TooLarge), 9),

@@ -6,7 +6,7 @@ use std::thread;
 use std::thread::Threads;
 use step_gate::StepGate;
 
-// So many ticks of a clock.
+// Lets a clock enter the gate for so many ticks, and returns how many these were.
 fn pass<G: Gate>(gate: &G, clock: u32, ticks: u64) -> u64 {
     for tick in 0..ticks {
         gate.enter(clock, tick);
@@ -18,7 +18,7 @@ fn pass<G: Gate>(gate: &G, clock: u32, ticks: u64) -> u64 {
 /// and ones of which the gate keeps no count.
 const JOINED: &[(u32, u32, &[u32])] = &[(0, 1, &[2]), (0, 1, &[1]), (64, 0, &[0, 64, u32::MAX])];
 
-// Each of these clocks comes to its end.
+// Each of these clocks comes to its end, at a gate of two joined clocks.
 fn check<R: Abort + Wait>(rt: &R, first: u32, second: u32, clocks: &[u32]) {
     let gate = StepGate::new(rt);
     gate.join(first, second);
@@ -34,6 +34,7 @@ fn a_clock_that_never_comes_holds_none_for_long(rt: HostRuntime) {
     }
 }
 
+// Two joined clocks, each on a thread: how many ticks each of them made.
 fn both<R: Threads + Wait + Sync>(rt: &R) -> (u64, u64) {
     let gate = StepGate::new(rt);
     gate.join(0, 1);
@@ -62,6 +63,7 @@ fn behind_others<R: Threads + Wait + Sync>(rt: &R) -> u64 {
     100
 }
 
+// Lets one clock and then another enter the gate at this tick.
 fn pass_both<G: Gate>(gate: &G, first: u32, second: u32, tick: u64) -> u64 {
     gate.enter(first, tick);
     gate.enter(second, tick);

@@ -9,7 +9,7 @@ use std::test::Fail;
 use std::thread;
 use std::thread::Threads;
 
-/// These samples on both sides.
+/// The samples 1 2 3 on both sides, as bytes.
 const CYCLE: &[u8] = b"\x01\0\x01\0\x02\0\x02\0\x03\0\x03\0";
 
 /// A source in the clock `main`, and a buffer of one chunk that carries it to the clock `b`. A tick has 8 samples.
@@ -17,7 +17,7 @@ const JOINED: &str =
     "set(\"frame.audio.samplerate\", 8000)\nset(\"frame.duration\", 0.001)\ns = single(\"B\")\n\
     output.file(%wav, \"A\", s)\noutput.file(%wav, \"C\", clock(id=\"b\", mksafe(buffer(buffer=0., max=0., s))))\n";
 
-/// So many turns a clock waits at most.
+/// How often a clock gives its turn to others, at most, while it waits.
 const TURNS: u64 = 200_000_000;
 
 /// Lets two clocks go on in turn: clock 0 begins a tick once clock 1 has come to the same one; and clock 1 begins a
@@ -76,7 +76,7 @@ fn check_output(rt: &impl Abort, output: &[u8], cycles: usize) {
     }
 }
 
-// What is told begins so.
+// The report begins so: no gaps, and all four chunks accepted.
 fn check_report(rt: &impl Abort, told: &[u8]) {
     assert!(rt;
         told.starts_with(

@@ -22,7 +22,7 @@ const NOTHING: &str = "set(\"frame.audio.samplerate\", 8000)\nset(\"frame.durati
 /// Bytes of an output of one tick.
 const OUTPUT_BYTES: usize = 76;
 
-// The status of a call over the files of a script, of which one fails.
+// The status of a call of these words, where this call of a device fails.
 fn status_of<R: Threads + Wait + Sync>(
     rt: &R,
     alloc: Global,
@@ -36,12 +36,12 @@ fn status_of<R: Threads + Wait + Sync>(
     Ok(status)
 }
 
-// Both outputs are whole.
+// Whether both outputs are whole.
 fn are_whole(shelf: &MemShelf) -> bool {
     held(shelf, "A").len() == OUTPUT_BYTES && held(shelf, "C").len() == OUTPUT_BYTES
 }
 
-// Whether the names behind the outputs hold this: the cue files, as far as they are asked for, and the trace.
+// Whether this is left in the trace and the cue files, in this order; only so many of these names are looked at.
 fn hold(shelf: &MemShelf, left: &[&str]) -> bool {
     for (name, bytes) in ["T", "A.cue", "C.cue"].iter().zip(left.iter()) {
         if held(shelf, name) != bytes.as_bytes() {
@@ -72,7 +72,7 @@ const ROWS: &[Row] = &[
     (TWO, BOTH, Failing::Piece(4, 0, 1), &["l", "0\n", "0\n"]),
 ];
 
-// A row over its shelf: the outputs are whole.
+// A row over its shelf: its call ends with 4, and leaves the outputs whole and this of the other files.
 fn check<R: Abort + Threads + Wait + Sync>(
     rt: &R,
     alloc: Global,
@@ -123,14 +123,14 @@ const TRACE: &[u8] = b"liq trace 1 1 16 1\nwindow 0 buffer 0 puts A takes GE\n";
 
 const AUDIO_AND_TRACE: &[(&str, &[u8])] = &[("B", ONE_TWO_THREE), ("T", TRACE)];
 
-// The status of a replay.
+// The status of a replay; nothing if its words would take threads.
 fn replayed(alloc: Global, words: &[String], shelf: &mut MemShelf) -> Result<Option<u8>, Fail> {
     let mut out = sink(alloc)?;
     let mut err = sink(alloc)?;
     Ok(liq_alone(alloc, words, shelf, &mut out, &mut err))
 }
 
-// What a replay of which a call fails leaves.
+// A replay of which a call fails has this status, and leaves so many bytes of its first output.
 fn check_replay(
     rt: &impl Abort,
     alloc: Global,

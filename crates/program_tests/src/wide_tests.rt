@@ -39,7 +39,7 @@ const ROWS: &[Row] = &[
 
 const AUDIO: &[(&str, &[u8])] = &[("S", PAIR)];
 
-// A row over its shelf.
+// A row over its shelf: where this piece fails, the call has this status and leaves this output.
 fn check<R: Abort + Threads + Wait + Sync>(
     rt: &R,
     alloc: Global,

@@ -4,8 +4,8 @@ use std::env;
 use std::io::ErrorKind;
 use std::rt::Env;
 
-/// The words after the program's name, or nothing if memory is refused. An argument that is not UTF-8 makes no form of
-/// the words, as no words at all.
+/// The words of a call after the program's name; nothing if memory is refused. Where an argument is not UTF-8, there
+/// are no words, which make no form.
 pub fn words<R: Env + Alloc<A = Global>>(rt: &R) -> Option<Vec<String>> {
     match env::args(rt) {
         Ok(args) => args.skip(1).collect(rt.alloc()).ok(),

@@ -23,7 +23,7 @@ pub struct FileShelf<'a, R: Files<File = File> + Alloc<A = Global>> {
 }
 
 impl<'a, R: Files<File = File> + Alloc<A = Global>> FileShelf<'a, R> {
-    /// The files, without a failure so far.
+    /// The files of the system, before any failure.
     pub fn new(rt: &'a R) -> FileShelf<'a, R>
         ensures reads { result.read_faults ≡ 0 }
         ensures writes { result.write_faults ≡ 0 }
@@ -37,7 +37,8 @@ impl<'a, R: Files<File = File> + Alloc<A = Global>> FileShelf<'a, R> {
         }
     }
 
-    /// The files, of which those are read that are regular. A read of another, which may wait, is a failure.
+    /// The files of the system, of which those are read that are regular. A read of another, which may wait, is a
+    /// failure.
     pub fn regular(rt: &'a R) -> FileShelf<'a, R>
         ensures reads { result.read_faults ≡ 0 }
         ensures writes { result.write_faults ≡ 0 }
@@ -114,7 +115,7 @@ impl<'a, R: Files<File = File> + Alloc<A = Global>> Shelf for FileShelf<'a, R> {
     }
 }
 
-// Whether something is there that is no regular file.
+// Whether something of this name is there that is no regular file, so that a read of it may wait.
 fn may_wait<R: Files<File = File>>(rt: &R, name: &str) -> bool {
     match fs::metadata(rt, name) {
         Ok(found) => !found.is_file(),
@@ -122,7 +123,7 @@ fn may_wait<R: Files<File = File>>(rt: &R, name: &str) -> bool {
     }
 }
 
-// Adds the bytes of a file that has at most `most`.
+// Adds the bytes of the file of this name, if it has at most `most`.
 fn read_file<R: Files<File = File>>(
     rt: &R,
     name: &str,
@@ -143,8 +144,8 @@ fn read_file<R: Files<File = File>>(
     }
 }
 
-// The bytes of a regular file that has at most `most`, and 0 of any other: room for them is asked for at once. What is
-// read decides how many there are.
+// How many bytes a regular file has, if they are at most `most`, and 0 for any other file: room for them is asked for
+// at once. What is read decides how many there are.
 fn room_for(file: &File, most: u64) -> usize {
     match file.metadata() {
         Ok(found) if found.is_file() && found.len() <= most => found.len() as usize,
@@ -152,8 +153,8 @@ fn room_for(file: &File, most: u64) -> usize {
     }
 }
 
-// Adds the first bytes of a file that has at most `most`: of a regular one that has more than `front`, so many, and of
-// any other all.
+// Adds the first bytes of the file of this name, if it has at most `most`: of a regular file with more than `front`
+// bytes, the first `front`; of any other, all.
 fn look_at_file<R: Files<File = File>>(
     rt: &R,
     name: &str,
@@ -174,7 +175,7 @@ fn look_at_file<R: Files<File = File>>(
     }
 }
 
-// The size of a regular file that has more bytes than these.
+// The size of a regular file that has more than `front` bytes; nothing for any other file.
 fn size_past(file: &File, front: u64) -> Option<u64>
     ensures { IfSome result (λ size. front < size) }
 {
@@ -184,7 +185,7 @@ fn size_past(file: &File, front: u64) -> Option<u64>
     }
 }
 
-// What a failed opening says of a file that was to be looked at.
+// What a failed opening says of a file that was to be looked at: it is missing only where the system did not find it.
 fn unlooked(kind: ErrorKind) -> Result<Looked, ShelfFault>
     ensures { (size : ℕ) → result ≢ Ok (Looked.Found size) }
 {

@@ -1,16 +1,16 @@
 // The names of files: the folder of a name, and the names of the temporary files beside it.
 use std::alloc::{AllocError, Global};
 
-/// What stands behind the name of an output in the names of its temporary files.
+/// What is added to the name of an output for its temporary files.
 const UNFINISHED: &str = ".unfinished";
 
-/// What stands there for a name that is too long for more.
+/// What a temporary file is called in place of a name to which nothing can be added.
 const SHORT: &str = "liq";
 
-/// Bytes of the longest name to which the system lets us add the rest.
+/// How many bytes a name has at most to which the system lets us add the rest.
 const LONGEST: usize = 230;
 
-/// The folder that a path leads to, and its name there.
+/// The folder that a path leads to, and the name of the path's file there.
 pub(crate) fn split_path(path: &str) -> (&str, &str) {
     match path.rsplit_once('/') {
         Some((folder, last)) => (if folder.is_empty() { "/" } else { folder }, last),
@@ -18,7 +18,7 @@ pub(crate) fn split_path(path: &str) -> (&str, &str) {
     }
 }
 
-/// The path of the temporary file of this number beside a path: numbers from 2 on are written out.
+/// The path of the temporary file of this number beside a path: a number from 2 on is part of it.
 pub(crate) fn temporary_path(alloc: Global, path: &str, number: u32) -> Result<String, AllocError> {
     let (folder, last) = split_path(path);
     let mut text = if last.len() <= LONGEST {

@@ -16,10 +16,10 @@ use std::os::unix::fs::{MetadataExt, OpenOptionsExt};
 use std::rt::Files;
 use std::{fs, io};
 
-/// The mode of a file where none was, before the system takes away what the user wants not to be given.
+/// The mode of a file where none was, before the system takes away the rights that the user wants not to be given.
 const NEW_MODE: u32 = 0o666;
 
-/// The outputs of a run.
+/// The outputs of a run: those that are written beside their names, and those that are written in place.
 #[derive(Drop)]
 pub(crate) struct Places {
     beside: Vec<Beside>,
@@ -82,7 +82,7 @@ impl From<AllocError> for Unmade {
 }
 
 impl Places {
-    /// No output so far.
+    /// The outputs of a run before the first is created.
     pub fn new(alloc: Global) -> Places {
         Places {
             beside: Vec::new(alloc),
@@ -90,8 +90,8 @@ impl Places {
         }
     }
 
-    /// Opens the file of an output of this name, which is to get so many bytes. It fails where an output of this run
-    /// has this real file already, under whatever name, and where the report goes into it.
+    /// Opens the file of an output of this name, which is to get `room` bytes. It fails where an output of this run has
+    /// this real file already, under whatever name, and where the report goes into it.
     pub fn create<R: Files<File = File> + Alloc<A = Global>>(
         &mut self,
         rt: &R,
@@ -125,8 +125,8 @@ impl Places {
         }
     }
 
-    // Puts the temporary file of an output in its place, and has the system make certain that it stays there. One that
-    // is no longer there, or is not the file that was made, is left alone.
+    // Puts the temporary file of an output in its place, and has the system make certain that it stays there. A
+    // temporary file that is no longer there, or is not the file that was made, is left alone.
     fn put<R: Files<File = File>>(&self, rt: &R, certain: Certain<File>) -> Result<(), Failed> {
         let Place::Beside(at) = certain.place() else {
             return Ok(());
@@ -146,8 +146,9 @@ impl Places {
         }
     }
 
-    // Renames the temporary file of an output, all of whose bytes are certain. No file takes the place of another
-    // output of this run. The handle is given back before the folder is opened, so that a closing needs no handle more.
+    // Renames the temporary file of an output, all of whose bytes are certain, and answers its folder. No file takes
+    // the place of another output of this run. The handle is given back before the folder is opened, so that a closing
+    // needs no handle more.
     fn replace<R: Files<File = File>>(
         &self,
         rt: &R,
@@ -184,14 +185,14 @@ impl Places {
         self.beside.iter().any(|output| Some(output.file) == found)
     }
 
-    // Whether this is the place of an output.
+    // Whether an output of this run is to stand in this folder under this name.
     fn is_place(&self, folder: FileId, last: &str) -> bool {
         self.beside.iter().any(|output| output.folder == folder
             && split_path(output.path.as_str()).1 == last)
     }
 
-    // Moves a temporary file of this run away, where it has the name of an output. An output that was closed has none,
-    // and stands in its place.
+    // Moves a temporary file of this run away, where it has the name of a new output. An output that was closed has no
+    // temporary file, and stands in its place.
     fn give_way<R: Files<File = File> + Alloc<A = Global>>(
         &mut self,
         rt: &R,
@@ -214,7 +215,8 @@ impl Places {
         Ok(())
     }
 
-    // Moves the temporary file of an output to the next name that is free, if it is there.
+    // Moves the temporary file of output `at` to the next name that is free, and answers that name; nothing where it is
+    // not there.
     fn moved<R: Files<File = File> + Alloc<A = Global>>(
         &self,
         rt: &R,
@@ -240,7 +242,8 @@ impl Places {
         Err(ShelfFault::Failed)
     }
 
-    // Opens the file of an output at this path, which is no link: beside it where that can be.
+    // Opens the file of an output at this path, which is no link and where `old` was found: beside the path where that
+    // can be.
     fn create_file<R: Files<File = File> + Alloc<A = Global>>(
         &mut self,
         rt: &R,
@@ -273,7 +276,8 @@ impl Places {
         }
     }
 
-    // Opens an output at whose path an old file stands, and beside which a file was made.
+    // Opens an output at whose path an old file stands, and beside which a file was made: `made` if it may take the
+    // place of `old`, and else `old` itself.
     fn open_beside<R: Files<File = File> + Alloc<A = Global>>(
         &mut self,
         rt: &R,
@@ -303,7 +307,7 @@ impl Places {
         }
     }
 
-    // What becomes of the old file at this path, beside which a file was made. Where the system does not tell, neither
+    // What becomes of the old file at this path, beside which `file` was made. Where the system does not tell, neither
     // is known, and the creation fails.
     fn standing<R: Files<File = File> + Alloc<A = Global>>(
         &self,
@@ -344,7 +348,7 @@ impl Places {
         }
     }
 
-    // Keeps an output that is written beside its name.
+    // Notes an output that is written beside its path, and answers its sink; `made` is its temporary file.
     fn keep<R: Files<File = File> + Alloc<A = Global>>(
         &mut self,
         rt: &R,
@@ -385,7 +389,7 @@ impl Places {
         }
     }
 
-    // Opens what stands at the name of an output, to be written in place.
+    // Opens what was found at the path of an output, to be written in place.
     fn open_in_place<R: Files<File = File> + Alloc<A = Global>>(
         &mut self,
         rt: &R,
@@ -460,13 +464,13 @@ impl Places {
     }
 }
 
-// Whether the temporary file of an output is there, and still the file that was made.
+// Whether the temporary file of an output is there, and still is the file that was made.
 fn is_there<R: Files<File = File>>(rt: &R, output: &Beside) -> Result<bool, Unseen> {
     Ok(FileId::named(rt, output.temporary.as_str())? == Some(output.file))
 }
 
-// Whether the system makes or names no file at all there, so that an old file is written in place. Where it has no room
-// for one, or tells another fault, the old file is not touched.
+// Whether a fault says that the system makes or names no file at all in a place, so that an old file is written in
+// place. Where it has no room for one, or tells another fault, the old file is not touched.
 fn is_refusal(kind: ErrorKind) -> bool {
     matches!(
         kind,
@@ -474,7 +478,7 @@ fn is_refusal(kind: ErrorKind) -> bool {
     )
 }
 
-// Finds out what stands at the name of an output. A link that leads to no file yet gets an empty one.
+// What stands at the name of an output. A link that leads to no file yet gets an empty one.
 fn find<R: Files<File = File> + Alloc<A = Global>>(
     rt: &R,
     name: &str,
@@ -496,7 +500,7 @@ fn find<R: Files<File = File> + Alloc<A = Global>>(
     }
 }
 
-// Finds out how something is written that stands at a name.
+// What stands at the name of an output, where this was found.
 fn identify<R: Files<File = File> + Alloc<A = Global>>(
     rt: &R,
     name: &str,
@@ -515,8 +519,8 @@ fn identify<R: Files<File = File> + Alloc<A = Global>>(
     }
 }
 
-// Finds out how a file is written to which a link leads: beside it, and in place where no path of ours names it, as one
-// that is too long or no UTF-8.
+// What stands at the name of an output that is a link to a file: the file by its own path, beside which it is written;
+// or one that is written in place, since no path of ours names it, as one that is too long or no UTF-8.
 fn follow<R: Files<File = File> + Alloc<A = Global>>(
     rt: &R,
     name: &str,
@@ -530,7 +534,7 @@ fn follow<R: Files<File = File> + Alloc<A = Global>>(
     }
 }
 
-// A text of its own.
+// A copy of a name.
 fn text(alloc: Global, name: &str) -> Result<String, ShelfFault> {
     match String::from_str(alloc, name) {
         Ok(text) => Ok(text),

@@ -12,13 +12,13 @@ use std::os::unix::fs::{MetadataExt, PermissionsExt, fchown};
 use std::rt::Files;
 use std::{fs, io};
 
-/// The bit of a folder in which a file may be replaced by its owner and the folder's alone.
+/// The bit in the mode of a folder whose files may be replaced only by their owners and by the folder's.
 const STICKY: u32 = 0o1000;
 
-/// Where the report goes.
+/// The path by which the system names where the report goes.
 const REPORT: &str = "/dev/stdout";
 
-/// The system did not let us look, so nothing is known: neither that something is there nor that nothing is.
+/// The system did not let us look, so it is not known whether something is there.
 #[derive(Drop)]
 pub(crate) struct Unseen;
 
@@ -42,7 +42,7 @@ pub(crate) struct FileId {
 }
 
 impl FileId {
-    /// The file that was asked about.
+    /// The identity of the file that was asked about.
     pub fn of(found: &Metadata) -> FileId {
         FileId {
             device: found.dev(),
@@ -50,17 +50,17 @@ impl FileId {
         }
     }
 
-    /// The file to which a path leads, or nothing where none is there.
+    /// The identity of the file to which a path leads; nothing where none is there.
     pub fn at<R: Files<File = File>>(rt: &R, path: &str) -> Result<Option<FileId>, Unseen> {
         FileId::seen(fs::metadata(rt, path))
     }
 
-    /// The file of a name that is no link, or nothing where none is there.
+    /// The identity of what a path names, be it a link itself; nothing where nothing is there.
     pub fn named<R: Files<File = File>>(rt: &R, path: &str) -> Result<Option<FileId>, Unseen> {
         FileId::seen(fs::symlink_metadata(rt, path))
     }
 
-    // What a look tells.
+    // The identity of the file that a look at a path found; nothing where none is there.
     fn seen(looked: io::Result<Metadata>) -> Result<Option<FileId>, Unseen> {
         match looked {
             Ok(found) => Ok(Some(FileId::of(&found))),
@@ -70,7 +70,7 @@ impl FileId {
     }
 }
 
-/// Whether this is a regular file into which the report is written.
+/// Whether what was found is a regular file into which the report is written.
 pub(crate) fn takes_report<R: Files<File = File>>(
     rt: &R,
     found: &Metadata,
@@ -78,20 +78,21 @@ pub(crate) fn takes_report<R: Files<File = File>>(
     Ok(found.is_file() && FileId::at(rt, REPORT)? == Some(FileId::of(found)))
 }
 
-/// Whether a file that is there may be written.
+/// Whether the file at this path may be written.
 pub(crate) fn is_writable<R: Files<File = File>>(rt: &R, path: &str) -> bool {
     OpenOptions::new().write(true).open(rt, path).is_ok()
 }
 
-/// Whether a file that this process owns may take the place of an old one in its folder, by the rule of sticky folders.
+/// Whether a file that this process owns, as `ours`, may take the place of an old one in its folder, by the rule of
+/// sticky folders.
 pub(crate) fn may_replace(folder: &Metadata, old: &Metadata, ours: &Metadata) -> bool {
     let us = ours.uid();
     folder.mode() & STICKY == 0 || us == 0 || us == old.uid() || us == folder.uid()
 }
 
-/// The mode of a new file in place of one of this mode: what it says of who may do what, without the bits of other
-/// owners' programs and of sticky folders. Where the new file has another group than the old one, its group and all
-/// others may do what both the old group and all others might before, so that nobody gains.
+/// The mode of a new file in place of one of mode `old`: what it says of who may do what, without the bits of other
+/// owners' programs and of sticky folders. Unless the new file has the old one's group, its group and all others may do
+/// what both the old group and all others might before, so that nobody gains.
 pub(crate) fn new_mode(old: u32, has_group: bool) -> u32
     ensures owner { result / 64 ≡ old / 64 % 8 }
     ensures group { result / 8 % 8 ≡ group_access has_group old }
@@ -104,7 +105,7 @@ pub(crate) fn new_mode(old: u32, has_group: bool) -> u32
     }
 }
 
-// The mode for another group.
+// The mode of a new file in place of one of mode `old`, whose group it has not.
 fn shared_access(old: u32) -> u32
     ensures owner { result / 64 ≡ old / 64 % 8 }
     ensures group { result / 8 % 8 ≡ bit_and (old / 8 % 8) (old % 8) }
@@ -122,19 +123,19 @@ pub(crate) fn copy_access(old: &Metadata, new: &File) {
     let _ = new.set_permissions(Permissions::from_mode(mode));
 }
 
-/// Removes a file, if it is there and may be removed.
+/// Removes the file at this path, if it is there and may be removed.
 pub(crate) fn remove<R: Files<File = File>>(rt: &R, path: &str) {
     let _ = fs::remove_file(rt, path);
 }
 
-/// A folder whose names are made to last. Of one that this user may not read nothing can be asked.
+/// A folder whose names are made to last. Of a folder that this user may not read nothing can be asked.
 #[derive(Drop)]
 pub(crate) struct Folder {
     opened: Option<File>,
 }
 
 impl Folder {
-    /// Opens a folder, where this user may read it.
+    /// Opens the folder at this path, where this user may read it.
     pub fn open<R: Files<File = File>>(rt: &R, path: &str) -> Result<Folder, Failed> {
         match File::open(rt, path) {
             Ok(opened) => Ok(Folder {
@@ -147,7 +148,7 @@ impl Folder {
         }
     }
 
-    /// Has the system make its names certain.
+    /// Has the system make the folder's names certain.
     pub fn sync(self) -> Result<(), Failed> {
         let Some(mut opened) = self.opened else {
             return Ok(());

@@ -1,30 +1,30 @@
 -- The forms that lines have.
 use Rattle.std.specs.Prelude.{ℕ, List, ◌++◌, codes, decimal}
 
--- a text, a blank and a number
+-- a line of a text and a number
 abbrev pub at_place : List ℕ → ℕ → List ℕ
 at_place text place = text ++ codes " " ++ decimal place ++ codes "\n"
 
--- a text, a blank and a name
+-- a line of a text and a name
 abbrev pub of_name : List ℕ → List ℕ → List ℕ
 of_name text name = text ++ codes " " ++ name ++ codes "\n"
 
--- what is wrong with a statement, counted from 1
+-- a line of what is wrong with a statement; `number` is that of the refusal, as `E12`
 abbrev pub at_statement : List ℕ → ℕ → List ℕ → List ℕ
 at_statement number statement text = number ++ codes " statement " ++ decimal statement ++ codes ": " ++ text
     ++ codes "\n"
 
--- what is wrong at a token of a statement
+-- a line of what is wrong at a token of a statement; `number` is that of the refusal, as `E08`
 abbrev pub at_token : List ℕ → ℕ → List ℕ → ℕ → List ℕ
 at_token number statement text token =
     number ++ codes " statement " ++ decimal statement ++ codes ": " ++ text ++ codes " at token " ++ decimal token
     ++ codes "\n"
 
--- a file and the number of what is wrong with it
+-- a line of a text, the name of a file, and the number of what is wrong with it
 abbrev pub of_audio : List ℕ → List ℕ → ℕ → List ℕ
 of_audio text name number = text ++ codes " " ++ name ++ codes ": " ++ decimal number ++ codes "\n"
 
--- a source and two clocks in which it must lie
+-- a line of a text, a source, and two clocks in which it must lie
 abbrev pub of_clocks : List ℕ → ℕ → List ℕ → List ℕ → List ℕ
 of_clocks text node first second =
     text ++ codes " " ++ decimal node ++ codes " under clocks " ++ first ++ codes " and " ++ second ++ codes "\n"

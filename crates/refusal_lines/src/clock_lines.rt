@@ -24,7 +24,7 @@ pub fn clock_line(alloc: Global, fault: &ClockFault) -> Result<String, Memory>
     }
 }
 
-// The line of a source that must lie in two clocks.
+// The line of a source, `node`, that must lie in two clocks.
 fn two_clocks(
     alloc: Global,
     node: u32,
@@ -39,7 +39,7 @@ fn two_clocks(
     of_clocks(alloc, "E26 source", node, &first, &second)
 }
 
-// The name of a clock in which a source must lie.
+// What a line calls a clock in which a source must lie.
 fn clock_name(alloc: Global, clock: &ClockName) -> Result<String, Memory>
     ensures { IfOk result (λ name. string_bytes name ≡ clock_in_words clock.now) }
 {
@@ -50,14 +50,14 @@ fn clock_name(alloc: Global, clock: &ClockName) -> Result<String, Memory>
     }
 }
 
-// The name of a crossfade's own clock.
+// What a line calls the own clock of crossfade `node`.
 fn sub_clock(alloc: Global, node: u32) -> Result<String, Memory>
     ensures { IfOk result (λ name. string_bytes name ≡ codes "crossfade " ++ decimal node) }
 {
     Ok(format!(in alloc; "crossfade {node}")?)
 }
 
-// The line of a crossfade that lies in its own clock.
+// The line of a crossfade, `node`, that lies in its own clock.
 fn nested(alloc: Global, node: u32) -> Result<String, Memory>
     ensures { IfOk result (λ line. string_bytes line
         ≡ codes "E27 crossfade " ++ decimal node ++ codes " lies in its own clock\n") }

@@ -14,7 +14,7 @@ use script_plan::ScriptFault;
 use stations::StationFault;
 use std::alloc::Global;
 
-/// Why a script is refused. The line of each stands in `docs/faults.md`.
+/// Why a script is refused. `docs/faults.md` has the line of each.
 #[derive(Debug, Drop)]
 pub enum Fault {
     /// The file of the script is not there.
@@ -34,8 +34,8 @@ pub enum Fault {
 }
 
 impl Fault {
-    /// The line that is written to `err`, with its line end. What is no refusal has none: want of memory, and a read
-    /// that failed.
+    /// The line that is written to standard error, with its line end. What is no refusal has none: want of memory, and
+    /// a read that failed.
     pub fn line(&self, alloc: Global) -> Result<String, Memory>
         ensures { IfOk result (λ line. string_bytes line ≡ line_of self.now) }
     {
@@ -49,7 +49,7 @@ impl Fault {
     }
 }
 
-// The line of a script that has no plan.
+// The line of a script that has no plan. Want of memory has none.
 fn script_line(alloc: Global, fault: &ScriptFault) -> Result<String, Memory>
     ensures { IfOk result (λ line. string_bytes line ≡ script_line fault.now) }
 {
@@ -62,7 +62,7 @@ fn script_line(alloc: Global, fault: &ScriptFault) -> Result<String, Memory>
     }
 }
 
-// The line of a plan that is not rendered.
+// The line of a plan that is not rendered. Want of memory and a read that failed have none.
 fn station_line(alloc: Global, fault: &StationFault) -> Result<String, Memory>
     ensures { IfOk result (λ line. string_bytes line ≡ station_line fault.now) }
 {

@@ -24,7 +24,7 @@ pub fn file_line(alloc: Global, fault: &LoadFault) -> Result<String, Memory>
     }
 }
 
-// The number of what is wrong with a WAV file.
+// The number that a line gives for what is wrong with a WAV file.
 fn wav_number(fault: WavFault) -> u32
     ensures { result ≡ wav_number fault }
 {

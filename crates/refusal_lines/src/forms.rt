@@ -5,35 +5,35 @@ ghost use Rattle.refusal_lines.specs.Forms.{at_place, at_statement, at_token, of
 use liq_base::Memory;
 use std::alloc::Global;
 
-/// A line that is the same wherever it comes.
+/// A line that is this text.
 pub fn plain(alloc: Global, text: &str) -> Result<String, Memory>
     ensures { IfOk result (λ line. string_bytes line ≡ text.now ++ codes "\n") }
 {
     Ok(format!(in alloc; "{text}\n")?)
 }
 
-/// A line that ends with a number.
+/// A line of a text and a number: that of a byte of the script, or of a token.
 pub fn at_place(alloc: Global, text: &str, place: u32) -> Result<String, Memory>
     ensures { IfOk result (λ line. string_bytes line ≡ at_place text.now place) }
 {
     Ok(format!(in alloc; "{text} {place}\n")?)
 }
 
-/// A line that ends with the number of a line of a file.
+/// A line of a text and the number of a line of a file.
 pub fn at_line(alloc: Global, text: &str, number: u64) -> Result<String, Memory>
     ensures { IfOk result (λ line. string_bytes line ≡ at_place text.now number) }
 {
     Ok(format!(in alloc; "{text} {number}\n")?)
 }
 
-/// A line that ends with a name.
+/// A line of a text and a name.
 pub fn of_name(alloc: Global, text: &str, name: &str) -> Result<String, Memory>
     ensures { IfOk result (λ line. string_bytes line ≡ of_name text.now name.now) }
 {
     Ok(format!(in alloc; "{text} {name}\n")?)
 }
 
-/// A line of a statement.
+/// A line of what is wrong with a statement; `number` is that of the refusal, as `E12`.
 pub fn at_statement(
     alloc: Global,
     number: &str,
@@ -45,7 +45,7 @@ pub fn at_statement(
     Ok(format!(in alloc; "{number} statement {statement}: {text}\n")?)
 }
 
-/// A line of a token in a statement.
+/// A line of what is wrong at a token of a statement; `number` is that of the refusal, as `E08`.
 pub fn at_token(
     alloc: Global,
     number: &str,
@@ -58,14 +58,14 @@ pub fn at_token(
     Ok(format!(in alloc; "{number} statement {statement}: {text} at token {token}\n")?)
 }
 
-/// A line of a file and the number of what is wrong with it.
+/// A line of a text, the name of a file, and the number of what is wrong with it.
 pub fn of_audio(alloc: Global, text: &str, name: &str, number: u32) -> Result<String, Memory>
     ensures { IfOk result (λ line. string_bytes line ≡ of_audio text.now name.now number) }
 {
     Ok(format!(in alloc; "{text} {name}: {number}\n")?)
 }
 
-/// A line of a source and two clocks.
+/// A line of a text, the source `node`, and two clocks in which it must lie.
 pub fn of_clocks(
     alloc: Global,
     text: &str,

@@ -23,7 +23,7 @@ pub fn plan_line(alloc: Global, fault: &EvalFault) -> Result<String, Memory>
     }
 }
 
-// The name of a limit.
+// What a line calls a limit of the language.
 fn limit_name(limit: Limit) -> &'static str
     ensures { result.now ≡ limit_name limit }
 {

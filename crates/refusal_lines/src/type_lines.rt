@@ -30,7 +30,7 @@ pub fn type_line(alloc: Global, fault: &TypeFault) -> Result<String, Memory>
     }
 }
 
-// The line of an argument that is not given.
+// The line of a call that lacks the argument with this label; `token` is the place of its name.
 fn missing(alloc: Global, statement: u32, token: u32, label: &str) -> Result<String, Memory>
     ensures { IfOk result (λ line. string_bytes line
         ≡ token_form (codes "E09") statement (codes "missing argument " ++ label.now) token) }

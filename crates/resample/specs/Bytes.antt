@@ -2,7 +2,7 @@
 use Rattle.std.specs.Prelude.{ℕ, ℤ, ◌+◌, ◌*◌, Bool, List, [], ◌∷◌, if◌then◌else◌}
 use Rattle.std.specs.Int.{w16, cast_signed}
 
--- the sample that two bytes hold
+-- the sample that two bytes hold, the lower one first
 abbrev pub sample_in : ℕ → ℕ → ℤ
 sample_in low high = cast_signed w16 (low + 256 * high)
 

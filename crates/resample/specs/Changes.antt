@@ -11,37 +11,37 @@ use Rattle.resample.specs.declared.changed.Blocks.{Blocks}
 use Rattle.resample.specs.declared.changed.Source.{Source}
 use Rattle.resample.specs.declared.place.Way.{Way}
 
--- samples, left before right where there are two channels
+-- the samples of a file at the other rate, left before right where there are two channels
 pub record Samples : Type 0 where
   pub kind : Kind
   pub samples : List ℤ
 
--- the samples of blocks
+-- the samples that stand in the blocks of a file, at its own rate
 abbrev pub samples_of : Blocks → List ℤ
 samples_of blocks = samples_at blocks.wide (take blocks.size (drop blocks.at blocks.bytes.items))
 
--- they are at another rate
+-- the samples of these blocks at another rate, from rate `from` to rate `to`
 abbrev pub changed_from : (from to : ℕ) → Blocks → Samples
 changed_from from to blocks = record {
   kind = blocks.kind;
   samples = resampled from to blocks.kind (samples_of blocks);
 }
 
--- the blocks are there and whole, at least one and not too many
+-- the blocks lie within the bytes and are whole, at least one and at most 134217728
 pub record AreThere (blocks : Blocks) : Type 0 where
   pub inside : blocks.at + blocks.size ≤ length blocks.bytes.items
   pub file : IsFile blocks.kind (samples_of blocks)
 
--- blocks that stand side by side in bytes
+-- the samples of blocks that fill their bytes
 abbrev pub samples_in : Source → List ℤ
 samples_in source = samples_at source.wide source.bytes.now
 
--- whole blocks, and the number of the last one
+-- the blocks are whole, and `last` is the number of the last one
 pub record IsSource (source : Source) : Type 0 where
   pub file : IsFile source.kind (samples_in source)
   pub last : source.last + 1 ≡ blocks_of source.kind (samples_in source)
 
--- a rate, another, and what stands for the way from one sample of that to the next
+-- the numbers of a way belong to its two rates
 pub record IsWay (way : Way) : Type 0 where
   pub rates : AreRates way.from way.to
   pub few : way.from < 2 ^ 32
@@ -51,6 +51,6 @@ pub record IsWay (way : Way) : Type 0 where
   pub inverse : way.inverse ≡ inverse_of way.to
   pub by_lanes : way.by_lanes ≡ by_lanes.inverse_of way.to
 
--- the blocks at the other rate
+-- how many blocks there are at the other rate
 abbrev pub blocks_at : Source → Way → ℕ
 blocks_at source way = output_length (blocks_of source.kind (samples_in source)) way.from way.to

@@ -2,6 +2,6 @@
 use Rattle.std.specs.Prelude.{ℕ, ◌+◌, ◌*◌}
 use Rattle.resample.specs.declared.place.Place.{Place}
 
--- how many parts lie before a place, where the way from a block to the next one has `to` parts
+-- a place in the file as a number of parts, of which a block has `to`
 abbrev pub reached : ℕ → Place → ℕ
 reached to place = place.block * to + place.part

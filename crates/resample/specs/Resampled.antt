@@ -6,64 +6,64 @@ use Rattle.liq_base.specs.declared.limits.TheConstants.{MAX_RATE, MIN_RATE}
 use Rattle.liq_base.specs.Kinds.{channels_of}
 use Rattle.liq_base.specs.declared.memory.Kind.{Kind}
 
--- the rate of a file, and that of a script, in samples a second
+-- the rate of a file, above 0, and that of a script, within its bounds, in samples a second
 pub record AreRates (from to : ℕ) : Type 0 where
   pub some : 0 < from
   pub least : MIN_RATE ≤ to
   pub most : to ≤ MAX_RATE
 
--- how many samples each channel has
+-- how many samples each channel of a file has
 abbrev pub blocks_of : Kind → List ℤ → ℕ
 blocks_of kind samples = length samples / channels_of kind
 
--- whole blocks, and how many there may be
+-- the samples of a file: whole blocks, from 1 to 134217728
 pub record IsFile (kind : Kind) (samples : List ℤ) : Type 0 where
   pub whole_blocks : length samples % channels_of kind ≡ 0
   pub some : 1 ≤ blocks_of kind samples
   pub most : blocks_of kind samples ≤ 134217728
 
--- how many samples each channel has at the other rate, of so many: never none
+-- how many samples each channel has at the other rate, where it has `count` at its own: never none
 abbrev pub output_length : (count from to : ℕ) → ℕ
 output_length count from to = max 1 (count * to / from)
 
--- the sample of a block, on a side that is counted from 0
+-- the sample of a block on a side, which is 0 for left and 1 for right
 abbrev pub side_at : Kind → List ℤ → (block side : ℕ) → ℤ
 side_at kind samples block side = slice_index_or samples (block * channels_of kind + side) (pos 0)
 
--- the number that lies so many parts of a whole behind one sample on the way to another, rounded toward zero
+-- the number that lies `part` of `whole` parts behind one sample on the way to another, rounded toward zero
 abbrev pub interpolated : (before behind : ℤ) (part whole : ℕ) → ℤ
 interpolated before behind part whole = int_div ((before *ℤ pos (whole - part)) +ℤ (behind *ℤ pos part)) (pos whole)
 
--- sample j stands at place `j * from / to` of the file: behind so many blocks, and so many parts of `to` further
+-- The block of the file at or before sample j of the other rate, which stands at place j * from / to.
 abbrev pub block_before : (from to j : ℕ) → ℕ
 block_before from to j = j * from / to
 
--- how many parts of a sample instant j lies behind a sample of the file
+-- how many of `to` parts sample j of the other rate lies behind the block before it
 abbrev pub parts_behind : (from to j : ℕ) → ℕ
 parts_behind from to j = (j * from) % to
 
--- the samples of the file on either side of sample j: behind the last one there is the last one
+-- the sample of the file at or before sample j of the other rate, on a side
 abbrev pub sample_before : (from to : ℕ) → Kind → List ℤ → (j side : ℕ) → ℤ
 sample_before from to kind samples j side = side_at kind samples (block_before from to j) side
 
--- the sample of the file behind instant j, the last one at its end
+-- the sample of the file behind sample j of the other rate, on a side; at the end of the file the last one
 abbrev pub sample_behind : (from to : ℕ) → Kind → List ℤ → (j side : ℕ) → ℤ
 sample_behind from to kind samples j side = side_at kind samples
     (min (block_before from to j + 1) (blocks_of kind samples - 1)) side
 
--- sample j of a side, at the other rate
+-- sample j of a side at the other rate, between the two samples of the file around it
 abbrev pub resampled_sample : (from to : ℕ) → Kind → List ℤ → (j side : ℕ) → ℤ
 resampled_sample from to kind samples j side =
     interpolated (sample_before from to kind samples j side) (sample_behind from to kind samples j side)
     (parts_behind from to j) to
 
--- the samples at the other rate, in the order in which they stand
+-- the samples of a file at the other rate, left before right where there are two channels
 abbrev pub resampled : (from to : ℕ) → Kind → List ℤ → List ℤ
 resampled from to kind samples =
     map (λ k. resampled_sample from to kind samples (k / channels_of kind) (k % channels_of kind))
     (range_with_len 0 (output_length (blocks_of kind samples) from to * channels_of kind))
 
--- between two numbers, both included
+-- a number lies between two others, both included
 pub record LiesBetween (a b number : ℤ) : Type 0 where
   pub low : int_min a b ≤ℤ number
   pub high : number ≤ℤ int_max a b

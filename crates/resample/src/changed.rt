@@ -16,7 +16,7 @@ use liq_base::Kind;
 use sample_kernels::fade_eight;
 use std::marker::Model;
 
-/// A file at another rate. It holds the bytes of the file as they are.
+/// A file that is read at another rate than its own. It holds the bytes of the file as they are.
 #[derive(Debug, Drop)]
 pub struct Changed {
     blocks: Blocks,
@@ -26,7 +26,7 @@ pub struct Changed {
     to: u32,
 }
 
-/// Whole blocks of a file: so many of its bytes, from a place on.
+/// The blocks of a file, a sample of each channel in each: `size` bytes from byte `at` on.
 #[derive(Debug, Drop)]
 pub struct Blocks {
     pub kind: Kind,
@@ -39,7 +39,7 @@ pub struct Blocks {
     pub size: usize,
 }
 
-/// Whole blocks that are all of these bytes, and the number of the last one.
+/// Blocks that fill these bytes, a sample of each channel in each, and the number of the last one.
 #[derive(Clone, Copy)]
 pub struct Source<'a> {
     pub bytes: &'a [u8],
@@ -60,7 +60,8 @@ impl Model for Changed {
 }
 
 impl Changed {
-    /// The file of these blocks at another rate, from `MIN_RATE` to `MAX_RATE`.
+    /// The file of these blocks, which has rate `from`, read at rate `to`, from `MIN_RATE` to `MAX_RATE`, in samples a
+    /// second.
     pub fn new(blocks: Blocks, from: u32, to: u32) -> Changed
         requires rates { AreRates from to }
         requires there { AreThere blocks }
@@ -86,7 +87,7 @@ impl Changed {
         blocks * usize::from(source.kind.channels())
     }
 
-    /// The sample at a place in the order in which they stand.
+    /// Sample `at`, counted from 0 over both channels where there are two, left before right.
     pub fn sample(&self, at: usize) -> i16
         requires { at < length self.now.samples }
         ensures { result ≡ slice_index_or self.now.samples at (pos 0) }
@@ -98,7 +99,7 @@ impl Changed {
         sample_between(source, &way, place, at % channels)
     }
 
-    /// The samples of a side, which is counted from 0, as many as the slice is long, from a block on.
+    /// The samples of a side, 0 for left, as many as the slice is long, from block `at` at the other rate on.
     pub fn read(&self, at: usize, side: usize, into: &mut [i16])
         requires side { side < channels_of self.now.kind }
         requires within { at + length into.old ≤ length self.now.samples / channels_of self.now.kind }
@@ -111,7 +112,7 @@ impl Changed {
     }
 }
 
-// The blocks, by themselves.
+// The blocks of a file, without the bytes around them.
 fn source_of(blocks: &Blocks) -> Source<'_>
     requires { AreThere blocks.now }
     ensures source { IsSource result }
@@ -129,7 +130,7 @@ fn source_of(blocks: &Blocks) -> Source<'_>
     }
 }
 
-// How many samples stand in some bytes.
+// How many samples stand in these bytes, of three bytes each where they are `wide`, and of two otherwise.
 fn count_in(bytes: &[u8], wide: bool) -> usize
     ensures { result ≡ length (samples_at wide bytes.now) }
 {
@@ -140,7 +141,7 @@ fn count_in(bytes: &[u8], wide: bool) -> usize
     }
 }
 
-// Makes the samples of a side, from a block of what is read on.
+// Makes samples of a side at the other rate, from block `at` on.
 fn read_side(source: Source<'_>, way: &Way, side: usize, at: usize, into: &mut [i16])
     requires source { IsSource source }
     requires way { IsWay way.now }
@@ -157,7 +158,7 @@ fn read_side(source: Source<'_>, way: &Way, side: usize, at: usize, into: &mut [
     }
 }
 
-// Whether so many blocks of what is read lie before the last one of the file.
+// Whether the first `blocks` blocks at the other rate lie before the last one of the file.
 fn are_inside(source: Source<'_>, way: &Way, blocks: usize) -> bool
     requires source { IsSource source }
     requires way { IsWay way.now }
@@ -167,7 +168,8 @@ fn are_inside(source: Source<'_>, way: &Way, blocks: usize) -> bool
     blocks as u64 * u64::from(way.from) <= source.last as u64 * u64::from(way.to)
 }
 
-// Makes samples that lie before the last block, eight at a time by lanes and the rest one by one.
+// Makes samples that lie before the last block of the file, from block `at` on: eight at a time by lanes and the rest
+// one by one.
 fn read_inside(source: Source<'_>, way: &Way, side: usize, at: usize, into: &mut [i16])
     requires source { IsSource source }
     requires way { IsWay way.now }
@@ -191,8 +193,8 @@ fn read_inside(source: Source<'_>, way: &Way, side: usize, at: usize, into: &mut
     }
 }
 
-// Makes eight samples that lie before the last block, of which the first has this number and stands at this place, and
-// answers the place behind them.
+// Makes eight samples that lie before the last block of the file, and writes them from index `at` on. The first is of
+// block `first` at the other rate, which lies at place `from` of the file. Returns the place behind them.
 fn make_eight(
     source: Source<'_>,
     way: &Way,
@@ -229,7 +231,7 @@ fn make_eight(
     place
 }
 
-// Makes samples one by one.
+// Makes samples one by one, from block `at` at the other rate on.
 fn read_each(source: Source<'_>, way: &Way, side: usize, at: usize, into: &mut [i16])
     requires source { IsSource source }
     requires way { IsWay way.now }
@@ -246,7 +248,7 @@ fn read_each(source: Source<'_>, way: &Way, side: usize, at: usize, into: &mut [
     }
 }
 
-// The sample of a side at a place.
+// The sample of a side at a place between two blocks of the file.
 fn sample_between(source: Source<'_>, way: &Way, place: Place, side: usize) -> i16
     requires source { IsSource source }
     requires way { IsWay way.now }
@@ -264,7 +266,7 @@ fn sample_between(source: Source<'_>, way: &Way, place: Place, side: usize) -> i
     number_between(way.inverse, before, behind, place.part, way.to)
 }
 
-// The sample of a side in a block.
+// The sample of a side in a block of the file.
 fn sample_of(source: Source<'_>, block: usize, side: usize) -> i16
     requires source { IsSource source }
     requires side { side < channels_of source.kind }
@@ -275,7 +277,7 @@ fn sample_of(source: Source<'_>, block: usize, side: usize) -> i16
     number_at(source.bytes, source.wide, block * channels + side)
 }
 
-// The sample at a place of some bytes.
+// Sample `at` of those that stand in these bytes, of 24 bits where they are `wide`, and of 16 otherwise.
 fn number_at(bytes: &[u8], wide: bool, at: usize) -> i16
     requires { at < length (samples_at wide bytes.now) }
     ensures { result ≡ slice_index_or (samples_at wide bytes.now) at (pos 0) }
@@ -287,7 +289,7 @@ fn number_at(bytes: &[u8], wide: bool, at: usize) -> i16
     }
 }
 
-// The sample of 24 bits at a place of some bytes.
+// Sample `at` of those of 24 bits that stand in these bytes; its lowest byte is dropped.
 fn wide_at(bytes: &[u8], at: usize) -> i16
     requires { 3 * at + 2 < length bytes.now }
     ensures { result ≡ slice_index_or (wide_samples_in bytes.now) at (pos 0) }
@@ -295,7 +297,7 @@ fn wide_at(bytes: &[u8], at: usize) -> i16
     i16::from_le_bytes([bytes[3 * at + 1], bytes[3 * at + 2]])
 }
 
-// The sample of 16 bits at a place of some bytes.
+// Sample `at` of those of 16 bits that stand in these bytes.
 fn narrow_at(bytes: &[u8], at: usize) -> i16
     requires { 2 * at + 1 < length bytes.now }
     ensures { result ≡ slice_index_or (samples_from bytes.now) at (pos 0) }

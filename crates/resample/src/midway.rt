@@ -3,11 +3,11 @@ ghost use Rattle.std.specs.Prelude.{◌≡◌, ◌<◌, ◌≤◌, ◌*◌, ◌*
 ghost use Rattle.resample.specs.Reciprocals.{inverse_of, signed_as};
 ghost use Rattle.resample.specs.Resampled.{interpolated};
 
-// Up to so many parts a product takes the place of the division.
+// Up to this many parts, a product takes the place of the division.
 const MOST: u32 = 92_681;
 
-/// The number that lies `part` of `whole` parts behind one sample on the way to another, rounded toward zero. `inverse`
-/// is that of `whole`.
+/// The number that lies `part` of `whole` parts behind the sample `before` on the way to `behind`, rounded toward zero.
+/// `inverse` is `inverse_of(whole)`.
 pub fn number_between(inverse: u64, before: i16, behind: i16, part: u32, whole: u32) -> i16
     requires within { part < whole }
     requires inverse { inverse ≡ inverse_of whole }
@@ -20,7 +20,8 @@ pub fn number_between(inverse: u64, before: i16, behind: i16, part: u32, whole: 
     }
 }
 
-/// 2^48 divided by a number of parts, and up to 1 more.
+/// 2^48 divided by the number of parts `whole`, and up to 1 more; its product with a number takes the place of a
+/// division by `whole`.
 pub fn inverse_of(whole: u32) -> u64
     requires { 0 < whole }
     ensures { result ≡ inverse_of whole }
@@ -28,7 +29,7 @@ pub fn inverse_of(whole: u32) -> u64
     281_474_976_710_656 / u64::from(whole) + 1
 }
 
-// By a product with 2^48 / whole.
+// The number `part` of `whole` parts behind one sample on the way to another, by a product with `inverse`.
 fn between_by(inverse: u64, before: i16, behind: i16, part: u32, whole: u32) -> i16
     requires within { part < whole }
     requires short { whole ≤ 92681 }
@@ -39,7 +40,7 @@ fn between_by(inverse: u64, before: i16, behind: i16, part: u32, whole: u32) -> 
     quotient(sum, inverse, whole) as i16
 }
 
-// By a division.
+// The number `part` of `whole` parts behind one sample on the way to another, by a division.
 fn between(before: i16, behind: i16, part: u32, whole: u32) -> i16
     requires { part < whole }
     ensures { result ≡ interpolated before behind part whole }
@@ -49,7 +50,7 @@ fn between(before: i16, behind: i16, part: u32, whole: u32) -> i16
     (sum / parts) as i16
 }
 
-// A sum divided by a number of parts.
+// A sum divided by `whole`, a number of parts, rounded toward zero, by a product with `inverse`.
 fn quotient(sum: i64, inverse: u64, whole: u32) -> i32
     requires short { (0 < whole) × (whole ≤ 92681) }
     requires inverse { inverse ≡ inverse_of whole }
@@ -60,7 +61,7 @@ fn quotient(sum: i64, inverse: u64, whole: u32) -> i32
     signed_as(sum, size)
 }
 
-// A size with the sign of a number.
+// The number of this size that has the sign of `number`.
 fn signed_as(number: i64, size: u64) -> i32
     requires { size ≤ 32768 }
     ensures { result ≡ signed_as number size }
@@ -72,7 +73,7 @@ fn signed_as(number: i64, size: u64) -> i32
     }
 }
 
-// A sample, so many times.
+// A sample times its number of parts.
 fn weighted(sample: i16, times: u32) -> i64
     ensures { result ≡ sample *ℤ pos times }
 {

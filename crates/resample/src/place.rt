@@ -7,7 +7,8 @@ ghost use Rattle.resample.specs.Resampled.{AreRates};
 use crate::midway::inverse_of;
 use liq_base::limits::MAX_RATE;
 
-/// A place in the file. The way from a block to the next one has as many parts as a second has samples at the new rate.
+/// A place in the file. The way from a block to the next one has as many parts as a second has samples at the other
+/// rate.
 #[derive(Clone, Copy)]
 pub struct Place {
     /// The block before it, counted from 0.
@@ -17,19 +18,21 @@ pub struct Place {
     pub part: u32,
 }
 
-/// A rate, another, and what stands for the way from one sample of that to the next.
+/// What is needed to read a file of rate `from` at rate `to`, in samples a second. `step` is how far a sample at rate
+/// `to` lies behind the one before it, in the file.
 #[derive(Clone, Copy)]
 pub struct Way {
     pub from: u32,
     pub to: u32,
     pub step: Place,
 
-    /// What takes the place of a division by `to`, and of eight at once.
+    /// What takes the place of a division by `to`: a product with this number.
     pub inverse: u64,
+    /// What takes the place of a division of eight numbers at once by `to`.
     pub by_lanes: u64,
 }
 
-/// The way from a rate to another.
+/// What is needed to read a file of rate `from` at rate `to`, in samples a second.
 pub fn way_of(from: u32, to: u32) -> Way
     requires { AreRates from to }
     ensures way { IsWay result }
@@ -45,7 +48,7 @@ pub fn way_of(from: u32, to: u32) -> Way
     }
 }
 
-/// The place of a sample, by its number.
+/// The place in the file of sample `number` at the other rate, counted from 0.
 pub fn place_of(way: &Way, number: u64) -> Place
     requires some { 0 < way.now.to }
     requires room { number * way.now.from < 2 ^ 64 }
@@ -60,7 +63,7 @@ pub fn place_of(way: &Way, number: u64) -> Place
     }
 }
 
-/// How far it is from one sample to the next.
+/// How far a sample at rate `to` lies behind the one before it, in a file of rate `from`.
 pub fn step_of(from: u32, to: u32) -> Place
     requires { 0 < to }
     ensures whole { reached to result ≡ from }
@@ -73,7 +76,7 @@ pub fn step_of(from: u32, to: u32) -> Place
     }
 }
 
-/// The place of the next sample.
+/// The place one `step` behind `place`, where a block has `to` parts.
 pub fn moved(place: Place, step: Place, to: u32) -> Place
     requires part { place.part < to }
     requires step { step.part < to }

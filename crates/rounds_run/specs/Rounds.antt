@@ -15,27 +15,27 @@ use Rattle.clock_ticks.specs.Pieces.{GotBetween, GotPieces, RoseAt}
 use Rattle.buffer_ends.specs.declared.run_end.End.{End}
 use Rattle.buffer_ends.specs.declared.run_end.End.TheVariants.{Write, Memory as NoMemory}
 
--- a setting in which these calls gave the answers, and any others come behind them
+-- the setting in which buffers answer what these calls got, and then `rest`
 abbrev pub world : Setting → List Call → (rest : ℕ → List Answer) → Setting
 world setting calls rest = with_rest setting (λ buffer. answers_in buffer calls) rest
 
--- the calls of so many turns of so many clocks: turn j is tick j / clocks of clock j % clocks. `accepted j b` is what
+-- the calls of `turns` turns of `clocks` clocks: turn j is tick j / clocks of clock j % clocks. `accepted j b` is what
 -- buffer b answers to the give of turn j
 abbrev pub calls_of_turns : Setting → (accepted : ℕ → ℕ → Bool) → (clocks turns : ℕ) → List Call
 calls_of_turns setting accepted clocks turns = joined_upto
     (λ j. calls_of_tick setting (accepted j) (j % clocks) (j / clocks)) turns
 
--- these are the calls of so many turns, given the answers that they got, whatever answers follow
+-- these are the calls of `turns` turns, given the answers that they got, whatever answers follow
 pub record AreTurns (setting : Setting) (clocks turns : ℕ) (calls : List Call) : Type 0 where
   pub accepted : ℕ → ℕ → Bool
   pub are : (rest : ℕ → List Answer) → calls ≡ calls_of_turns (world setting calls rest) accepted clocks turns
 
--- these calls begin those of so many turns, given the answers that they got, whatever answers follow
+-- these calls begin those of `turns` turns, given the answers that they got, whatever answers follow
 pub record AreTurnsBegun (setting : Setting) (clocks turns : ℕ) (calls : List Call) : Type 0 where
   pub accepted : ℕ → ℕ → Bool
   pub begun : (rest : ℕ → List Answer) → IsBegin calls (calls_of_turns (world setting calls rest) accepted clocks turns)
 
--- these are the calls of so many turns and a beginning of those of the next one, given the answers that they got,
+-- these are the calls of `turns` turns and a beginning of those of the next one, given the answers that they got,
 -- whatever answers follow
 pub record AreTurnsUpto (setting : Setting) (clocks turns : ℕ) (calls : List Call) : Type 0 where
   pub accepted : ℕ → ℕ → Bool
@@ -43,7 +43,7 @@ pub record AreTurnsUpto (setting : Setting) (clocks turns : ℕ) (calls : List C
   pub begun : (rest : ℕ → List Answer)
       → IsBegin calls (calls_of_turns (world setting calls rest) accepted clocks (suc turns))
 
--- no answers
+-- no answers of any buffer
 abbrev pub nothing : ℕ → List Answer
 nothing buffer = []
 
@@ -59,9 +59,9 @@ pub record AreEngines {S : Type 0} (told : S
   pub in_order : (k : ℕ) (engine : ClockEngine S) → slice_get engines k ≡ Some engine → engine.parts.clock ≡ k
   pub over : (k : ℕ) (engine : ClockEngine S) → slice_get engines k ≡ Some engine → setting_of engine.parts ≡ setting
 
--- an engine has gone from `old` to `new` by so many ticks, none of them with a fault, in a run that made these calls:
+-- an engine has gone from `old` to `new` by `ticks` ticks, none of them with a fault, in a run that made these calls:
 -- it has taken the answers of the buffers that it reads; each output holds its bytes of these ticks more, and its sink
--- got a piece for each of them; and it keeps its marks if it did
+-- got a piece for each of them; and it keeps its marks if it did before
 pub record HasRunTurns {S : Type 0} (told : S
     → SinkTold) (calls : List Call) (ticks : ℕ) (old new : ClockEngine S) : Type 0 where
   pub setting : setting_of new.parts ≡ setting_of old.parts
@@ -75,9 +75,9 @@ pub record HasRunTurns {S : Type 0} (told : S
   pub pieces : GotPieces told ticks old.outs new.outs
   pub outs : length new.outs ≡ length old.outs
 
--- an engine has gone from `old` to `new` by at least and at most so many ticks: each output holds its bytes of the
--- first more, and then a front of those of the others, whatever answers follow those that were got, and its sink got a
--- piece for each of the first and at most one for each of the others
+-- an engine has gone from `old` to `new` by at least `least` and at most `most` ticks: each output holds its bytes of
+-- the first `least` more, and then a front of those of the others, whatever answers follow; its sink got a piece for
+-- each of the first, and at most one for each of the others
 pub record HasRunPart {S : Type 0} (told : S → SinkTold) (world : (ℕ → List Answer)
     → Setting) (least most : ℕ) (old new : ClockEngine S) : Type 0 where
   pub setting : setting_of new.parts ≡ setting_of old.parts
@@ -90,14 +90,14 @@ pub record HasRunPart {S : Type 0} (told : S → SinkTold) (world : (ℕ → Lis
   pub pieces : GotBetween told least most old.outs new.outs
   pub outs : length new.outs ≡ length old.outs
 
--- each engine has run so many ticks
+-- engine k has made `ticks k` ticks, in a run that made these calls
 pub record HaveRun {S : Type 0} (told : S → SinkTold) (calls : List Call) (ticks : ℕ
     → ℕ) (old new : List (ClockEngine S)) : Type 0 where
   pub size : length new ≡ length old
   pub each : (k : ℕ) (before after : ClockEngine S) → slice_get old k ≡ Some before → slice_get new k ≡ Some after
       → HasRunTurns told calls (ticks k) before after
 
--- clock k has made at least and at most so many ticks
+-- engine k has made at least `least k` and at most `most k` ticks
 pub record HaveRunPart {S : Type 0} (told : S → SinkTold) (world : (ℕ → List Answer) → Setting) (least most : ℕ
     → ℕ) (old new : List (ClockEngine S)) : Type 0 where
   pub size : length new ≡ length old
@@ -118,8 +118,8 @@ pub record IsWriteEnd {S : Type 0} (told : S
   pub end_is : end ≡ Write clock sink
   pub rose : RoseAt told place before.outs after.outs
 
--- between two ticks of a run: the calls so far, which the taps got, what each engine has run, and the room that is left
--- for the ticks that are not made
+-- between two ticks of a run: the calls that were made and that the taps got, how many ticks each engine has made, and
+-- the room of its sinks for those that are left
 pub record AreGoing {S : Type 0} (told : S → SinkTold) (got : List Call → Type 0) (setting : Setting) (total : ℕ)
     (made : ℕ → ℕ) (turns : ℕ) (first now : List (ClockEngine S)) : Type 0 where
   pub calls : List Call

@@ -25,9 +25,9 @@ pub record AreOver {S : Type 0} (told : S
   pub well : IsWellFormed plan
   pub are : AreEngines told ticks setting engines
 
--- an engine has gone from `old` to `new` by so many ticks, none of them with a fault, in this setting: it has taken the
+-- an engine has gone from `old` to `new` by `ticks` ticks, none of them with a fault, in this setting: it has taken the
 -- answers of the buffers that it reads; each output holds its bytes of these ticks more, and its sink got a piece for
--- each of them; and it keeps its marks if it did
+-- each of them; and it keeps its marks if it did before
 pub record HasRunTicks {S : Type 0} (told : S
     → SinkTold) (setting : Setting) (ticks : ℕ) (old new : ClockEngine S) : Type 0 where
   pub over : setting_of new.parts ≡ setting_of old.parts
@@ -42,7 +42,7 @@ pub record HasRunTicks {S : Type 0} (told : S
   pub pieces : GotPieces told ticks old.outs new.outs
   pub outs : length new.outs ≡ length old.outs
 
--- each engine has run so many ticks in this setting
+-- each engine has made `ticks` ticks in this setting
 pub record HaveRunTicks {S : Type 0} (told : S
     → SinkTold) (setting : Setting) (ticks : ℕ) (old new : List (ClockEngine S)) : Type 0 where
   pub size : length new ≡ length old
@@ -59,10 +59,11 @@ counts_of_windows windows = record {
   empty = count_by is_none (flat_map (λ (window : Window). window.1) windows);
 }
 
--- the counts of each buffer in a run, and its logs
+-- the counts of each buffer in a run
 abbrev pub counts_of_run : Run → List Counts
 counts_of_run run = map counts_of_windows run.buffers
 
+-- the log of each buffer in a run
 abbrev pub logs_of_run : Run → List (List Answers)
 logs_of_run run = map (λ windows. map told_of windows) run.buffers
 
@@ -76,9 +77,9 @@ pub record HasRunAll {S : Type 0} (told : S → SinkTold) (setting : Setting) (t
   pub counts_are : counts ≡ counts_of_run run
   pub logs_are : logs ≡ logs_of_run run
 
--- The rounds came so far, and this is their record: in the turn that it names, of a clock in a round, where the clocks
--- below it have made their tick of this round, those above it have not, and it has made at most a part of it. A write
--- that ended the run is one of this clock.
+-- This is the record of rounds that may have been broken off, in the turn of a clock in a round: the clocks below it
+-- have made their tick of this round, those above it have not, and it has made at most a part of it. A write that ended
+-- the run is one of this clock.
 pub record HasRunSome {S : Type 0} (told : S
     → SinkTold) (setting : Setting) (ticks : ℕ) (first now : List (ClockEngine S)) (end : End) : Type 0 where
   pub run : Run

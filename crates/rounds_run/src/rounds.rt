@@ -23,8 +23,8 @@ fn end_of(clock: u32, fault: TickFault) -> End
     }
 }
 
-/// Makes so many rounds, at most 1000000000, over any taps: in each, every engine makes a tick, in their order. The
-/// first fault ends it.
+/// Makes `ticks` rounds, at most 1000000000: in each, every engine makes a tick, in their order, over these taps. It
+/// ends at the first fault.
 pub fn make_rounds<O: Sink, T: Taps>(
     alloc: Global,
     engines: &mut [ClockEngine<'_, O>],

@@ -13,9 +13,9 @@ use liq_base::{Memory, Sink};
 use plan_core::Plan;
 use std::alloc::Global;
 
-/// Renders so many ticks, at most 1000000000, of each clock, on one thread: tick r of clock 0, of clock 1 and so on,
-/// then tick r + 1. The engines stand in clock order, made no tick, and are over this plan. Buffers are lists. The
-/// first fault ends the run: no engine goes on after it.
+/// Renders `ticks` ticks, at most 1000000000, of each clock, on one thread: tick r of clock 0, of clock 1 and so on,
+/// then tick r + 1. The engines are in clock order, made no tick, and are over this plan. Buffers are lists. The run
+/// ends at the first fault: no engine goes on after it.
 pub fn run_rounds<O: Sink>(
     alloc: Global,
     plan: &Plan,
@@ -39,7 +39,7 @@ pub fn run_rounds<O: Sink>(
     }
 }
 
-// The answers of a whole run, or want of memory.
+// The result of a whole run, with the counts and logs of its buffers; want of memory if there is no room for them.
 fn told_or_ended(alloc: Global, taps: LocalTaps, buffers: usize) -> RunEnd
     requires { buffers ≡ length taps }
     ensures counts { result.end ≡ Done → result.counts.items ≡ map (λ list. counts_of (all_answers list)) taps }
@@ -53,7 +53,7 @@ fn told_or_ended(alloc: Global, taps: LocalTaps, buffers: usize) -> RunEnd
     }
 }
 
-// The answers of a whole run.
+// The result of a whole run, with the counts and logs of its buffers.
 fn told(alloc: Global, mut taps: LocalTaps, buffers: usize) -> Result<RunEnd, Memory>
     requires { buffers ≡ length taps }
     ensures counts { IfOk result (λ run. run.counts.items ≡ map (λ list. counts_of (all_answers list)) taps) }
@@ -70,7 +70,7 @@ fn told(alloc: Global, mut taps: LocalTaps, buffers: usize) -> Result<RunEnd, Me
     })
 }
 
-// The counts of each buffer.
+// The counts of the answers of each buffer, by its number.
 fn count_all(alloc: Global, taps: &LocalTaps, buffers: usize) -> Result<Vec<Counts>, Memory>
     requires { buffers ≡ length taps.now }
     ensures counts { IfOk result (λ counts. counts.items ≡ map (λ list. counts_of (all_answers list)) taps.now) }
@@ -84,7 +84,7 @@ fn count_all(alloc: Global, taps: &LocalTaps, buffers: usize) -> Result<Vec<Coun
     Ok(counts)
 }
 
-// The answer of a run that did not come to its end.
+// The result of a run that was broken off: it has no counts and no logs.
 fn ended(alloc: Global, end: End) -> RunEnd
     ensures { result.end ≡ end }
 {

@@ -28,10 +28,10 @@ IsHeard setting m (parent ∷ above) i =
     × AlwaysUses (work_at setting parent node) place
     × IsHeard setting m above parent
 
--- the ticks that the cells last which a reader gathers before it plays, the last one whole; at least one
+-- how many ticks the cells last which the reader of a buffer gathers before it plays, the last one whole; at least one
 abbrev pub prefill_ticks : Setting → (buffer : ℕ) → ℕ
 prefill_ticks setting buffer = max 1 (div_ceil (prefill setting buffer) setting.plan.frame)
 
--- a buffer holds the chunks of two windows of W ticks, and of its prefill, but for one
+-- a buffer has room for the chunks of two windows of W ticks and of its prefill, all but one
 abbrev pub HasRoom : Setting → (W buffer : ℕ) → Type 0
 HasRoom setting W buffer = W + W + prefill_ticks setting buffer ≤ suc (capacity_of setting buffer)

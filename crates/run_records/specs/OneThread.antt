@@ -14,46 +14,47 @@ held_after queue (Took buffer (Some chunk) ∷ calls) = held_after (drop 1 queue
 held_after queue (Given buffer chunk true ∷ calls) = held_after (queue ++ chunk ∷ []) calls
 held_after queue (Given buffer chunk false ∷ calls) = held_after queue calls
 
--- those that a buffer holds after these calls
+-- the chunks that a buffer holds after these calls, the oldest first
 abbrev pub held_by : (buffer : ℕ) → List Call → List (List Cell)
 held_by buffer calls = held_after [] (on buffer calls)
 
--- whether it then has room for one more
+-- whether a buffer has room for one more chunk after these calls
 abbrev pub has_place : Setting → List Call → (buffer : ℕ) → Bool
 has_place setting calls buffer = nat_lt (length (held_by buffer calls)) (capacity_of setting buffer)
 
--- the answers that were got by these calls, and behind them those that the takes of one more tick get: what is held,
--- and then nothing
+-- what the takes of a buffer got by these calls, and then what those of one more tick get: each chunk that it holds,
+-- and after that nothing
 abbrev pub answers_after : List Call → (buffer : ℕ) → List Answer
 answers_after calls buffer = answers_in buffer calls ++ map Some (held_by buffer calls)
 
--- tick t of clock m behind these calls: it takes, and then it gives
+-- whether a buffer accepts the put of tick t of clock m, which comes after these calls; the tick takes first
 abbrev pub accepted_after : Setting → List Call → (m t buffer : ℕ) → Bool
 accepted_after setting calls m t = has_place setting (calls
     ++ takes_of_tick (answered setting (answers_after calls)) m t)
 
+-- the calls of tick t of clock m, which comes after these
 abbrev pub tick_after : Setting → List Call → (m t : ℕ) → List Call
 tick_after setting calls m t = calls_of_tick (answered setting (answers_after calls)) (accepted_after setting calls m t)
     m t
 
--- these calls, and behind them tick t of the first clocks, in their order
+-- these calls, and then those of tick t of the first so many clocks, in their order
 abbrev pub round_after : Setting → List Call → (t clocks : ℕ) → List Call
 round_after setting calls t zero = calls
 round_after setting calls t (suc m) = round_after setting calls t m
     ++ tick_after setting (round_after setting calls t m) m t
 
--- the calls of N rounds
+-- the calls of N rounds of so many clocks
 abbrev pub calls_in_rounds : Setting → (clocks N : ℕ) → List Call
 calls_in_rounds setting clocks zero = []
 calls_in_rounds setting clocks (suc t) = round_after setting (calls_in_rounds setting clocks t) t clocks
 
--- the calls of so many buffers from this one on, one window each
+-- the record of `count` buffers, from this one on: one window for each, which has its calls
 abbrev pub windows_from : List Call → (buffer count : ℕ) → List (List Window)
 windows_from calls buffer zero = []
 windows_from calls buffer (suc count) = ((puts_to buffer calls, takes_of buffer calls) ∷ [])
     ∷ windows_from calls (suc buffer) count
 
--- the record of N rounds
+-- the record of N rounds of so many clocks on one thread
 abbrev pub rounds_record : Setting → (clocks N : ℕ) → Run
 rounds_record setting clocks N = record
     { buffers = windows_from (calls_in_rounds setting clocks N) 0 (length setting.plan.buffers) }

@@ -11,29 +11,29 @@ use Rattle.run_records.specs.Records.{Window, Run, windows_of, calls_in}
 abbrev pub text_of_window : Window → List Bool × List Bool
 text_of_window window = (map is_some window.0, map is_some window.1)
 
--- two runs have the same text
+-- two runs have the same text: in each window of each buffer as many puts and takes, with the same answers but for what
+-- the chunks hold
 abbrev pub HasSameText : Setting → Run → Run → Type 0
 HasSameText setting run other = (b : ℕ) → b < length setting.plan.buffers
     → map text_of_window (windows_of run b) ≡ map text_of_window (windows_of other b)
 
--- how many of these ticks are of clock m; a tick is a clock and a number
+-- how many of these ticks are of clock m; each is a clock and its tick's number
 abbrev pub made : (m : ℕ) → List (ℕ × ℕ) → ℕ
 made m [] = 0
 made m (tick ∷ ticks) = if nat_eq tick.0 m then suc (made m ticks) else made m ticks
 
--- how many chunks of a buffer the first n ticks of its reader's clock got, and how many those of its feeder's clock
--- gave and it accepted
+-- how many chunks of buffer b the first n ticks of its reader's clock got
 abbrev pub got_by : Setting → (clocks : ℕ) → (accepted : ℕ → ℕ → ℕ → Bool) → (b n : ℕ) → ℕ
 got_by setting clocks accepted b n = length
     (somes (takes_of b (joined_upto (calls_in setting clocks accepted (reader setting b)) n)))
 
--- how many chunks of a buffer its clock had put, accepted ones alone, before its tick n
+-- how many chunks of buffer b the first n ticks of its feeder's clock put and it accepted
 abbrev pub kept_by : Setting → (clocks : ℕ) → (accepted : ℕ → ℕ → ℕ → Bool) → (b n : ℕ) → ℕ
 kept_by setting clocks accepted b n = length
     (somes (puts_to b (joined_upto (calls_in setting clocks accepted (feeder setting b)) n)))
 
--- A list of all ticks that keeps each clock's order, and in which each chunk that a tick got was accepted in an earlier
--- one: a buffer's chunks are got in the order in which they were accepted.
+-- The ticks of a record can be ordered: a list of all of them keeps each clock's order, and each chunk that a tick got
+-- was accepted in an earlier one. A buffer's chunks are got in the order in which they were accepted.
 pub record IsOrdered (setting : Setting) (clocks : ℕ) (accepted : ℕ → ℕ → ℕ → Bool) (N : ℕ) : Type 0 where
   pub order : List (ℕ × ℕ)
   pub all : (m : ℕ) → m < clocks → made m order ≡ N

@@ -4,7 +4,7 @@ use Rattle.frame_core.specs.Calls.{Call, Took, Given}
 use Rattle.stream_meaning.specs.Instants.{Setting}
 use Rattle.run_records.specs.Buffers.{feeder, reader}
 
--- it takes of a buffer that clock m reads, or gives to one that clock m feeds
+-- a call takes from a buffer that clock m reads, or puts to one that clock m feeds
 abbrev pub IsOwn : Setting → (m : ℕ) → Call → Type 0
 IsOwn setting m (Took buffer answer) = reader setting buffer ≡ m
 IsOwn setting m (Given buffer cells accepted) = feeder setting buffer ≡ m

@@ -10,64 +10,68 @@ use Rattle.stream_meaning.specs.Instants.{Setting, clock_of, demanded, first_ins
 use Rattle.run_records.specs.Buffers.{reader}
 use Rattle.run_records.specs.Records.{Window}
 
--- there is a put that was refused among these, or a take that got nothing
+-- whether one of these answers is nothing: a refused put, or a take that got no chunk
 abbrev pub has_none : List (Option (List Cell)) → Bool
 has_none [] = false
 has_none (None ∷ answers) = true
 has_none (Some chunk ∷ answers) = has_none answers
 
--- The windows of a buffer keep pace, where so many takes are owed when they begin, and at most D ever: a window has at
--- most W puts; and with what is owed behind it there are no more puts than takes with what was owed before, but where a
--- take got nothing.
+-- The windows of a buffer keep pace: each has at most W puts, and these with the takes that are owed after it are at
+-- most its takes with those that were owed before, unless a take got nothing. `owed` are owed when the first begins,
+-- and at most D ever.
 abbrev pub KeepPace : (W D owed : ℕ) → List Window → Type 0
 KeepPace W D owed [] = owed ≤ D
 KeepPace W D owed (window ∷ windows) =
     (length window.0 ≤ W) × (owed ≤ D) × (left : ℕ)
     × ((has_none window.1 ≡ true) ⊎ (length window.0 + left ≤ length window.1 + owed)) × KeepPace W D left windows
 
--- So many takes are owed by a reader between two ticks, the ticks in which it will take nothing: it plays and holds
--- less than so many frames and one; or it does not, and D are owed, where its prefill is at most D + 1 frames.
+-- A reader owes so many takes between two ticks: for as many ticks it may take nothing. Either it plays and holds less
+-- than `owed + 1` frames; or it does not play, has not gathered its prefill, and owes D.
 abbrev pub Owes : (D : ℕ) → Reader → (owed : ℕ) → Type 0
 Owes D reader owed = (owed ≤ D)
     × (((reader.playing ≡ true) × (length reader.cells < suc owed * reader.frame))
     ⊎ ((reader.playing ≡ false) × (length reader.cells < reader.prefill) × (owed ≡ D)))
 
--- the chunks among these answers have at most so many cells
+-- each chunk among these answers has at most `frame` cells
 abbrev pub AreSmall : (frame : ℕ) → List Answer → Type 0
 AreSmall frame [] = Unit {0}
 AreSmall frame (None ∷ answers) = AreSmall frame answers
 AreSmall frame (Some chunk ∷ answers) = (length chunk ≤ frame) × AreSmall frame answers
 
--- a reader after a tick in which it gave a frame of cells, or all that it held; and the answers that it did not take
+-- a reader after a tick in which it gave a frame of cells, or all that it held; these answers are next
 abbrev pub ticked : List Answer → Reader → Reader
 ticked answers reader = read_by reader.frame (at_start answers reader)
 
+-- the answers that a reader has not taken after one tick
 abbrev pub untaken : List Answer → Reader → List Answer
 untaken answers reader = drop (length (reader_takes answers reader)) answers
 
--- the takes of n such ticks, the reader after them, and the answers that it did not take
+-- the takes of n ticks of a reader, which gives a frame of cells in each, or all that it holds
 abbrev pub takes_in : (n : ℕ) → List Answer → Reader → List Answer
 takes_in zero answers reader = []
 takes_in (suc n) answers reader = reader_takes answers reader
     ++ takes_in n (untaken answers reader) (ticked answers reader)
 
+-- a reader after n ticks, in each of which it gave a frame of cells or all that it held
 abbrev pub reader_after : (n : ℕ) → List Answer → Reader → Reader
 reader_after zero answers reader = reader
 reader_after (suc n) answers reader = reader_after n (untaken answers reader) (ticked answers reader)
 
+-- the answers that a reader has not taken after n ticks
 abbrev pub answers_after : (n : ℕ) → List Answer → Reader → List Answer
 answers_after zero answers reader = answers
 answers_after (suc n) answers reader = answers_after n (untaken answers reader) (ticked answers reader)
 
--- Windows of at most W ticks of both ends: a put a tick at most, and the takes of a reader that gives a frame of cells
--- in each tick, or all that it holds.
+-- These windows are of at most W ticks each: a put a tick at most, and the takes of a reader that gives a frame of
+-- cells in each tick, or all that it holds.
 abbrev pub AreTicks : (W : ℕ) → List Answer → Reader → List Window → Type 0
 AreTicks W answers reader [] = Unit {0}
 AreTicks W answers reader (window ∷ windows) =
     (n : ℕ) × (n ≤ W) × (length window.0 ≤ n) × (window.1 ≡ takes_in n answers reader)
     × AreTicks W (answers_after n answers reader) (reader_after n answers reader) windows
 
--- what n ticks of a reader owe
+-- n ticks of a reader, which led to `after` with these takes: with what is still owed, their number is at most that of
+-- the takes and of what was owed, unless a take got nothing
 pub record KeepsPace (D n : ℕ) (reader after : Reader) (takes : List Answer) (owed : ℕ) : Type 0 where
   pub left : ℕ
   pub owes : Owes D after left

@@ -24,19 +24,19 @@ pub record Run : Type 0 where
 abbrev pub windows_of : Run → (buffer : ℕ) → List Window
 windows_of run buffer = slice_index_or run.buffers buffer []
 
--- what a buffer answered to its puts, and to its takes
+-- what a buffer answered to its puts, window after window: the chunk, or nothing where it was full
 abbrev pub puts_of : Run → (buffer : ℕ) → List (Option (List Cell))
 puts_of run buffer = flat_map (λ (window : Window). window.0) (windows_of run buffer)
 
--- the answers that the takes of a buffer got, window after window
+-- what the takes of a buffer got, window after window
 abbrev pub answers_of : Run → (buffer : ℕ) → List Answer
 answers_of run buffer = flat_map (λ (window : Window). window.1) (windows_of run buffer)
 
--- a setting with what the takes of a run got
+-- a setting whose takes get what they got in a run
 abbrev pub setting_in : Setting → Run → Setting
 setting_in setting run = answered setting (answers_of run)
 
--- and with more answers behind them
+-- a setting whose takes get what they got in a run, and after that these answers
 abbrev pub setting_then : Setting → Run → (rest : ℕ → List Answer) → Setting
 setting_then setting run rest = answered setting (λ buffer. answers_of run buffer ++ rest buffer)
 
@@ -44,7 +44,7 @@ setting_then setting run rest = answered setting (λ buffer. answers_of run buff
 abbrev pub capacity_of : Setting → (buffer : ℕ) → ℕ
 capacity_of setting buffer = option_map_or (λ plan. plan.capacity) (slice_get setting.plan.buffers buffer) 0
 
--- the calls on one buffer
+-- those of these calls that are on one buffer
 abbrev pub on : (buffer : ℕ) → List Call → List Call
 on buffer [] = []
 on buffer (Took other answer ∷ calls) = if nat_eq buffer other then Took other answer ∷ on buffer calls
@@ -52,8 +52,8 @@ on buffer (Took other answer ∷ calls) = if nat_eq buffer other then Took other
 on buffer (Given other chunk accepted ∷ calls) = if nat_eq buffer other
     then Given other chunk accepted ∷ on buffer calls else on buffer calls
 
--- These calls on a list of at most so many chunks, in this order, lead from `queue` to `rest`: a take gets the front,
--- and nothing only where there is none; a put goes to the back, and is refused only where the list is full.
+-- These calls on a list of at most `capacity` chunks, in this order, lead from `queue` to `rest`: a take gets the
+-- front, and nothing only where there is none; a put goes to the back, and is refused only where the list is full.
 abbrev pub Follows : (capacity : ℕ) → List (List Cell) → List Call → List (List Cell) → Type 0
 Follows capacity queue [] rest = queue ≡ rest
 Follows capacity queue (Took buffer None ∷ calls) rest = (queue ≡ []) × Follows capacity queue calls rest
@@ -76,7 +76,7 @@ ticks_of setting accepted m t = calls_of_tick setting (accepted m t) m t
 abbrev pub calls_in : Setting → (clocks : ℕ) → (accepted : ℕ → ℕ → ℕ → Bool) → (m t : ℕ) → List Call
 calls_in setting clocks accepted m t = if nat_lt m clocks then ticks_of setting accepted m t else []
 
--- the first windows of a buffer: the puts of its feed's clock, and the takes of its reader's
+-- the first `count` windows of a buffer: in each the puts of its feeder's clock, and the takes of its reader's
 abbrev pub windows_in : Setting → (clocks : ℕ) → (accepted : ℕ → ℕ → ℕ → Bool) → (buffer W N count : ℕ) → List Window
 windows_in setting clocks accepted buffer W N zero = []
 windows_in setting clocks accepted buffer W N (suc j) =
@@ -89,8 +89,8 @@ windows_in setting clocks accepted buffer W N (suc j) =
     ) ∷ []
 
 -- A lawful record of N ticks of each running clock in windows of W ticks: each buffer's windows hold the puts and the
--- takes of these ticks and are one history of a bounded queue; those of a buffer with both ends in one clock stand in
--- the order in which this clock calls.
+-- takes of these ticks and are one history of a bounded queue; the calls on a buffer with both ends in one clock stand
+-- in the order in which this clock makes them.
 pub record AreWindows (setting : Setting) (clocks W N : ℕ) (run : Run) : Type 0 where
   pub buffers : length run.buffers ≡ length setting.plan.buffers
   pub accepted : (m t buffer : ℕ) → Bool
@@ -110,7 +110,7 @@ pub record AreWindows (setting : Setting) (clocks W N : ℕ) (run : Run) : Type 
 abbrev pub rounds_of : Setting → (accepted : ℕ → ℕ → ℕ → Bool) → (clocks N : ℕ) → List Call
 rounds_of setting accepted clocks N = joined_upto (λ t. joined_upto (λ m. ticks_of setting accepted m t) clocks) N
 
--- the record of N rounds on one thread: one window a buffer, in the order of the rounds
+-- this is the record of N rounds on one thread: one window a buffer, in the order of the rounds
 pub record IsRounds (setting : Setting) (clocks N : ℕ) (run : Run) : Type 0 where
   pub buffers : length run.buffers ≡ length setting.plan.buffers
   pub accepted : (m t buffer : ℕ) → Bool
@@ -124,23 +124,23 @@ pub record IsRounds (setting : Setting) (clocks N : ℕ) (run : Run) : Type 0 wh
       → (rest : List (List Cell))
       × Follows (capacity_of setting buffer) [] (on buffer (rounds_of (setting_in setting run) accepted clocks N)) rest
 
--- the calls of the rounds before this one, and in it those of the clocks below this one
+-- the calls of so many whole rounds, and of the ticks of the clocks below `clock` in the next one
 abbrev pub rounds_to : Setting → (accepted : ℕ → ℕ → ℕ → Bool) → (clocks round clock : ℕ) → List Call
 rounds_to setting accepted clocks round clock = rounds_of setting accepted clocks round
     ++ joined_upto (λ m. ticks_of setting accepted m round) clock
 
--- how many ticks clock m has made, where so many rounds are whole, and in the next one the clocks below `clock` have
--- made theirs
+-- how many ticks clock m has made, where `rounds` rounds are whole, and in the next one the clocks below `clock` have
+-- made their tick
 abbrev pub made_by : (rounds clock m : ℕ) → ℕ
 made_by rounds clock m = if nat_lt m clock then suc rounds else rounds
 
--- how many ticks clock m has made, if no clock makes more than `total`
+-- how many ticks clock m has made after `round` whole rounds and the ticks of the clocks below `clock`, if no clock
+-- makes more than `total`
 abbrev pub ticks_by : (total round clock m : ℕ) → ℕ
 ticks_by total round clock m = min total (made_by round clock m)
 
--- the record of rounds that were broken off, maybe in the middle of a tick, in the turn of this clock in this round:
--- its calls begin those of N rounds, whatever answers follow; and they are those of the turns before, and a beginning
--- of those of this one
+-- the record of rounds that were broken off, maybe in the middle of a tick, in the turn of one clock: its calls begin
+-- those of N rounds, whatever answers follow; they are those of all turns before, and a beginning of those of that turn
 pub record AreRoundsBegun (setting : Setting) (clocks N : ℕ) (run : Run) : Type 0 where
   pub buffers : length run.buffers ≡ length setting.plan.buffers
   pub calls : List Call
@@ -164,12 +164,12 @@ pub record IsWithin (s e made tried : ℕ) : Type 0 where
   pub no_fewer : made ≤ tried
   pub one_more : tried ≤ suc made
 
--- The record of a run in windows that was broken off: so many windows were closed, and each clock made so many ticks,
--- tried at most one more, in which it stopped, and is not past the next window; those that did not stop made as many,
--- and where one stopped, they ended this window; where none stopped, each stands at its border. Since the last closing
--- it made these calls: those of the ticks that it made, and a beginning of those of the one in which it stopped,
--- whatever answers follow. All windows of a buffer, the open one too, are one history; and the calls on a buffer with
--- both ends in one clock stand in the order in which this clock makes them.
+-- The record of a run in windows that was broken off. So many windows were closed, and clock m made `made m` ticks and
+-- tried at most one more, in which it stopped; none is past the next window. Those that did not stop made as many;
+-- where one stopped, they ended this window; where none did, each stands at its border. Since the last closing clock m
+-- made the calls `since m`: those of its ticks, and a beginning of those of the one in which it stopped, whatever
+-- answers follow. All windows of a buffer, the open one too, are one history; and the calls on a buffer with both ends
+-- in one clock stand in that clock's order.
 pub record AreWindowsBegun (setting : Setting) (clocks W N : ℕ) (run : Run) : Type 0 where
   pub buffers : length run.buffers ≡ length setting.plan.buffers
   pub accepted : (m t buffer : ℕ) → Bool

@@ -66,13 +66,14 @@ pub fn feeders_run()
         → feeder setting buffer < clocks.running }
 {}
 
-/// Rounds on one thread have one record.
+/// Rounds on one thread have one record at most.
 pub fn rounds_are_one()
     ensures { (setting : Setting) (clocks : Map) → IsSetting setting clocks → (running N : ℕ) (run other : Run)
         → IsRounds setting running N run → IsRounds setting running N other → run ≡ other }
 {}
 
-/// And they have one: that which follows from the setting, tick by tick, each take with what its buffer then holds.
+/// Rounds on one thread have a record: that which follows from the setting, tick by tick, each take with what its
+/// buffer then holds.
 pub fn rounds_have_a_record()
     ensures { (setting : Setting) (clocks : Map) → IsSetting setting clocks → (running N : ℕ)
         → IsRounds setting running N (rounds_record setting running N) }
@@ -110,7 +111,7 @@ pub fn text_is_whole()
 {}
 
 /// Where no buffer joins two clocks, a run by threads that was broken off begins what rounds on one thread do: with
-/// some answers behind its own, it has those of the rounds.
+/// some answers after its own, it has those of the rounds.
 pub fn broken_windows_begin_rounds()
     ensures { (setting : Setting) (clocks : Map) → IsSetting setting clocks → (W N : ℕ) (run rounds : Run)
         → HasNoJoin setting clocks.running
@@ -118,7 +119,8 @@ pub fn broken_windows_begin_rounds()
         → BeginsRounds setting run rounds }
 {}
 
-/// And so do rounds that were broken off, whatever buffers join.
+/// Rounds on one thread that were broken off begin the whole rounds, whatever buffers join: with some answers after its
+/// own, such a run has those of the rounds.
 pub fn broken_rounds_begin_rounds()
     ensures { (setting : Setting) (clocks : Map) → IsSetting setting clocks → (running N : ℕ) (run rounds : Run)
         → AreRoundsBegun setting running N run → IsRounds setting running N rounds → BeginsRounds setting run rounds }
@@ -153,7 +155,8 @@ pub fn heard_buffers_refuse_nothing()
         → AreWindows setting clocks.running W N run → count_by is_none (puts_of run buffer) ≡ 0 }
 {}
 
-/// And neither does the record of a run in windows that was broken off.
+/// The record of a run in windows that was broken off refuses no put to a buffer whose reader is always heard, and
+/// which has room for two windows and its prefill.
 pub fn broken_windows_refuse_nothing()
     ensures { (setting : Setting) (clocks : Map) → IsSetting setting clocks
         → (W N buffer m : ℕ) (above : List ℕ) (i : ℕ) (run : Run)

@@ -6,11 +6,11 @@ use Rattle.liq_base.specs.declared.memory.Kind.{Kind}
 use Rattle.liq_base.specs.declared.memory.Kind.TheVariants.{Mono, Stereo}
 use Rattle.frame_core.specs.Bytes.{sample_bytes}
 
--- the block of an instant: its left sample, and behind it the right one where there are two
+-- the bytes of an instant: of its left sample, and behind it of the right one in stereo
 abbrev pub block_of : Kind → ℤ → ℤ → List ℕ
 block_of Mono left right = sample_bytes left
 block_of Stereo left right = sample_bytes left ++ sample_bytes right
 
--- the blocks, one behind another
+-- the bytes of all instants, one behind another
 abbrev pub encoded : Kind → List ℤ → List ℤ → List ℕ
 encoded kind left right = concat (zip2 (block_of kind) left right)

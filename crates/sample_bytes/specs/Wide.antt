@@ -12,11 +12,11 @@ pub use Rattle.resample.specs.Bytes.{wide_samples_in}
 abbrev pub wide_bytes : ℤ → List ℕ
 wide_bytes sample = 0 ∷ sample_bytes sample
 
--- the block of an instant: its left sample, and behind it the right one where there are two
+-- the bytes of an instant in samples of three bytes: of its left sample, and behind it of the right one in stereo
 abbrev pub wide_block_of : Kind → ℤ → ℤ → List ℕ
 wide_block_of Mono left right = wide_bytes left
 wide_block_of Stereo left right = wide_bytes left ++ wide_bytes right
 
--- the blocks, one behind another
+-- the bytes of all instants in samples of three bytes, one behind another
 abbrev pub encoded_wide : Kind → List ℤ → List ℤ → List ℕ
 encoded_wide kind left right = concat (zip2 (wide_block_of kind) left right)

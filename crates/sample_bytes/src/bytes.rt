@@ -25,7 +25,7 @@ pub fn encode(left: &[i16], right: &[i16], kind: Kind, into: &mut [u8])
     }
 }
 
-/// Reads samples that stand as signed numbers of two bytes, the lower first.
+/// Reads samples that stand as signed numbers of two bytes, the lower first. `bytes` has two for each of `into`.
 pub fn decode(bytes: &[u8], into: &mut [i16])
     requires room { length bytes.now ≡ 2 * length into.old }
     ensures { into.new ≡ samples_from bytes.now }
@@ -40,7 +40,7 @@ pub fn decode(bytes: &[u8], into: &mut [i16])
     }
 }
 
-// The samples, one behind another.
+// Writes samples of two bytes, one behind another.
 fn encode_mono(samples: &[i16], into: &mut [u8])
     requires { length into.old ≡ 2 * length samples.now }
     ensures { into.new ≡ flat_map sample_bytes samples.now }
@@ -56,7 +56,7 @@ fn encode_mono(samples: &[i16], into: &mut [u8])
     }
 }
 
-// The left sample of each instant before the right one.
+// Writes samples of two bytes, the left one of each instant before the right one.
 fn encode_stereo(left: &[i16], right: &[i16], into: &mut [u8])
     requires same { length right.now ≡ length left.now }
     requires room { length into.old ≡ 4 * length left.now }
@@ -73,7 +73,7 @@ fn encode_stereo(left: &[i16], right: &[i16], into: &mut [u8])
     }
 }
 
-// Writes the bytes of eight instants.
+// Writes the bytes of eight instants of a stereo sound, from instant `at` on.
 fn encode_eight(left: &[i16], right: &[i16], at: usize, into: &mut [u8])
     requires within { (at + 8 ≤ length left.now) × (length right.now ≡ length left.now)
         × (length into.old ≡ 4 * length left.now) }
@@ -86,7 +86,7 @@ fn encode_eight(left: &[i16], right: &[i16], at: usize, into: &mut [u8])
     lay_eight(back, 4 * at + 16, into);
 }
 
-// Writes the bytes of eight samples at a place.
+// Writes the bytes of eight samples, from byte `at` on.
 fn lay_eight(samples: i16x8, at: usize, into: &mut [u8])
     requires room { at + 16 ≤ length into.old }
     requires long { length samples ≡ 8 }
@@ -96,7 +96,7 @@ fn lay_eight(samples: i16x8, at: usize, into: &mut [u8])
     samples.to_le_bytes().copy_to_slice(&mut into[at..]);
 }
 
-// Writes the two bytes of a sample at a place.
+// Writes the two bytes of a sample, from byte `at` on.
 fn lay_sample(sample: i16, at: usize, into: &mut [u8])
     requires { at + 2 ≤ length into.old }
     ensures { into.new ≡ put_chunk at into.old (sample_bytes sample) }
@@ -106,7 +106,7 @@ fn lay_sample(sample: i16, at: usize, into: &mut [u8])
     into[at + 1] = high;
 }
 
-// Reads eight samples.
+// Reads eight samples of two bytes, from sample `at` on.
 fn decode_eight(bytes: &[u8], into: &mut [i16], at: usize)
     requires within { (at + 8 ≤ length into.old) × (length bytes.now ≡ 2 * length into.old) }
     ensures { into.new ≡ put_chunk at into.old (samples_from (chunk (2 * at) 16 bytes.now)) }

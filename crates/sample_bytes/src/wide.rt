@@ -24,7 +24,8 @@ pub fn encode_wide(left: &[i16], right: &[i16], kind: Kind, into: &mut [u8])
     }
 }
 
-/// Reads samples that stand as signed numbers of three bytes, the lower ones first. The lowest byte is dropped.
+/// Reads samples that stand as signed numbers of three bytes, the lower ones first. The lowest byte is dropped. `bytes`
+/// has three for each of `into`.
 pub fn decode_wide(bytes: &[u8], into: &mut [i16])
     requires room { length bytes.now ≡ 3 * length into.old }
     ensures { into.new ≡ wide_samples_in bytes.now }
@@ -39,7 +40,7 @@ pub fn decode_wide(bytes: &[u8], into: &mut [i16])
     }
 }
 
-// The samples, one behind another.
+// Writes samples of three bytes, one behind another.
 fn encode_wide_mono(samples: &[i16], into: &mut [u8])
     requires { length into.old ≡ 3 * length samples.now }
     ensures { into.new ≡ flat_map wide_bytes samples.now }
@@ -55,7 +56,7 @@ fn encode_wide_mono(samples: &[i16], into: &mut [u8])
     }
 }
 
-// The left sample of each instant before the right one.
+// Writes samples of three bytes, the left one of each instant before the right one.
 fn encode_wide_stereo(left: &[i16], right: &[i16], into: &mut [u8])
     requires same { length right.now ≡ length left.now }
     requires room { length into.old ≡ 6 * length left.now }
@@ -72,7 +73,7 @@ fn encode_wide_stereo(left: &[i16], right: &[i16], into: &mut [u8])
     }
 }
 
-// Writes the bytes of eight instants.
+// Writes the bytes of eight instants of a stereo sound, from instant `at` on.
 fn encode_wide_eight(left: &[i16], right: &[i16], at: usize, into: &mut [u8])
     requires within { (at + 8 ≤ length left.now) × (length right.now ≡ length left.now)
         × (length into.old ≡ 6 * length left.now) }
@@ -86,7 +87,8 @@ fn encode_wide_eight(left: &[i16], right: &[i16], at: usize, into: &mut [u8])
     lay_wide_eight(back, 6 * at + 24, into);
 }
 
-// Writes the bytes of eight samples at a place: the first 16 of them, then the other 8. A 16 takes a byte that is 0.
+// Writes the bytes of eight samples, from byte `at` on: the first 16 of them, then the other 8. A 16 in the pattern
+// takes a byte that is 0.
 fn lay_wide_eight(samples: i16x8, at: usize, into: &mut [u8])
     requires room { at + 24 ≤ length into.old }
     requires long { length samples ≡ 8 }
@@ -104,7 +106,7 @@ fn lay_wide_eight(samples: i16x8, at: usize, into: &mut [u8])
     back.copy_to_slice(&mut into[at + 16..]);
 }
 
-// Reads eight samples: of 24 bytes, the first 16 and the last 16 are loaded.
+// Reads eight samples of three bytes, from sample `at` on: of their 24 bytes, the first 16 and the last 16 are loaded.
 fn decode_wide_eight(bytes: &[u8], into: &mut [i16], at: usize)
     requires within { (at + 8 ≤ length into.old) × (length bytes.now ≡ 3 * length into.old) }
     ensures { into.new ≡ put_chunk at into.old (wide_samples_in (chunk (3 * at) 24 bytes.now)) }
@@ -118,7 +120,7 @@ fn decode_wide_eight(bytes: &[u8], into: &mut [i16], at: usize)
     i16x8::from_le_bytes(picked).copy_to_slice(&mut into[at..]);
 }
 
-// Writes the three bytes of a sample at a place.
+// Writes the three bytes of a sample, from byte `at` on.
 fn lay_wide(sample: i16, at: usize, into: &mut [u8])
     requires { at + 3 ≤ length into.old }
     ensures { into.new ≡ put_chunk at into.old (wide_bytes sample) }

@@ -6,19 +6,19 @@ use Rattle.std.specs.Int.{int_max, int_min}
 abbrev pub clamped : ℤ → ℤ
 clamped number = int_max (negsuc 32767) (int_min number (pos 32767))
 
--- where the sum of so many samples lies
+-- a number that may be the sum of this many samples
 pub record IsSumOf (parts : ℕ) (sum : ℤ) : Type 0 where
   pub low : neg_ℤ (pos (32768 * parts)) ≤ℤ sum
   pub high : sum ≤ℤ pos (32767 * parts)
 
--- the mean of so many samples, by their sum
+-- the mean of `parts` samples by their sum, rounded toward zero
 abbrev pub mean_of : ℤ → ℕ → ℤ
 mean_of sum parts = int_div sum (pos parts)
 
--- a sample times a factor in millionths
+-- a sample times a factor in millionths, rounded toward zero and cut to the range of a sample
 abbrev pub scaled : ℤ → ℤ → ℤ
 scaled millionths sample = clamped (int_div (sample *ℤ millionths) (pos 1000000))
 
--- half the sum of two samples
+-- half the sum of two samples, rounded toward zero
 abbrev pub half_of : ℤ → ℤ → ℤ
 half_of left right = int_div (left +ℤ right) (pos 2)

@@ -8,7 +8,8 @@ use crate::loading::load_samples;
 use crate::mixing::quotients;
 use std::simd::prelude::*;
 
-/// 2^47 divided by a number of parts, and up to 1 more.
+/// 2^47 divided by the number of parts `whole`, and up to 1 more; its product with a number takes the place of a
+/// division by `whole`.
 pub fn inverse_of(whole: u32) -> u64
     requires { 0 < whole }
     ensures { result ≡ inverse_of whole }
@@ -16,8 +17,8 @@ pub fn inverse_of(whole: u32) -> u64
     140_737_488_355_328 / u64::from(whole) + 1
 }
 
-/// Writes eight numbers at a place: each lies its own part of `whole` behind one sample on the way to another, rounded
-/// toward zero. `inverse` is that of `whole`.
+/// Writes eight numbers into `into` from index `at` on: each lies its own part of `whole` behind a sample of `from` on
+/// the way to that of `to`, rounded toward zero. `inverse` is `inverse_of(whole)`.
 pub fn fade_eight(
     from: &[i16],
     to: &[i16],

@@ -10,10 +10,11 @@ use crate::silence::are_silent;
 use fixed_text::Decimal;
 use std::simd::prelude::*;
 
-// A factor of up to so many millionths either way goes by vectors.
+// A factor of up to this many millionths either way is multiplied in vectors of 32 bits.
 const MOST: u64 = 1_000_000_000;
 
-/// Multiplies each sample by a factor, rounded toward zero and cut to the range of a sample.
+/// Multiplies each sample by a factor, rounded toward zero and cut to the range of a sample. `into` is as long as
+/// `from`.
 pub fn scale(factor: Decimal, from: &[i16], into: &mut [i16])
     requires same { length into.old ≡ length from.now }
     ensures { into.new ≡ map (scaled factor.millionths) from.now }
@@ -31,7 +32,7 @@ pub fn scale(factor: Decimal, from: &[i16], into: &mut [i16])
     }
 }
 
-/// Half the sum of each left and right sample, rounded toward zero.
+/// Half the sum of each left sample and the right one beside it, rounded toward zero.
 pub fn halves(left: &[i16], right: &[i16], into: &mut [i16])
     requires same { (length right.now ≡ length left.now) × (length into.old ≡ length left.now) }
     ensures { into.new ≡ zip2 half_of left.now right.now }
@@ -46,7 +47,7 @@ pub fn halves(left: &[i16], right: &[i16], into: &mut [i16])
     }
 }
 
-// A factor of at most 1000 units either way.
+// Multiplies each sample by a factor of at most 1000 either way, eight at a time.
 fn scale_by_eights(millionths: i64, from: &[i16], into: &mut [i16])
     requires same { length into.old ≡ length from.now }
     requires small { unsigned_abs millionths ≤ 1000000000 }
@@ -62,7 +63,7 @@ fn scale_by_eights(millionths: i64, from: &[i16], into: &mut [i16])
     }
 }
 
-// A factor of any size up to 32768 units either way.
+// Multiplies each sample by a factor of at most 32768 either way, eight at a time.
 fn scale_long(millionths: i64, from: &[i16], into: &mut [i16])
     requires same { length into.old ≡ length from.now }
     requires low { negsuc 32767999999 ≤ℤ millionths }
@@ -79,9 +80,9 @@ fn scale_long(millionths: i64, from: &[i16], into: &mut [i16])
     }
 }
 
-// Eight samples times a factor. A vector has no division that fits: 2^35 times the factor, and up to 1 more, stands
-// in three digits, a product with each digit fits 32 bits, and what is above bit 35 of the sum of the three is the
-// quotient, rounded down.
+// Multiplies the eight samples from index `at` on by a factor. A vector has no division that fits: 2^35 times the
+// factor, and up to 1 more, stands in three digits, a product with each digit fits 32 bits, and what is above bit 35 of
+// the sum of the three is the quotient, rounded down.
 fn scale_eight(millionths: i64, from: &[i16], into: &mut [i16], at: usize)
     requires small { unsigned_abs millionths ≤ 1000000000 }
     requires within { (at + 8 ≤ length into.old) × (length into.old ≡ length from.now) }
@@ -97,7 +98,7 @@ fn scale_eight(millionths: i64, from: &[i16], into: &mut [i16], at: usize)
     cut.cast::<i16>().copy_to_slice(&mut into[at..]);
 }
 
-// Eight samples times a factor of any size up to 32768 units either way.
+// Multiplies the eight samples from index `at` on by a factor of at most 32768 either way.
 fn scale_long_eight(millionths: i64, from: &[i16], into: &mut [i16], at: usize)
     requires low { negsuc 32767999999 ≤ℤ millionths }
     requires high { millionths ≤ℤ pos 32768000000 }
@@ -126,7 +127,7 @@ fn digits(millionths: i64) -> (i32, i32, i32)
     (low, middle, high)
 }
 
-// A sample times a factor in millionths, which is at most 32768 units either way.
+// A sample times a factor in millionths, which is at most 32768 either way, cut to the range of a sample.
 fn scaled(sample: i16, millionths: i64) -> i16
     requires low { negsuc 32767999999 ≤ℤ millionths }
     requires high { millionths ≤ℤ pos 32768000000 }
@@ -136,7 +137,7 @@ fn scaled(sample: i16, millionths: i64) -> i16
     (product / 1_000_000).clamp(-32768, 32767) as i16
 }
 
-// Half the sum of eight left and right samples.
+// Half the sums of the eight left and right samples from index `at` on.
 fn halve_eight(left: &[i16], right: &[i16], into: &mut [i16], at: usize)
     requires within { (at + 8 ≤ length into.old) × (length right.now ≡ length left.now)
         × (length into.old ≡ length left.now) }
@@ -148,7 +149,7 @@ fn halve_eight(left: &[i16], right: &[i16], into: &mut [i16], at: usize)
     halves.cast::<i16>().copy_to_slice(&mut into[at..]);
 }
 
-// Half the sum of two samples.
+// Half the sum of two samples, rounded toward zero.
 fn half_of(left: i16, right: i16) -> i16
     ensures { result ≡ half_of left right }
 {

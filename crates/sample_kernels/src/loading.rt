@@ -5,8 +5,8 @@ ghost use Rattle.std.specs.Simd.Lanes.{chunk, Each1};
 
 use std::simd::prelude::*;
 
-/// Eight samples from a place on. Each is read by itself too, since a proof learns so that it is a sample; of these
-/// reads nothing is built.
+/// The eight samples from index `at` on, as a vector. Each is read by itself too, since a proof learns so that it is a
+/// sample; of these reads nothing is built.
 pub fn load_samples(samples: &[i16], at: usize) -> i16x8
     requires { at + 8 ≤ length samples.now }
     ensures lanes { result ≡ chunk at 8 samples.now }
@@ -25,7 +25,8 @@ pub fn load_samples(samples: &[i16], at: usize) -> i16x8
     i16x8::from_slice(&samples[at..])
 }
 
-/// Eight sums from a place on, loaded as samples are.
+/// The eight sums from index `at` on, as a vector. Each is read by itself too, since a proof learns so that it fits 32
+/// bits.
 pub fn load_sums(sums: &[i32], at: usize) -> i32x8
     requires { at + 8 ≤ length sums.now }
     ensures lanes { result ≡ chunk at 8 sums.now }

@@ -8,7 +8,7 @@ use crate::loading::{load_samples, load_sums};
 use crate::silence::are_zeros;
 use std::simd::prelude::*;
 
-/// Adds a sample to each sum. A sum of up to 65535 samples has room for one more.
+/// Adds to each sum the sample at its index. A sum of up to 65535 samples has room for one more.
 pub fn add_into(sum: &mut [i32], part: &[i16])
     requires same { length part.now ≡ length sum.old }
     requires room { All (IsSumOf 65535) sum.old }
@@ -25,7 +25,7 @@ pub fn add_into(sum: &mut [i32], part: &[i16])
     }
 }
 
-/// Divides each sum by the number of its samples, rounded toward zero.
+/// Divides each sum by the number of its samples, `by`, rounded toward zero.
 pub fn divide(sum: &[i32], by: &[u16], into: &mut [i16])
     requires same { (length by.now ≡ length sum.now) × (length into.old ≡ length sum.now) }
     requires some { All (λ parts. 0 < parts) by.now }
@@ -61,7 +61,7 @@ pub fn clamp_all(sum: &[i32], into: &mut [i16])
     }
 }
 
-// Adds a sample to each of eight sums.
+// Adds to the eight sums from index `at` on the samples at their indexes.
 fn add_eight(sum: &mut [i32], part: &[i16], at: usize)
     requires within { (at + 8 ≤ length sum.old) × (length part.now ≡ length sum.old) }
     requires room { Each1 (IsSumOf 65535) (chunk at 8 sum.old) }
@@ -73,7 +73,7 @@ fn add_eight(sum: &mut [i32], part: &[i16], at: usize)
     (sums + parts.cast::<i32>()).copy_to_slice(&mut sum[at..]);
 }
 
-// Divides eight sums.
+// Divides the eight sums from index `at` on by the numbers of their samples.
 fn divide_eight(sum: &[i32], by: &[u16], into: &mut [i16], at: usize)
     requires within { (at + 8 ≤ length into.old) × (length by.now ≡ length sum.now)
         × (length into.old ≡ length sum.now) }
@@ -88,7 +88,7 @@ fn divide_eight(sum: &[i32], by: &[u16], into: &mut [i16], at: usize)
         .copy_to_slice(&mut into[at..]);
 }
 
-// Cuts eight sums.
+// Cuts the eight sums from index `at` on to the range of a sample.
 fn clamp_eight(sum: &[i32], into: &mut [i16], at: usize)
     requires within { (at + 8 ≤ length into.old) × (length into.old ≡ length sum.now) }
     ensures { into.new ≡ put_chunk at into.old (map clamped (chunk at 8 sum.now)) }
@@ -98,7 +98,7 @@ fn clamp_eight(sum: &[i32], into: &mut [i16], at: usize)
     cut.cast::<i16>().copy_to_slice(&mut into[at..]);
 }
 
-// The mean of so many samples, by their sum.
+// The mean of `parts` samples by their sum, rounded toward zero.
 fn mean_of(sum: i32, parts: u16) -> i16
     requires some { 0 < parts }
     requires sum { IsSumOf parts sum }

@@ -28,10 +28,11 @@ use script_values::{EvalFault, Machine, Slot, Stop, Value, fault_in};
 use std::alloc::Global;
 use typing_rules::Use;
 
-// How deep evaluation may nest: 200 levels of each of 17 bodies, and more.
+// How many levels deep evaluation may nest: more than 200 levels of each of 17 bodies.
 const LEVELS: usize = 4096;
 
-/// The plan of a script, and for each of its sources the token of the call that made it.
+/// The plan of a script, and for each of its nodes the token of the call that made it: of calls that run within each
+/// other, the outermost.
 #[derive(Debug, Drop)]
 pub struct Sources {
     pub plan: Plan,
@@ -50,7 +51,8 @@ pub fn eval(alloc: Global, script: &Script, uses: &[Use]) -> Result<Plan, EvalFa
     Ok(made.plan)
 }
 
-/// The same with the calls of the plan's sources.
+/// The plan of a typed script whose names stand for what `uses` says, with the calls that made its sources; or its
+/// first fault. Want of memory may come at any place.
 #[tactic(auto, using(crate::proofs::Answered::is_not_stuck))]
 pub fn eval_with_calls(alloc: Global, script: &Script, uses: &[Use]) -> Result<Sources, EvalFault>
     requires placed { IsPlaced 0 (view_script script.now) }
@@ -63,7 +65,7 @@ pub fn eval_with_calls(alloc: Global, script: &Script, uses: &[Use]) -> Result<S
     answered(alloc, script, uses)
 }
 
-// The tables of a script and of its uses, and what evaluation makes by them.
+// Makes the tables of a script and of its uses, and evaluates the script by them.
 fn answered(alloc: Global, script: &Script, uses: &[Use]) -> Result<Sources, EvalFault>
     requires { IsNotStuck (evaluation (view_script script.now) uses.now) }
     ensures { Answers (λ s. (s.plan, s.calls)) result (sources (view_script script.now) uses.now) }
@@ -77,6 +79,7 @@ fn answered(alloc: Global, script: &Script, uses: &[Use]) -> Result<Sources, Eva
     planned(alloc, &defs, &uses)
 }
 
+/// Evaluates the statements of a script. Without an output it has no plan.
 #[tactic(auto, using(crate::proofs::Statements::first_not_stuck))]
 fn planned(alloc: Global, defs: &Defs<'_>, uses: &Uses<'_>) -> Result<Sources, EvalFault>
     requires { IsNotStuck (evaluation (view_script defs.now.script.now) uses.now.all.now) }
@@ -94,12 +97,14 @@ fn planned(alloc: Global, defs: &Defs<'_>, uses: &Uses<'_>) -> Result<Sources, E
     }
 }
 
+/// Whether one of these sinks is an output.
 fn has_output(sinks: &[SinkPlan]) -> bool
     ensures { result ≡ list_any is_output sinks.now }
 {
     sinks.iter().any(|sink| sink.is_output())
 }
 
+/// Evaluates the statements of a script one after another, and ends its settings.
 fn run(
     alloc: Global,
     defs: &Defs<'_>,
@@ -125,7 +130,7 @@ fn run(
     settle(machine, false)
 }
 
-// A statement, with the end of the settings before it.
+// Evaluates statement `number`, counted from 1, and ends the settings before it if it is none.
 #[tactic(auto, unfolding(eval_meaning::specs::Scripts::turned), using(crate::proofs::Statements::fault_is_told))]
 fn turn(
     alloc: Global,
@@ -150,7 +155,7 @@ fn turn(
     }
 }
 
-// The fault of the script, for one of its statement of this number.
+// The fault of the script, for a fault of its statement `stmt`, which is no value of a wrong type.
 #[tactic(auto, using(crate::proofs::Statements::is_told))]
 fn told(stmt: u32, fault: Stop) -> EvalFault
     requires { fault ≢ Stuck }
@@ -162,7 +167,7 @@ fn told(stmt: u32, fault: Stop) -> EvalFault
     }
 }
 
-// The settings end before the first statement that is none.
+// Ends the settings, if they have not ended, where the statement to come is no `setting`.
 fn settle(machine: &mut Machine, setting: bool) -> Result<(), EvalFault>
     ensures { Answers (λ _. machine.new) result (settings_settled setting machine.old) }
 {
@@ -176,6 +181,7 @@ fn settle(machine: &mut Machine, setting: bool) -> Result<(), EvalFault>
     }
 }
 
+/// Ends the settings: the plan gets its tick, or the last setting was bad.
 #[tactic(auto, unfolding(eval_meaning::specs::Scripts::settings_ended))]
 fn end_settings(machine: &mut Machine) -> Result<(), EvalFault>
     ensures { Answers (λ _. machine.new) result (settings_ended machine.old) }
@@ -193,7 +199,7 @@ fn end_settings(machine: &mut Machine) -> Result<(), EvalFault>
     }
 }
 
-// The length of a tick in samples, if a tick may have it.
+// How many samples a tick of this duration has at `rate` samples a second; `None` outside of 1 to `MAX_FRAME`.
 fn tick(duration: Decimal, rate: u32) -> Option<u32>
     ensures { result ≡ tick_of duration.millionths rate }
 {
@@ -211,6 +217,7 @@ fn tick(duration: Decimal, rate: u32) -> Option<u32>
     }
 }
 
+/// Evaluates a statement, which may add a binding. A def does nothing here.
 #[tactic(auto, unfolding(eval_meaning::specs::Scripts::statement))]
 fn statement(
     alloc: Global,
@@ -238,6 +245,7 @@ fn statement(
     }
 }
 
+/// Evaluates a binding that is a statement, and adds its value.
 #[tactic(auto, unfolding(eval_meaning::specs::Scripts::statement))]
 fn binding(
     alloc: Global,
@@ -256,6 +264,7 @@ fn binding(
     Ok(())
 }
 
+/// The value of an expression in a statement outside of defs.
 fn top_full(
     alloc: Global,
     defs: &Defs<'_>,
@@ -279,6 +288,7 @@ fn top_full(
     full(alloc, &scope, LEVELS, machine, node)
 }
 
+/// The value of a call that is a statement.
 fn top_call(
     alloc: Global,
     defs: &Defs<'_>,
@@ -302,6 +312,7 @@ fn top_call(
     call(alloc, &scope, LEVELS, machine, node)
 }
 
+/// The value of an `if` that is a statement.
 fn top_choice(
     alloc: Global,
     defs: &Defs<'_>,

@@ -7,6 +7,7 @@ use Rattle.script_lex.specs.declared.token.Symbol.TheVariants as sign
 use Rattle.script_grammar.specs.declared.tree.CompareOp.{CompareOp}
 use Rattle.script_grammar.specs.declared.tree.CompareOp.TheVariants as op
 
+-- each of these tests says whether a token is the keyword or the symbol of its name
 abbrev pub is_end : TokenKind → Bool
 is_end (Keyword word.End) = true
 is_end k = false
@@ -63,21 +64,23 @@ abbrev pub is_minus : TokenKind → Bool
 is_minus (Symbol sign.Minus) = true
 is_minus k = false
 
--- an operator of a sum, and of a product
+-- whether a token is an operator of a sum: `+` or `-`
 abbrev pub is_added : TokenKind → Bool
 is_added (Symbol sign.Plus) = true
 is_added (Symbol sign.Minus) = true
 is_added k = false
 
+-- whether a token is an operator of a product: `*` or `/`
 abbrev pub is_multiplied : TokenKind → Bool
 is_multiplied (Symbol sign.Star) = true
 is_multiplied (Symbol sign.Slash) = true
 is_multiplied k = false
 
+-- any token passes
 abbrev pub is_any : TokenKind → Bool
 is_any k = true
 
--- the comparing operator that a token is
+-- the comparing operator that a token is, if it is one
 abbrev pub op_of : TokenKind → Option CompareOp
 op_of (Symbol sign.Equal) = Some op.Equal
 op_of (Symbol sign.Differs) = Some op.Differs

@@ -9,28 +9,29 @@ use Rattle.script_lex.specs.declared.token.Symbol.TheVariants as sign
 use Rattle.script_grammar.specs.Tree.{Sort, Tree, APAnd, APNot}
 use Rattle.script_grammar.specs.Spelling.{spell}
 
--- one after another
+-- the spellings of these trees, one after another
 abbrev pub each : {s : Sort} → List (Tree s) → List TokenKind
 each ts = flat_map spell ts
 
--- each behind a token
+-- the spellings of these trees, each behind this token
 abbrev pub each_behind : {s : Sort} → TokenKind → List (Tree s) → List TokenKind
 each_behind k ts = flat_map (λ t. k ∷ spell t) ts
 
--- with commas between
+-- the spellings of these trees, with commas between
 abbrev pub between_commas : {s : Sort} → List (Tree s) → List TokenKind
 between_commas [] = []
 between_commas (t ∷ ts) = spell t ++ each_behind (Symbol sign.Comma) ts
 
--- the same between two signs
+-- the spellings of these trees, with commas between and in these brackets
 abbrev pub in_brackets : {s : Sort} → Sign → List (Tree s) → Sign → List TokenKind
 in_brackets first ts last = Symbol first ∷ (between_commas ts ++ (Symbol last ∷ []))
 
--- a predicate's parts; no part at all is spelled as what it stands for
+-- the spellings of parts, with `or` between; no part at all is spelled `false`, which it means
 abbrev pub por_parts : List (Tree APAnd) → List TokenKind
 por_parts [] = Keyword word.False ∷ []
 por_parts (t ∷ ts) = spell t ++ each_behind (Keyword word.Or) ts
 
+-- the spellings of parts, with `and` between; no part at all is spelled `true`, which it means
 abbrev pub pand_parts : List (Tree APNot) → List TokenKind
 pand_parts [] = Keyword word.True ∷ []
 pand_parts (t ∷ ts) = spell t ++ each_behind (Keyword word.And) ts

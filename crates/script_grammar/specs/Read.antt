@@ -4,22 +4,25 @@ use Rattle.std.specs.Prelude.{ℕ, zero, suc, List, [], ◌∷◌, length, Bool,
 use Rattle.script_lex.specs.declared.token.TokenKind.{TokenKind}
 use Rattle.script_grammar.specs.Tree.{Sort, Tree, Many, none, more}
 
+-- what reading gives: a value and the tokens behind it, or how many tokens are left at the fault
 abbrev pub Read : Type 0 → Type 0
 Read T = Result (T × List TokenKind) ℕ
 
+-- a rule that reads the front of a list of tokens
 abbrev pub Reader : Type 0 → Type 0
 Reader T = List TokenKind → Read T
 
 infixl 10 ◌>>=◌
+-- reading goes on with what was read, unless it stopped at a fault
 abbrev pub ◌>>=◌ : {A B : Type 0} → Result A ℕ → (A → Result B ℕ) → Result B ℕ
 (Ok x) >>= f = f x
 (Err e) >>= f = Err e
 
--- the value, changed
+-- what was read, changed by f, with the tokens behind it
 abbrev pub made : {A B : Type 0} → (A → B) → A × List TokenKind → Read B
 made f x = Ok (f x.0, x.1)
 
--- one after the other
+-- what f reads, and then what g reads
 abbrev pub both : {A B : Type 0} → Reader A → Reader B → Reader (A × B)
 both f g w = f w >>= λ x. g x.1 >>= λ y. Ok ((x.0, y.0), y.1)
 
@@ -37,7 +40,7 @@ expect is (k ∷ w) =
       | false ↦ Err (suc (length w))
     ]
 
--- such a token, if it stands next
+-- whether a token of this kind stands first; if so, it is read
 abbrev pub perhaps : (TokenKind → Bool) → Reader Bool
 perhaps is [] = Ok (false, [])
 perhaps is (k ∷ w) =
@@ -55,6 +58,7 @@ repeat test item (suc n) w =
       | false ↦ Ok (none, w)
     ]
 
+-- items as long as the tokens pass a test
 unfoldable pub many : {s : Sort} → (List TokenKind → Bool) → Reader (Tree s) → Reader (Tree (Many s))
 many test item w = repeat test item (length w) w
 
@@ -66,7 +70,7 @@ behind is item w = expect is w >>= λ x. item x.1
 unfoldable pub chain : {s : Sort} → (TokenKind → Bool) → Reader (Tree s) → Reader (Tree s × Tree (Many s))
 chain is item w = both item (many (next is) (behind is item)) w
 
--- items with one token between, up to another
+-- items with a comma between, up to the closing token; there may be no item
 unfoldable pub closed : {s : Sort} → (TokenKind → Bool) → (TokenKind → Bool) → Reader (Tree s) → Reader (Tree (Many s))
 closed comma close item w =
     elim (next close w) [

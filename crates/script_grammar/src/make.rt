@@ -48,7 +48,7 @@ pub fn product(first: tree::Operand, rest: Vec<Multiplied>) -> Product
     Product { first, rest }
 }
 
-/// A call of a name with its arguments.
+/// A call of a name with its arguments. `at` is the index of its first token, as in the tree.
 pub fn call(at: u32, name: Text, args: Vec<Arg>) -> Call
     ensures made { view_call result ≡ a_call at name (listed (map view_arg args.items)) }
     ensures whole { All IsWholeArg args.items → IsWholeCall result }
@@ -56,7 +56,7 @@ pub fn call(at: u32, name: Text, args: Vec<Arg>) -> Call
     Call { at, name, args }
 }
 
-/// Values in square brackets.
+/// Values in square brackets. `at` is the index of the `[`.
 pub fn list(at: u32, parts: Vec<Full>) -> tree::Operand
     ensures made { view_operand result ≡ a_list at (listed (map view_full parts.items)) }
     ensures whole { All IsWholeFull parts.items → IsWholeOperand result }
@@ -64,7 +64,7 @@ pub fn list(at: u32, parts: Vec<Full>) -> tree::Operand
     tree::Operand::List { at, parts }
 }
 
-/// Values in parentheses: a first one alone, or a tuple of it and the others.
+/// Values in parentheses: a first one alone, or a tuple of it and the others. `at` is the index of the `(`.
 pub fn round(alloc: Global, at: u32, first: Full, rest: Vec<Full>) -> Result<tree::Operand, Memory>
     ensures made { IfOk result (λ p. view_operand p
         ≡ round_of at (view_full first) (listed (map view_full rest.items))) }

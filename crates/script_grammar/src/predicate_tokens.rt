@@ -8,7 +8,7 @@ use crate::predicate::{PAnd, PAtom, PNot, POr};
 use liq_base::Memory;
 use script_lex::{Keyword, Symbol, TokenKind};
 
-/// Appends a token. A token that is refused ends here, so that no caller holds it at its own exits.
+/// Appends a token. A token for which memory is refused is dropped here, so that no caller holds it at its own exits.
 pub fn put(out: &mut Vec<TokenKind>, kind: TokenKind) -> Result<(), Memory>
     ensures { OnOk result (out.new.items ≡ out.old.items ++ kind ∷ []) }
 {
@@ -16,7 +16,7 @@ pub fn put(out: &mut Vec<TokenKind>, kind: TokenKind) -> Result<(), Memory>
     Ok(())
 }
 
-/// Appends a token that may be missing.
+/// Appends a token if it is present.
 pub fn put_if(out: &mut Vec<TokenKind>, kind: TokenKind, present: bool) -> Result<(), Memory>
     ensures { OnOk result (out.new.items ≡ out.old.items ++ token_if kind present) }
 {
@@ -31,6 +31,7 @@ pub fn put_por(out: &mut Vec<TokenKind>, pred: &POr) -> Result<(), Memory>
     put_por_parts(out, &pred.parts)
 }
 
+// Appends the tokens of these parts, with `or` between.
 #[cycle(predicate)]
 fn put_por_parts(out: &mut Vec<TokenKind>, parts: &[PAnd]) -> Result<(), Memory>
     ensures { OnOk result (out.new.items ≡ out.old.items ++ por_parts (map view_pand parts.now)) }
@@ -49,6 +50,7 @@ fn put_por_parts(out: &mut Vec<TokenKind>, parts: &[PAnd]) -> Result<(), Memory>
     }
 }
 
+// Appends the tokens of parts joined by `and`.
 #[cycle(predicate)]
 fn put_pand(out: &mut Vec<TokenKind>, pred: &PAnd) -> Result<(), Memory>
     ensures { OnOk result (out.new.items ≡ out.old.items ++ spell (view_pand pred.now)) }
@@ -56,6 +58,7 @@ fn put_pand(out: &mut Vec<TokenKind>, pred: &PAnd) -> Result<(), Memory>
     put_pand_parts(out, &pred.parts)
 }
 
+// Appends the tokens of these parts, with `and` between.
 #[cycle(predicate)]
 fn put_pand_parts(out: &mut Vec<TokenKind>, parts: &[PNot]) -> Result<(), Memory>
     ensures { OnOk result (out.new.items ≡ out.old.items ++ pand_parts (map view_pnot parts.now)) }
@@ -74,6 +77,7 @@ fn put_pand_parts(out: &mut Vec<TokenKind>, parts: &[PNot]) -> Result<(), Memory
     }
 }
 
+// Appends the tokens of an atom, behind `not` if it is negated.
 #[cycle(predicate)]
 fn put_pnot(out: &mut Vec<TokenKind>, pred: &PNot) -> Result<(), Memory>
     ensures { OnOk result (out.new.items ≡ out.old.items ++ spell (view_pnot pred.now)) }
@@ -82,6 +86,7 @@ fn put_pnot(out: &mut Vec<TokenKind>, pred: &PNot) -> Result<(), Memory>
     put_patom(out, &pred.atom)
 }
 
+// Appends the tokens of an atom.
 #[cycle(predicate)]
 fn put_patom(out: &mut Vec<TokenKind>, atom: &PAtom) -> Result<(), Memory>
     ensures { OnOk result (out.new.items ≡ out.old.items ++ spell (view_patom atom.now)) }

@@ -22,6 +22,7 @@ pub fn spell(alloc: Global, script: &Script) -> Result<Vec<TokenKind>, Memory>
     Ok(out)
 }
 
+// Appends the tokens of a binding.
 fn put_bind(alloc: Global, out: &mut Vec<TokenKind>, bind: &Bind) -> Result<(), Memory>
     ensures { OnOk result (out.new.items ≡ out.old.items ++ spell (view_bind bind.now)) }
 {
@@ -30,6 +31,7 @@ fn put_bind(alloc: Global, out: &mut Vec<TokenKind>, bind: &Bind) -> Result<(), 
     put_full(alloc, out, &bind.value)
 }
 
+// Appends the tokens of a binding in the body of a def.
 fn put_inner(alloc: Global, out: &mut Vec<TokenKind>, inner: &Inner) -> Result<(), Memory>
     ensures { OnOk result (out.new.items ≡ out.old.items ++ spell (view_inner inner.now)) }
 {
@@ -37,6 +39,7 @@ fn put_inner(alloc: Global, out: &mut Vec<TokenKind>, inner: &Inner) -> Result<(
     put_if(out, TokenKind::Symbol(Symbol::Semicolon), inner.semicolon)
 }
 
+// Appends the tokens of the bindings in the body of a def.
 fn put_inners(alloc: Global, out: &mut Vec<TokenKind>, inners: &[Inner]) -> Result<(), Memory>
     ensures { OnOk result (out.new.items ≡ out.old.items ++ each (map view_inner inners.now)) }
 {
@@ -46,6 +49,7 @@ fn put_inners(alloc: Global, out: &mut Vec<TokenKind>, inners: &[Inner]) -> Resu
     Ok(())
 }
 
+// Appends the tokens of a parameter.
 fn put_param(alloc: Global, out: &mut Vec<TokenKind>, param: &Param) -> Result<(), Memory>
     ensures { OnOk result (out.new.items ≡ out.old.items ++ spell (view_param param.now)) }
 {
@@ -64,7 +68,7 @@ fn put_param(alloc: Global, out: &mut Vec<TokenKind>, param: &Param) -> Result<(
     }
 }
 
-// Parameters with commas between.
+// Appends the tokens of parameters with commas between.
 fn put_params(alloc: Global, out: &mut Vec<TokenKind>, params: &[Param]) -> Result<(), Memory>
     ensures { OnOk result (out.new.items ≡ out.old.items ++ between_commas (map view_param params.now)) }
 {
@@ -81,7 +85,7 @@ fn put_params(alloc: Global, out: &mut Vec<TokenKind>, params: &[Param]) -> Resu
     }
 }
 
-// `def`, the name and the parameters in parentheses.
+// Appends `def`, the name and the parameters in parentheses.
 fn put_head(
     alloc: Global,
     out: &mut Vec<TokenKind>,
@@ -96,7 +100,7 @@ fn put_head(
     put(out, TokenKind::Symbol(Symbol::CloseRound))
 }
 
-// The bindings, the result and `end`.
+// Appends the bindings in a def, its result and `end`.
 fn put_body(
     alloc: Global,
     out: &mut Vec<TokenKind>,
@@ -111,6 +115,7 @@ fn put_body(
     put(out, TokenKind::Keyword(Keyword::End))
 }
 
+// Appends the tokens of a def.
 fn put_def(alloc: Global, out: &mut Vec<TokenKind>, def: &Def) -> Result<(), Memory>
     ensures { OnOk result (out.new.items ≡ out.old.items ++ spell (view_def def.now)) }
 {
@@ -119,6 +124,7 @@ fn put_def(alloc: Global, out: &mut Vec<TokenKind>, def: &Def) -> Result<(), Mem
     put_body(alloc, out, &def.inner, &def.result)
 }
 
+// Appends the tokens of a part of a statement.
 fn put_part(alloc: Global, out: &mut Vec<TokenKind>, part: &StmtPart) -> Result<(), Memory>
     ensures { OnOk result (out.new.items ≡ out.old.items ++ spell (view_part part.now)) }
 {
@@ -130,6 +136,7 @@ fn put_part(alloc: Global, out: &mut Vec<TokenKind>, part: &StmtPart) -> Result<
     }
 }
 
+// Appends the tokens of a statement, with the `;` that may end it.
 fn put_stmt(alloc: Global, out: &mut Vec<TokenKind>, stmt: &Stmt) -> Result<(), Memory>
     ensures { OnOk result (out.new.items ≡ out.old.items ++ spell (view_stmt stmt.now)) }
 {
@@ -137,6 +144,7 @@ fn put_stmt(alloc: Global, out: &mut Vec<TokenKind>, stmt: &Stmt) -> Result<(), 
     put_if(out, TokenKind::Symbol(Symbol::Semicolon), stmt.semicolon)
 }
 
+// Appends the tokens of statements.
 fn put_stmts(alloc: Global, out: &mut Vec<TokenKind>, stmts: &[Stmt]) -> Result<(), Memory>
     ensures { OnOk result (out.new.items ≡ out.old.items ++ each (map view_stmt stmts.now)) }
 {

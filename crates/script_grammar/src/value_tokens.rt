@@ -66,6 +66,7 @@ pub fn put_choice(alloc: Global, out: &mut Vec<TokenKind>, choice: &If) -> Resul
     put(out, TokenKind::Keyword(Keyword::End))
 }
 
+// The token of a number.
 fn literal_token(number: Literal) -> TokenKind
     ensures { result ≡ literal_token number }
 {
@@ -75,6 +76,7 @@ fn literal_token(number: Literal) -> TokenKind
     }
 }
 
+// The token of a truth value.
 fn truth_token(value: bool) -> TokenKind
     ensures { result ≡ truth_token value }
 {
@@ -85,6 +87,7 @@ fn truth_token(value: bool) -> TokenKind
     }
 }
 
+// The token of a comparing operator.
 fn op_token(op: CompareOp) -> TokenKind
     ensures { result ≡ op_token op }
 {
@@ -98,6 +101,7 @@ fn op_token(op: CompareOp) -> TokenKind
     }
 }
 
+// The token of an operator of a sum: `-` or `+`.
 fn added_token(minus: bool) -> TokenKind
     ensures { result ≡ added_token minus }
 {
@@ -108,6 +112,7 @@ fn added_token(minus: bool) -> TokenKind
     }
 }
 
+// The token of an operator of a product: `/` or `*`.
 fn multiplied_token(divide: bool) -> TokenKind
     ensures { result ≡ multiplied_token divide }
 {
@@ -118,6 +123,7 @@ fn multiplied_token(divide: bool) -> TokenKind
     }
 }
 
+// Appends the tokens of parts, each behind `or`.
 #[cycle(value)]
 fn put_ands(alloc: Global, out: &mut Vec<TokenKind>, ands: &[And]) -> Result<(), Memory>
     ensures { OnOk result (out.new.items ≡ out.old.items ++ each_behind (a_keyword word.Or) (map view_and ands.now)) }
@@ -129,6 +135,7 @@ fn put_ands(alloc: Global, out: &mut Vec<TokenKind>, ands: &[And]) -> Result<(),
     Ok(())
 }
 
+// Appends the tokens of parts with `and` between.
 #[cycle(value)]
 fn put_and(alloc: Global, out: &mut Vec<TokenKind>, and: &And) -> Result<(), Memory>
     ensures { OnOk result (out.new.items ≡ out.old.items ++ spell (view_and and.now)) }
@@ -137,6 +144,7 @@ fn put_and(alloc: Global, out: &mut Vec<TokenKind>, and: &And) -> Result<(), Mem
     put_nots(alloc, out, &and.rest)
 }
 
+// Appends the tokens of parts, each behind `and`.
 #[cycle(value)]
 fn put_nots(alloc: Global, out: &mut Vec<TokenKind>, nots: &[Not]) -> Result<(), Memory>
     ensures { OnOk result (out.new.items ≡ out.old.items ++ each_behind (a_keyword word.And) (map view_not nots.now)) }
@@ -148,6 +156,7 @@ fn put_nots(alloc: Global, out: &mut Vec<TokenKind>, nots: &[Not]) -> Result<(),
     Ok(())
 }
 
+// Appends the tokens of a comparison, perhaps behind `not`.
 #[cycle(value)]
 fn put_not(alloc: Global, out: &mut Vec<TokenKind>, not: &Not) -> Result<(), Memory>
     ensures { OnOk result (out.new.items ≡ out.old.items ++ spell (view_not not.now)) }
@@ -156,6 +165,7 @@ fn put_not(alloc: Global, out: &mut Vec<TokenKind>, not: &Not) -> Result<(), Mem
     put_compare(alloc, out, &not.inner)
 }
 
+// Appends the tokens of a sum, perhaps compared with another.
 #[cycle(value)]
 fn put_compare(alloc: Global, out: &mut Vec<TokenKind>, compare: &Compare) -> Result<(), Memory>
     ensures { OnOk result (out.new.items ≡ out.old.items ++ spell (view_compare compare.now)) }
@@ -170,6 +180,7 @@ fn put_compare(alloc: Global, out: &mut Vec<TokenKind>, compare: &Compare) -> Re
     }
 }
 
+// Appends the tokens of products with `+` and `-` between.
 #[cycle(value)]
 fn put_sum(alloc: Global, out: &mut Vec<TokenKind>, sum: &Sum) -> Result<(), Memory>
     ensures { OnOk result (out.new.items ≡ out.old.items ++ spell (view_sum sum.now)) }
@@ -178,6 +189,7 @@ fn put_sum(alloc: Global, out: &mut Vec<TokenKind>, sum: &Sum) -> Result<(), Mem
     put_addends(alloc, out, &sum.rest)
 }
 
+// Appends the tokens of products, each behind its `+` or `-`.
 #[cycle(value)]
 fn put_addends(alloc: Global, out: &mut Vec<TokenKind>, addends: &[Added]) -> Result<(), Memory>
     ensures { OnOk result (out.new.items ≡ out.old.items ++ each (map view_added addends.now)) }
@@ -188,6 +200,7 @@ fn put_addends(alloc: Global, out: &mut Vec<TokenKind>, addends: &[Added]) -> Re
     Ok(())
 }
 
+// Appends the tokens of a product behind its `+` or `-`.
 #[cycle(value)]
 fn put_added(alloc: Global, out: &mut Vec<TokenKind>, added: &Added) -> Result<(), Memory>
     ensures { OnOk result (out.new.items ≡ out.old.items ++ spell (view_added added.now)) }
@@ -196,6 +209,7 @@ fn put_added(alloc: Global, out: &mut Vec<TokenKind>, added: &Added) -> Result<(
     put_product(alloc, out, &added.product)
 }
 
+// Appends the tokens of operands with `*` and `/` between.
 #[cycle(value)]
 fn put_product(alloc: Global, out: &mut Vec<TokenKind>, product: &Product) -> Result<(), Memory>
     ensures { OnOk result (out.new.items ≡ out.old.items ++ spell (view_product product.now)) }
@@ -204,6 +218,7 @@ fn put_product(alloc: Global, out: &mut Vec<TokenKind>, product: &Product) -> Re
     put_factors(alloc, out, &product.rest)
 }
 
+// Appends the tokens of operands, each behind its `*` or `/`.
 #[cycle(value)]
 fn put_factors(
     alloc: Global,
@@ -218,6 +233,7 @@ fn put_factors(
     Ok(())
 }
 
+// Appends the tokens of an operand behind its `*` or `/`.
 #[cycle(value)]
 fn put_multiplied(
     alloc: Global,
@@ -230,6 +246,7 @@ fn put_multiplied(
     put_operand(alloc, out, &multiplied.operand)
 }
 
+// Appends the tokens of an operand.
 #[cycle(value)]
 fn put_operand(
     alloc: Global,
@@ -265,6 +282,7 @@ fn put_operand(
     }
 }
 
+// Appends the tokens of `%wav`, with the option `samplesize` if it has one.
 fn put_wav(alloc: Global, out: &mut Vec<TokenKind>, size: Option<i64>) -> Result<(), Memory>
     ensures { OnOk result (out.new.items ≡ out.old.items ++ wav_tokens size) }
 {
@@ -283,6 +301,7 @@ fn put_wav(alloc: Global, out: &mut Vec<TokenKind>, size: Option<i64>) -> Result
     }
 }
 
+// Appends the tokens of values in parentheses.
 #[cycle(value)]
 fn put_tuple(alloc: Global, out: &mut Vec<TokenKind>, parts: &[Full]) -> Result<(), Memory>
     ensures { OnOk result (out.new.items ≡ out.old.items
@@ -293,6 +312,7 @@ fn put_tuple(alloc: Global, out: &mut Vec<TokenKind>, parts: &[Full]) -> Result<
     put(out, TokenKind::Symbol(Symbol::CloseRound))
 }
 
+// Appends the tokens of values in square brackets.
 #[cycle(value)]
 fn put_list(alloc: Global, out: &mut Vec<TokenKind>, parts: &[Full]) -> Result<(), Memory>
     ensures { OnOk result (out.new.items ≡ out.old.items
@@ -303,7 +323,7 @@ fn put_list(alloc: Global, out: &mut Vec<TokenKind>, parts: &[Full]) -> Result<(
     put(out, TokenKind::Symbol(Symbol::CloseSquare))
 }
 
-// Values with commas between.
+// Appends the tokens of values with commas between.
 #[cycle(value)]
 fn put_fulls(alloc: Global, out: &mut Vec<TokenKind>, parts: &[Full]) -> Result<(), Memory>
     ensures { OnOk result (out.new.items ≡ out.old.items ++ between_commas (map view_full parts.now)) }
@@ -321,7 +341,7 @@ fn put_fulls(alloc: Global, out: &mut Vec<TokenKind>, parts: &[Full]) -> Result<
     }
 }
 
-// Arguments with commas between.
+// Appends the tokens of arguments with commas between.
 #[cycle(value)]
 fn put_args(alloc: Global, out: &mut Vec<TokenKind>, args: &[Arg]) -> Result<(), Memory>
     ensures { OnOk result (out.new.items ≡ out.old.items ++ between_commas (map view_arg args.now)) }
@@ -339,6 +359,7 @@ fn put_args(alloc: Global, out: &mut Vec<TokenKind>, args: &[Arg]) -> Result<(),
     }
 }
 
+// Appends the tokens of an argument, with its label if it has one.
 #[cycle(value)]
 fn put_arg(alloc: Global, out: &mut Vec<TokenKind>, arg: &Arg) -> Result<(), Memory>
     ensures { OnOk result (out.new.items ≡ out.old.items ++ spell (view_arg arg.now)) }
@@ -347,6 +368,7 @@ fn put_arg(alloc: Global, out: &mut Vec<TokenKind>, arg: &Arg) -> Result<(), Mem
     put_full(alloc, out, &arg.value)
 }
 
+// Appends the tokens of an argument's label, if it has one.
 fn put_label(alloc: Global, out: &mut Vec<TokenKind>, name: &Option<Text>) -> Result<(), Memory>
     ensures { OnOk result (out.new.items ≡ out.old.items ++ label name.now) }
 {

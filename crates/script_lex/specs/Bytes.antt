@@ -6,7 +6,7 @@ use Rattle.std.specs.Char.{is_ascii_digit, is_ascii_alphabetic}
 abbrev pub is_letter : ℕ → Bool
 is_letter b = is_ascii_alphabetic b || (b == 95)
 
--- and a digit too
+-- a letter, `_` or a digit
 abbrev pub is_word : ℕ → Bool
 is_word b = is_letter b || is_ascii_digit b
 
@@ -30,10 +30,12 @@ is_escapable b = (b == 34) || ((b == 39) || (b == 92))
 abbrev pub is_inner : ℕ → Bool
 is_inner b = (nat_le 32 b && nat_le b 126) || nat_le 128 b
 
+-- a part of a name begins at the front: a letter or `_`
 abbrev pub starts_part : List ℕ → Bool
 starts_part [] = false
 starts_part (b ∷ bs) = is_letter b
 
+-- a digit stands at the front
 abbrev pub starts_digit : List ℕ → Bool
 starts_digit [] = false
 starts_digit (b ∷ bs) = is_ascii_digit b

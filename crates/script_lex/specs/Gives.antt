@@ -10,8 +10,8 @@ use Rattle.script_lex.specs.declared.token.LexFault.TheVariants as faults
 use Rattle.script_lex.specs.declared.refusal.Refusal.{Refusal}
 use Rattle.script_lex.specs.declared.refusal.Refusal.TheVariants as refusals
 
--- want of memory is free; a number is too large exactly where its shape passes a bound; another fault is the one of
--- reading
+-- a refusal is right for what is read, whose first byte has `left` bytes from it on: want of memory always, a number
+-- too large exactly where its shape passes a bound, and another fault where it is the one of reading
 abbrev pub Refuses : Read → ℕ → Refusal → Type 0
 Refuses read left refusals.Memory = Unit {0}
 Refuses (Ok found) left (refusals.NumberTooLarge n) = (is_within found.0 ≡ false) × (n ≡ left)
@@ -21,6 +21,7 @@ Refuses (Err fault) left (refusals.BadByte n) = fault ≡ Bad n
 Refuses (Err fault) left (refusals.UnclosedString n) = fault ≡ OpenText n
 Refuses (Err fault) left (refusals.NumberTooLarge n) = ⊥
 
+-- a result is right for what is read: a token that the shape means, with the bytes behind it, or a right refusal
 abbrev pub Gives : {X : Type 0} → (X → TokenKind) → (X → List ℕ) → Read → ℕ → Result X Refusal → Type 0
 Gives kind after (Ok found) left (Ok x) = (is_within found.0 ≡ true) × Means found.0 (kind x) × (after x ≡ found.1)
 Gives kind after (Err fault) left (Ok x) = ⊥
@@ -33,24 +34,24 @@ left_of (refusals.BadByte n) = n
 left_of (refusals.UnclosedString n) = n
 left_of (refusals.NumberTooLarge n) = n
 
--- a fact of the fault, which want of memory is not
+-- P holds for the fault that a refusal is; want of memory is none
 abbrev pub IfFault : Refusal → (LexStop → Type 0) → Type 0
 IfFault refusals.Memory P = Unit {0}
 IfFault (refusals.BadByte n) P = P (Bad n)
 IfFault (refusals.UnclosedString n) P = P (OpenText n)
 IfFault (refusals.NumberTooLarge n) P = P (Large n)
 
--- what a refusal is placed_fault as
+-- the fault that a refusal is, with its place in a text of `total` bytes
 abbrev pub told_as : ℕ → Refusal → LexFault
 told_as total refusals.Memory = faults.Memory
 told_as total (refusals.BadByte n) = placed_fault total (Bad n)
 told_as total (refusals.UnclosedString n) = placed_fault total (OpenText n)
 told_as total (refusals.NumberTooLarge n) = placed_fault total (Large n)
 
--- the fault of a text, behind some tokens
+-- the fault stands in the text behind some tokens
 abbrev pub RunsInto : List ℕ → LexStop → Type 0
 RunsInto text fault = (ts : List Token) × Runs text ts (Some fault)
 
--- the fault of a text, behind these tokens
+-- the fault stands in the text behind these tokens
 abbrev pub RunsTo : List ℕ → List Token → LexStop → Type 0
 RunsTo text ts fault = Runs text ts (Some fault)

@@ -6,10 +6,11 @@ use Rattle.fixed_text.specs.declared.time_mark.TimeMark.{TimeMark}
 use Rattle.script_lex.specs.Spelling.{Shape, ATime, mark_of}
 use Rattle.script_lex.specs.declared.time.Parts.{Parts}
 
--- the bytes of a part
+-- the digits of a part of a time, if it is there
 abbrev pub digits_in : Option (Bor (List ℕ)) → Option (List ℕ)
 digits_in = option_map (λ digits. digits.now)
 
+-- a part of a time is digits, if it is there
 abbrev pub AreDigits : Option (List ℕ) → Type 0
 AreDigits None = Unit {0}
 AreDigits (Some digits) = AllDigits 10 digits
@@ -19,8 +20,10 @@ abbrev pub HasDigits : Parts → Type 0
 HasDigits parts = AreDigits (digits_in parts.day) × AreDigits (digits_in parts.hour)
     × AreDigits (digits_in parts.minute) × AreDigits (digits_in parts.second)
 
+-- the shape of a time of these parts
 abbrev pub time_of : Parts → Shape
 time_of parts = ATime (digits_in parts.day) (digits_in parts.hour) (digits_in parts.minute) (digits_in parts.second)
 
+-- the time that these parts mean
 abbrev pub mark_in : Parts → TimeMark
 mark_in parts = mark_of (digits_in parts.day) (digits_in parts.hour) (digits_in parts.minute) (digits_in parts.second)

@@ -16,55 +16,60 @@ use Rattle.script_lex.specs.declared.body.BodyEnd.TheVariants as ends
 abbrev pub Found : Type 0
 Found = Shape × List ℕ
 
--- that, or the fault
+-- a shape and the bytes behind it, or the fault
 abbrev pub Read : Type 0
 Read = Result Found LexStop
 
--- what stands before the rest
+-- the bytes before the rest, which is their end
 abbrev pub front : List ℕ → List ℕ → List ℕ
 front bytes rest = take (length bytes - length rest) bytes
 
+-- the bytes behind the first one
 abbrev pub tail : List ℕ → List ℕ
 tail [] = []
 tail (b ∷ bs) = bs
 
--- behind the digits
+-- the bytes behind the digits at the front
 abbrev pub after_digits : List ℕ → List ℕ
 after_digits [] = []
 after_digits (b ∷ bs) = if is_ascii_digit b then after_digits bs else b ∷ bs
 
--- behind the rest of a name
+-- the bytes behind the rest of a name
 abbrev pub after_name : List ℕ → List ℕ
 after_name [] = []
 after_name (b ∷ bs) = if is_word b || ((b == 46) && starts_part bs) then after_name bs else b ∷ bs
 
+-- a keyword or a name, and the bytes behind it; a name takes a `(` that stands directly behind it
 abbrev pub word_or_open : List ℕ → Option Keyword → List ℕ → Found
 word_or_open word (Some keyword) rest = (AWord word, rest)
 word_or_open word None [] = (AWord word, [])
 word_or_open word None (b ∷ bs) = if b == 40 then (AnOpen word, bs) else (AWord word, b ∷ bs)
 
+-- the word at the front, and the bytes behind it
 unfoldable pub word_at : List ℕ → Found
 word_at bytes =
     let rest = after_name bytes in
     let word = front bytes rest in
     word_or_open word (keyword_of word) rest
 
--- the part of a time with this unit, if it stands at the front
+-- the part of a time with this unit, if bytes begin with its digits and the unit is the first byte behind them
 abbrev pub part_before : ℕ → List ℕ → List ℕ → Option (List ℕ) × List ℕ
 part_before unit bytes [] = (None, bytes)
 part_before unit bytes (b ∷ bs) = if starts_digit bytes && (b == unit) then (Some (front bytes (b ∷ bs)), bs)
     else (None, bytes)
 
+-- the part of a time with this unit, if it stands at the front, and the bytes behind it
 unfoldable pub part_at : ℕ → List ℕ → Option (List ℕ) × List ℕ
 part_at unit bytes = part_before unit bytes (after_digits bytes)
 
--- the minutes without a unit behind an hour
+-- a time of these parts; where the hour is its last one, digits behind it are the minutes
 abbrev pub minutes_after : (day hour minute second : Option (List ℕ)) → List ℕ → Found
 minutes_after day (Some hour) None None bytes = if starts_digit bytes
     then (ATime day (Some hour) (Some (front bytes (after_digits bytes))) None, after_digits bytes)
     else (ATime day (Some hour) None None, bytes)
 minutes_after day hour minute second bytes = (ATime day hour minute second, bytes)
 
+-- the time at the front, and the bytes behind it
 unfoldable pub time_at : List ℕ → Found
 time_at bytes =
     let day = part_at 119 bytes in
@@ -73,12 +78,14 @@ time_at bytes =
     let second = part_at 115 minute.1 in
     minutes_after day.0 hour.0 minute.0 second.0 second.1
 
+-- the number or time that begins with these digits, by the bytes behind them
 abbrev pub number_from : List ℕ → List ℕ → List ℕ → Found
 number_from bytes digits [] = (AnInt digits, [])
 number_from bytes digits (b ∷ bs) =
     if b == 46 then (ANumber digits (front bs (after_digits bs)), after_digits bs)
     else (if is_unit b then time_at bytes else (AnInt digits, b ∷ bs))
 
+-- the number or time at the front, and the bytes behind it
 unfoldable pub number_at : List ℕ → Found
 number_at bytes = number_from bytes (front bytes (after_digits bytes)) (after_digits bytes)
 
@@ -105,6 +112,7 @@ abbrev mutual
   after_backslash [] = []
   after_backslash (c ∷ bs) = c ∷ unescaped bs
 
+-- the text with this body, by the reason for which it stops at the rest; `left` counts the bytes from its quote on
 abbrev pub text_from : List ℕ → List ℕ → BodyEnd → ℕ → Read
 text_from body rest ends.Closed left = Ok (AText (unescaped body), tail rest)
 text_from body rest ends.Broken left = Err (Bad (length rest))
@@ -118,10 +126,12 @@ text_at quote bytes =
     if is_utf8 body then text_from body stop.1 stop.0 (length bytes + 1)
     else Err (Bad (length bytes - utf8_valid_len body))
 
+-- a symbol, if there is one, with the bytes behind it
 abbrev pub symbol_before : Option Symbol → List ℕ → Option Found
 symbol_before None rest = None
 symbol_before (Some symbol) rest = Some (ASymbol symbol, rest)
 
+-- the first of two, or the second where the first was not found
 abbrev pub first_of_two : Option Found → Option Found → Option Found
 first_of_two None second = second
 first_of_two (Some found) second = Some found
@@ -138,10 +148,12 @@ unfoldable pub wav_at : List ℕ → Option Found
 wav_at (a ∷ b ∷ c ∷ d ∷ bs) = if (a == 37) && ((b == 119) && ((c == 97) && (d == 118))) then Some (AWav, bs) else None
 wav_at bs = None
 
+-- what was found, or that the first of the `left` bytes begins no token
 abbrev pub sign_or_bad : Option Found → ℕ → Read
 sign_or_bad (Some found) left = Ok found
 sign_or_bad None left = Err (Bad left)
 
+-- the shape at the front, and the bytes behind it, or the fault
 unfoldable pub shape_at : List ℕ → Read
 shape_at [] = Err (Bad 0)
 shape_at (b ∷ bs) =

@@ -34,17 +34,17 @@ abbrev pub IsPart : List ℕ → Type 0
 IsPart [] = ⊥
 IsPart (b ∷ bs) = (is_letter b ≡ true) × AllWord bs
 
--- each of them
+-- each of these is a part of a name
 abbrev pub AreParts : List (List ℕ) → Type 0
 AreParts [] = Unit {0}
 AreParts (p ∷ ps) = IsPart p × AreParts ps
 
--- each behind a point
+-- the parts of a name, each behind a point
 abbrev pub behind_points : List (List ℕ) → List ℕ
 behind_points [] = []
 behind_points (p ∷ ps) = 46 ∷ p ++ behind_points ps
 
--- parts joined by points
+-- a name, or a keyword: parts joined by points
 abbrev pub IsDotted : List ℕ → Type 0
 IsDotted text = (part : List ℕ) × (parts : List (List ℕ)) × IsPart part × AreParts parts
     × (text ≡ part ++ behind_points parts)
@@ -54,12 +54,12 @@ abbrev pub part_text : Option (List ℕ) → ℕ → List ℕ
 part_text None unit = []
 part_text (Some digits) unit = digits ++ unit ∷ []
 
--- where there are digits, they are decimal ones
+-- a part of a time has digits, if it is there
 abbrev pub IsDigits : Option (List ℕ) → Type 0
 IsDigits None = Unit {0}
 IsDigits (Some digits) = IsNumeral 10 digits
 
--- the parts in the order w, h, m, s
+-- the parts of a time, in the order w, h, m, s
 abbrev pub time_text : (day hour minute second : Option (List ℕ)) → List ℕ
 time_text day hour minute second = part_text day 119
     ++ (part_text hour 104 ++ (part_text minute 109 ++ part_text second 115))
@@ -69,7 +69,7 @@ abbrev pub IsShortTime : (day hour minute second : Option (List ℕ)) → List �
 IsShortTime day (Some hour) (Some minute) None text = text ≡ part_text day 119 ++ (part_text (Some hour) 104 ++ minute)
 IsShortTime day hour minute second text = ⊥
 
--- the text is a time of these parts, some part is there, or it is a short form of one
+-- the text writes a time of these parts, at least one of them: each part with its unit, or in the short form
 pub record IsTimeText (day hour minute second : Option (List ℕ)) (text : List ℕ) : Type 0 where
   pub day_digits : IsDigits day
   pub hour_digits : IsDigits hour
@@ -93,8 +93,8 @@ abbrev pub meant_bytes : TextPiece → List ℕ
 meant_bytes (PlainPiece c) = encode_utf8 c
 meant_bytes (Escaped c) = c ∷ []
 
--- U+0020 to U+007E other than the backslash and the quote, or a character from U+0080 on; or one of the three behind a
--- backslash
+-- a character that may stand in a text with this quote: U+0020 to U+007E other than the backslash and the quote, or one
+-- from U+0080 on; or a quote or a backslash behind a backslash
 abbrev pub IsPiece : ℕ → TextPiece → Type 0
 IsPiece quote (PlainPiece c) = IsScalar c × (32 ≤ c) × (c ≢ 127) × (c ≢ 92) × (c ≢ quote)
 IsPiece quote (Escaped c) = is_escapable c ≡ true
@@ -117,7 +117,7 @@ pub record IsQuotedText (value text : List ℕ) : Type 0 where
   pub spelled : text ≡ quote ∷ flat_map written pieces ++ quote ∷ []
   pub means : value ≡ flat_map meant_bytes pieces
 
--- The spellings of each shape.
+-- the text is a spelling of the shape
 abbrev pub SpellsShape : Shape → List ℕ → Type 0
 SpellsShape (AWord word) text = IsDotted text × (word ≡ text)
 SpellsShape (AnOpen name) text = IsDotted name × (keyword_of name ≡ None) × (text ≡ name ++ 40 ∷ [])
@@ -128,12 +128,12 @@ SpellsShape (AText value) text = IsQuotedText value text
 SpellsShape AWav text = text ≡ codes "%wav"
 SpellsShape (ASymbol symbol) text = text ≡ symbol_text symbol
 
--- a part of a time passes no more than this
+-- a part of a time is at most so much, if it is there
 abbrev pub is_up_to : ℕ → Option (List ℕ) → Bool
 is_up_to most None = true
 is_up_to most (Some digits) = nat_le (digits_value 10 digits) most
 
--- within the bounds of numbers and times
+-- a shape is within the bounds of numbers and times
 abbrev pub is_within : Shape → Bool
 is_within (AnInt digits) = nat_le (digits_value 10 digits) 9223372036854775807
 is_within (ANumber whole fraction) = nat_le (length fraction) 6 && nat_le (millionths whole fraction) 1000000000000000
@@ -159,7 +159,7 @@ mark_of day hour minute second = record {
   second = values second;
 }
 
--- what a shape stands for
+-- a shape stands for a token of this kind
 abbrev pub Means : Shape → TokenKind → Type 0
 Means (AWord word) kind = kind ≡ kind_of_word word (keyword_of word)
 Means (AnOpen name) kind = kind ≡ kinds.NameOpen name

@@ -7,13 +7,14 @@ use Rattle.script_lex.specs.declared.token.Token.{Token}
 use Rattle.script_lex.specs.declared.token.LexFault.{LexFault}
 use Rattle.script_lex.specs.declared.token.LexFault.TheVariants as faults
 
--- behind the blanks and comments, within a comment or not; a comment ends before the next LF
+-- the bytes behind blanks and comments, from inside of a comment on or not; a comment ends before the next LF
 abbrev pub between : Bool → List ℕ → List ℕ
 between inside [] = []
 between true (b ∷ bs) = if b == 10 then between false bs else between true bs
 between false (b ∷ bs) = if is_blank b then between false bs else (if b == 35 then between true bs else b ∷ bs)
 
--- From a place on, behind blanks and comments, these tokens stand one after another; then the rest is left.
+-- the bytes are these tokens one after another, behind blanks and comments, and then the rest; `total` counts the bytes
+-- of the whole text, in which the tokens have their places
 abbrev pub Leads : ℕ → List ℕ → List Token → List ℕ → Type 0
 Leads total bytes [] rest = bytes ≡ rest
 Leads total bytes (t ∷ ts) rest =
@@ -29,13 +30,13 @@ EndsBy (Some fault) bytes = FaultAt fault bytes
 abbrev pub Runs : List ℕ → List Token → Option LexStop → Type 0
 Runs text ts end = (rest : List ℕ) × Leads (length text) text ts rest × EndsBy end (between false rest)
 
--- the fault, with its place from the text's start
+-- the fault, with its place in a text of `total` bytes
 abbrev pub placed_fault : ℕ → LexStop → LexFault
 placed_fault total (Bad left) = faults.BadByte (total - left)
 placed_fault total (OpenText left) = faults.UnclosedString (total - left)
 placed_fault total (Large left) = faults.NumberTooLarge (total - left)
 
--- a fault stands behind some tokens, at its place
+-- a fault stands in a text behind some tokens, at its place
 abbrev pub StandsIn : List ℕ → LexFault → Type 0
 StandsIn text fault = (length text ≤ MAX_SCRIPT_BYTES)
     × ((ts : List Token) × (stop : LexStop) × Runs text ts (Some stop) × (fault ≡ placed_fault (length text) stop))
@@ -59,6 +60,7 @@ pub record StopsAt (text : List ℕ) (tokens : List Token) (fault : LexFault) : 
   pub runs : Runs text tokens (Some stop)
   pub placed : fault ≡ placed_fault (length text) stop
 
+-- these are the tokens of a text as far as they go, and this is the fault behind them, if it has one
 abbrev pub IsFront : (text : List ℕ) → List Token → Option LexFault → Type 0
 IsFront text tokens None = AreTokens text tokens
 IsFront text tokens (Some faults.TextTooLong) = (MAX_SCRIPT_BYTES < length text) × (tokens ≡ [])

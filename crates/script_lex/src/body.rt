@@ -9,15 +9,15 @@ use std::alloc::Global;
 /// Why the bytes of a text stop.
 #[derive(Clone, Copy)]
 pub enum BodyEnd {
-    /// The quote stands there.
+    /// At the closing quote.
     Closed,
-    /// A byte that may not stand in a text.
+    /// At a byte that may not stand in a text.
     Broken,
-    /// The end of the script.
+    /// At the end of the script.
     Cut,
 }
 
-/// Where the bytes of a text stop, and why.
+/// Why the bytes of a text with this quote stop, and the bytes from there on. `bytes` begins behind the opening quote.
 pub fn body_end(quote: u8, bytes: &[u8]) -> (BodyEnd, &[u8])
     ensures stop { (result.0, result.1.now) ≡ body_end quote bytes.now }
     ensures shorter { length result.1.now ≤ length bytes.now }
@@ -46,7 +46,7 @@ pub fn body_end(quote: u8, bytes: &[u8]) -> (BodyEnd, &[u8])
     (BodyEnd::Cut, rest)
 }
 
-/// The characters that the bytes of a text stand for.
+/// The characters that the bytes of a text stand for: each escape is the character behind its backslash.
 pub fn unescaped(alloc: Global, body: &[u8]) -> Result<Vec<u8>, Memory>
     ensures { IfOk result (λ v. v.items ≡ unescaped body.now) }
 {

@@ -54,7 +54,8 @@ pub fn lex_front(alloc: Global, text: &[u8]) -> Result<(Vec<Token>, Option<LexFa
     }
 }
 
-// Tokens behind which a text of so many bytes is refused.
+// The tokens of a text of `total` bytes, with the fault behind them that this refusal is. Want of memory is no fault of
+// the text.
 fn front_of(
     total: usize,
     made: Vec<Token>,
@@ -73,7 +74,7 @@ fn front_of(
     }
 }
 
-// Where the rest of a text begins.
+// The byte of a text at which its rest begins, from 0.
 fn place(text: &[u8], rest: &[u8]) -> u32
     requires within { length rest.now ≤ length text.now }
     requires small { length text.now ≤ MAX_SCRIPT_BYTES }
@@ -82,7 +83,7 @@ fn place(text: &[u8], rest: &[u8]) -> u32
     (text.len() - rest.len()) as u32
 }
 
-// The fault, with its place from the text's start.
+// The fault that a refusal is in a text of `total` bytes, with its place from the text's start.
 fn told_as(total: usize, refusal: Refusal) -> LexFault
     requires within { left_of refusal ≤ total }
     requires small { total ≤ MAX_SCRIPT_BYTES }
@@ -108,7 +109,7 @@ fn tokens(alloc: Global, text: &[u8]) -> Result<Vec<Token>, Refusal>
     Ok(made)
 }
 
-// Adds the tokens of a text that is not too long, as far as they go.
+// Adds the tokens of a text that is not too long, as far as they go, to an empty list.
 fn read_tokens(alloc: Global, text: &[u8], made: &mut Vec<Token>) -> Result<(), Refusal>
     requires small { length text.now ≤ MAX_SCRIPT_BYTES }
     requires empty { made.old.items ≡ [] }

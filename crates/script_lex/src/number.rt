@@ -11,7 +11,7 @@ use crate::time::time_at;
 use crate::token::TokenKind;
 use fixed_text::{Decimal, value_up_to};
 
-/// The number or time at the front, whose first digit was seen.
+/// The number or time at the front, whose first digit was seen, and the bytes behind it.
 #[tactic(auto, unfolding(crate::specs::Reading::number_at), using(crate::proofs::Fronts::digits_front))]
 pub fn number_at(bytes: &[u8]) -> Result<(TokenKind, &[u8]), Refusal>
     ensures within { IfErr result (λ e. left_of e ≤ length bytes.now) }
@@ -29,6 +29,7 @@ pub fn number_at(bytes: &[u8]) -> Result<(TokenKind, &[u8]), Refusal>
     }
 }
 
+// The whole number of these digits, with `rest` behind it. `left` counts the bytes from its first digit on.
 fn whole<'a>(digits: &[u8], rest: &'a [u8], left: usize) -> Result<(TokenKind, &'a [u8]), Refusal>
     requires { AllDigits 10 digits.now }
     ensures within { IfErr result (λ e. left_of e ≤ left) }
@@ -40,6 +41,8 @@ fn whole<'a>(digits: &[u8], rest: &'a [u8], left: usize) -> Result<(TokenKind, &
     }
 }
 
+// The number of these digits before and behind a point, with `rest` behind it. `left` counts the bytes from its first
+// digit on.
 fn pointed<'a>(
     digits: &[u8],
     fraction: &[u8],

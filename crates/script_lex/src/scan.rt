@@ -16,7 +16,7 @@ use liq_base::limits::MAX_SCRIPT_BYTES;
 use liq_base::{Memory, Text};
 use std::alloc::Global;
 
-/// The token at the front.
+/// The token at the front of `bytes`, and the bytes behind it.
 #[tactic(auto, unfolding(crate::specs::Reading::shape_at))]
 pub fn token_at(alloc: Global, bytes: &[u8]) -> Result<(TokenKind, &[u8]), Refusal>
     requires { length bytes.now ≤ MAX_SCRIPT_BYTES }
@@ -39,7 +39,7 @@ pub fn token_at(alloc: Global, bytes: &[u8]) -> Result<(TokenKind, &[u8]), Refus
     }
 }
 
-// The text that bytes are.
+// The text of these bytes.
 fn held(bytes: Vec<u8>) -> Text
     requires { IsUtf8 bytes.items }
     ensures { result ≡ bytes.items }
@@ -50,6 +50,8 @@ fn held(bytes: Vec<u8>) -> Text
     }
 }
 
+// The token of a text with the bytes `body` between its quotes, which stop at `rest` for the reason `end`; or why there
+// is none. `left` counts the bytes from its opening quote on.
 fn text_from<'a>(
     alloc: Global,
     body: &[u8],
@@ -72,7 +74,7 @@ fn text_from<'a>(
     }
 }
 
-// The text whose opening quote stands before these bytes.
+// The text whose opening quote stands before these bytes, and the bytes behind its closing quote.
 fn text_at(alloc: Global, quote: u8, bytes: &[u8]) -> Result<(TokenKind, &[u8]), Refusal>
     requires quote { is_quote quote ≡ true }
     requires small { length bytes.now < MAX_SCRIPT_BYTES }

@@ -8,7 +8,7 @@ ghost use Rattle.script_lex.specs.Gives.{Gives, left_of};
 use crate::refusal::Refusal;
 use crate::token::{Symbol, TokenKind};
 
-/// The symbol or `%wav` at the front, whose first byte is given too.
+/// The symbol or `%wav` at the front of `bytes`, which are `first` and then `after`; and what is behind it.
 pub fn sign_at<'a>(
     first: u8,
     after: &'a [u8],
@@ -28,6 +28,7 @@ pub fn sign_at<'a>(
     }
 }
 
+// The symbol of this byte alone, if there is one.
 #[tactic(auto, unfolding(crate::specs::Words::symbol_of))]
 fn symbol_of(b: u8) -> Option<Symbol>
     ensures { result ≡ symbol_of b }
@@ -53,6 +54,7 @@ fn symbol_of(b: u8) -> Option<Symbol>
     }
 }
 
+// The symbol of this byte and `=` behind it, if there is one.
 #[tactic(auto, unfolding(crate::specs::Words::symbol_with_equals))]
 fn symbol_with_equals(b: u8) -> Option<Symbol>
     ensures { result ≡ symbol_with_equals b }
@@ -66,7 +68,7 @@ fn symbol_with_equals(b: u8) -> Option<Symbol>
     }
 }
 
-// The symbol that begins with a byte: of two bytes, or else of one.
+// The symbol that begins with `first`, of two bytes or else of one, and the bytes behind it.
 #[tactic(auto, unfolding(crate::specs::Reading::symbol_at))]
 fn symbol_at(first: u8, after: &[u8]) -> Option<(Symbol, &[u8])>
     ensures symbol { option_map (λ x. (ASymbol x.0, x.1.now)) result ≡ symbol_at first after.now }
@@ -80,7 +82,7 @@ fn symbol_at(first: u8, after: &[u8]) -> Option<(Symbol, &[u8])>
     Some((symbol, after))
 }
 
-// What stands behind `%wav`.
+// The bytes behind `%wav`, if it stands at the front.
 #[tactic(auto, unfolding(crate::specs::Reading::wav_at))]
 fn after_wav(bytes: &[u8]) -> Option<&[u8]>
     ensures wav { option_map (λ rest. (AWav, rest.now)) result ≡ wav_at bytes.now }

@@ -11,6 +11,7 @@ pub fn is_letter(b: u8) -> bool
     b.is_ascii_alphabetic() || b == b'_'
 }
 
+/// A byte of a part of a name: a letter, `_` or a digit.
 pub fn is_word(b: u8) -> bool
     ensures { result ≡ is_word b }
 {
@@ -30,6 +31,7 @@ pub fn is_unit(b: u8) -> bool
     b == b'w' || b == b'h' || b == b'm' || b == b's'
 }
 
+/// A byte that may stand behind a backslash in a text.
 pub fn is_escapable(b: u8) -> bool
     ensures { result ≡ is_escapable b }
 {
@@ -52,7 +54,7 @@ pub fn starts_digit(bytes: &[u8]) -> bool
     }
 }
 
-/// What stands behind blanks and comments.
+/// The bytes behind the blanks and comments at the front.
 pub fn after_blanks(bytes: &[u8]) -> &[u8]
     ensures rest { result.now ≡ between false bytes.now }
     ensures shorter { length result.now ≤ length bytes.now }
@@ -72,7 +74,7 @@ pub fn after_blanks(bytes: &[u8]) -> &[u8]
     rest
 }
 
-/// What stands behind the digits at the front.
+/// The bytes behind the digits at the front.
 pub fn after_digits(bytes: &[u8]) -> &[u8]
     ensures rest { result.now ≡ after_digits bytes.now }
     ensures shorter { length result.now ≤ length bytes.now }
@@ -87,7 +89,7 @@ pub fn after_digits(bytes: &[u8]) -> &[u8]
     rest
 }
 
-/// What stands behind the name at the front, whose first letter was seen.
+/// The bytes behind the name at the front, whose first letter was seen.
 pub fn after_name(bytes: &[u8]) -> &[u8]
     ensures rest { result.now ≡ after_name bytes.now }
     ensures shorter { length result.now ≤ length bytes.now }
@@ -103,7 +105,7 @@ pub fn after_name(bytes: &[u8]) -> &[u8]
     rest
 }
 
-/// What stands before the rest.
+/// The bytes before `rest`, which is the end of `bytes`.
 pub fn front<'a>(bytes: &'a [u8], rest: &[u8]) -> &'a [u8]
     requires { length rest.now ≤ length bytes.now }
     ensures { result.now ≡ front bytes.now rest.now }
@@ -111,7 +113,7 @@ pub fn front<'a>(bytes: &'a [u8], rest: &[u8]) -> &'a [u8]
     &bytes[..bytes.len() - rest.len()]
 }
 
-/// What stands behind the first byte.
+/// The bytes behind the first one.
 pub fn tail(bytes: &[u8]) -> &[u8]
     ensures tail { result.now ≡ tail bytes.now }
     ensures shorter { length result.now ≤ length bytes.now }
@@ -128,6 +130,7 @@ fn is_blank(b: u8) -> bool
     b == b' ' || b == b'\t' || b == b'\r' || b == b'\n'
 }
 
+// Whether a part of a name begins at the front.
 fn starts_part(bytes: &[u8]) -> bool
     ensures { result ≡ starts_part bytes.now }
 {

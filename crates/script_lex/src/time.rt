@@ -19,7 +19,7 @@ struct Parts<'a> {
     second: Option<&'a [u8]>,
 }
 
-/// The time at the front.
+/// The time at the front, and the bytes behind it.
 #[tactic(auto, unfolding(crate::specs::Reading::time_at), using(crate::proofs::Fronts::digits_front))]
 pub fn time_at(bytes: &[u8]) -> Result<(TokenKind, &[u8]), Refusal>
     ensures within { IfErr result (λ e. left_of e ≤ length bytes.now) }
@@ -45,7 +45,7 @@ pub fn time_at(bytes: &[u8]) -> Result<(TokenKind, &[u8]), Refusal>
     }
 }
 
-// The part of a time with this unit, if it stands at the front.
+// The digits of the part of a time with this unit, if it stands at the front, and the bytes behind it.
 #[tactic(auto, unfolding(crate::specs::Reading::part_at), using(crate::proofs::Fronts::digits_front))]
 fn part_at(unit: u8, bytes: &[u8]) -> (Option<&[u8]>, &[u8])
     ensures part { (digits_in result.0, result.1.now) ≡ part_at unit bytes.now }
@@ -61,7 +61,7 @@ fn part_at(unit: u8, bytes: &[u8]) -> (Option<&[u8]>, &[u8])
     }
 }
 
-// A part of a time, if it passes no more than the bound.
+// The value of a part of a time, which may be missing. The outer `None` says that it passes `most`.
 fn within(digits: Option<&[u8]>, most: u8) -> Option<Option<u8>>
     requires { AreDigits (digits_in digits) }
     ensures { result ≡ (if is_up_to most (digits_in digits.entry) then Some (values (digits_in digits.entry))
@@ -76,7 +76,7 @@ fn within(digits: Option<&[u8]>, most: u8) -> Option<Option<u8>>
     }
 }
 
-// The mark, if each part is within its bound.
+// The mark of these parts; `None` where one passes its bound.
 fn mark_in(parts: Parts<'_>) -> Option<TimeMark>
     requires { HasDigits parts }
     ensures { result ≡ (if is_within (time_of parts.entry) then Some (mark_in parts.entry) else None) }
@@ -89,6 +89,7 @@ fn mark_in(parts: Parts<'_>) -> Option<TimeMark>
     })
 }
 
+// The time of these parts, with `rest` behind it. `left` counts the bytes from its first digit on.
 fn timed<'a>(
     parts: Parts<'_>,
     rest: &'a [u8],

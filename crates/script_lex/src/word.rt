@@ -18,7 +18,7 @@ pub fn copied(alloc: Global, bytes: &[u8]) -> Result<Text, Memory>
     Text::from_str(alloc, unsafe { str::from_utf8_unchecked(bytes) })
 }
 
-/// The word at the front, whose first letter was seen.
+/// The word at the front, whose first letter was seen, and the bytes behind it.
 #[tactic(auto, unfolding(crate::specs::Reading::word_at), using(crate::proofs::Ascii::name_utf8))]
 pub fn word_at(alloc: Global, bytes: &[u8]) -> Result<(TokenKind, &[u8]), Refusal>
     ensures within { IfErr result (λ e. left_of e ≤ length bytes.now) }
@@ -32,6 +32,7 @@ pub fn word_at(alloc: Global, bytes: &[u8]) -> Result<(TokenKind, &[u8]), Refusa
     }
 }
 
+// The keyword that a word is, if it is one.
 #[tactic(auto, unfolding(crate::specs::Words::keyword_of))]
 fn keyword_of(word: &[u8]) -> Option<Keyword>
     ensures { result ≡ keyword_of word.now }
@@ -51,6 +52,8 @@ fn keyword_of(word: &[u8]) -> Option<Keyword>
     }
 }
 
+// The name `word`, with the `(` directly behind it if there is one, and the bytes behind. `left` counts the bytes from
+// the name on.
 fn name_or_open<'a>(
     alloc: Global,
     word: &[u8],

@@ -12,7 +12,8 @@ use Rattle.script_parse.specs.declared.fault.Refusal.{Refusal}
 use Rattle.script_parse.specs.declared.fault.Refusal.TheVariants as refusals
 use Rattle.script_parse.specs.Places.{IsSyntaxPlace, IsDeepAt, IsDepthPlace}
 
--- this script is spelled so, each field at is the index of its token, and its lists are as long as the grammar wants
+-- these tokens spell this script, each of its fields at is the index of its token, and its lists are as long as the
+-- grammar wants
 pub record IsParsed (tokens : List TokenKind) (script : program.Script) : Type 0 where
   pub spelled : spelling (view_script script) ≡ tokens
   pub placed : IsPlaced 0 (view_script script)
@@ -22,13 +23,13 @@ pub record IsParsed (tokens : List TokenKind) (script : program.Script) : Type 0
 abbrev pub IsShallow : List TokenKind → Type 0
 IsShallow tokens = (k : ℕ) → k < length tokens → IsDeepAt tokens k → ⊥
 
--- what is answered with no bound on the nesting
+-- an answer is right with no bound on the nesting: the script, want of memory, or the place where syntax ends
 abbrev pub Whole : List TokenKind → Result program.Script Refusal → Type 0
 Whole tokens (Ok s) = IsParsed tokens s
 Whole tokens (Err refusals.Memory) = Unit {0}
 Whole tokens (Err (refusals.At k)) = IsSyntaxPlace tokens k
 
--- why there is no script: the lesser place decides, and at equal places it is that of syntax
+-- why these tokens are no script: the lesser place decides, and at equal places it is that of syntax
 abbrev pub IsFault : List TokenKind → ParseFault → Type 0
 IsFault tokens answers.Memory = ⊥
 IsFault tokens (answers.Syntax k) = IsSyntaxPlace tokens k × ((d : ℕ) → d < k → IsDeepAt tokens d → ⊥)

@@ -42,7 +42,7 @@ closes k = false
 abbrev pub IsDeepAt : List TokenKind → ℕ → Type 0
 IsDeepAt tokens k = count_by closes (take (k + 1) tokens) + MAX_NESTING < count_by opens (take (k + 1) tokens)
 
--- and at no token before
+-- the nesting at token k is more than may be, and at no token before
 pub record IsDepthPlace (tokens : List TokenKind) (k : ℕ) : Type 0 where
   pub within : k < length tokens
   pub here : IsDeepAt tokens k

@@ -45,6 +45,7 @@ pub fn parse(alloc: Global, _text: &[u8], tokens: &[Token]) -> Result<Script, Pa
     answer(alloc, tokens)
 }
 
+// Whether a token goes one level deeper: a bracket, `if` or `def`.
 fn opens(kind: &TokenKind) -> bool
     ensures { result ≡ opens kind.now }
 {
@@ -56,6 +57,7 @@ fn opens(kind: &TokenKind) -> bool
     )
 }
 
+// Whether a token comes back from one level: a bracket or `end`.
 fn closes(kind: &TokenKind) -> bool
     ensures { result ≡ closes kind.now }
 {
@@ -66,7 +68,7 @@ fn closes(kind: &TokenKind) -> bool
     )
 }
 
-// The first token at which brackets nest too deep.
+// The index of the first token at which brackets nest too deep; `None` where they do nowhere.
 fn depth_place(tokens: &[Token]) -> Option<usize>
     requires { length tokens.now < 2 ^ 32 }
     ensures found { IfSome result (λ d. IsDepthPlace (kinds tokens.now) d) }
@@ -99,7 +101,7 @@ fn whole(alloc: Global, tokens: &[Token]) -> Result<Script, Refusal>
     }
 }
 
-// Tokens that nest too deep at d: a fault of syntax up to there comes first.
+// The fault of tokens that nest too deep at token `d`: one of syntax up to there comes first.
 fn front(alloc: Global, tokens: &[Token], d: usize) -> ParseFault
     requires small { length tokens.now < 2 ^ 32 }
     requires deep { IsDepthPlace (kinds tokens.now) d }
@@ -118,7 +120,7 @@ fn front(alloc: Global, tokens: &[Token], d: usize) -> ParseFault
     }
 }
 
-// The script, or the fault.
+// The script that the tokens spell, or why they are none.
 fn answer(alloc: Global, tokens: &[Token]) -> Result<Script, ParseFault>
     ensures spelled { IfOk result (λ s. spelling (view_script s) ≡ kinds tokens.now) }
     ensures placed { IfOk result (λ s. IsPlaced 0 (view_script s)) }

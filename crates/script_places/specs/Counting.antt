@@ -3,13 +3,15 @@ use Rattle.std.specs.Prelude.{ℕ, zero, suc, ◌+◌, ◌-◌, Bool, not, ◌&&
 use Rattle.std.specs.List.{count_by, suffix_len}
 use Rattle.std.specs.Str.{is_utf8}
 
+-- the byte is an LF
 abbrev pub is_lf : ℕ → Bool
 is_lf b = b == 10
 
+-- the byte is no LF
 abbrev pub is_no_lf : ℕ → Bool
 is_no_lf b = not (is_lf b)
 
--- a line more for each LF before the place
+-- the line of a place, from 1: one more for each LF before it
 abbrev pub line : List ℕ → ℕ
 line before = count_by is_lf before + 1
 
@@ -28,14 +30,14 @@ begun inside [] = []
 begun zero (b ∷ bs) = b ∷ begun (width (b ∷ bs) - 1) bs
 begun (suc n) (b ∷ bs) = begun n bs
 
--- a byte for each character
+-- the first byte of each character
 abbrev pub characters : List ℕ → List ℕ
 characters bytes = begun 0 bytes
 
--- what stands behind the last LF
+-- the bytes behind the last LF
 abbrev pub in_line : List ℕ → List ℕ
 in_line before = drop (length before - suffix_len is_no_lf before) before
 
--- a column more for each character between the last LF and the place
+-- the column of a place, from 1: one more for each character between the last LF and the place
 abbrev pub column : List ℕ → ℕ
 column before = length (characters (in_line before)) + 1

@@ -6,22 +6,26 @@ use Rattle.script_places.specs.declared.forms.Form.TheVariants as form
 use Rattle.script_places.specs.declared.named.Named.{Named}
 use Rattle.script_places.specs.declared.named.Named.TheVariants.{Byte, Token, Statement, Source, Clash, Text, Fallible}
 
+-- the line begins with these words
 abbrev pub begins : (line words : List ℕ) → Bool
 begins line words = bytes_eq words (take (length words) line)
 
+-- the line begins like one that names a byte
 abbrev pub begins_byte : List ℕ → Bool
 begins_byte line = begins line (codes "E02 ") || begins line (codes "E03 ") || begins line (codes "E04 ")
 
+-- the line begins like one that names a token
 abbrev pub begins_token : List ℕ → Bool
 begins_token line =
     begins line (codes "E06 ") || begins line (codes "E07 ") || begins line (codes "E08 ") || begins line (codes "E09 ")
     || begins line (codes "E10 ") || begins line (codes "E11 ") || begins line (codes "E14 ")
 
+-- the line begins like one that names a statement
 abbrev pub begins_statement : List ℕ → Bool
 begins_statement line = begins line (codes "E13 statement ") || begins line (codes "E15 statement ")
 
--- how a line names a place, by the words that it begins with: of a number the words before it, of a text also what
--- stands behind it
+-- how a line names a text, by the words that it begins with: from which byte on the text stands, and how many bytes
+-- stand behind it
 abbrev pub text_form : List ℕ → Form
 text_form line =
     if begins line (codes "E18 two outputs ") then form.Text 16 0
@@ -32,6 +36,7 @@ text_form line =
     else if begins line (codes "E29 output too long ") then form.Text 20 0
     else form.Nothing
 
+-- how a line names a source or a text, by the words that it begins with
 abbrev pub source_form : List ℕ → Form
 source_form line =
     if begins line (codes "E26 source ") then form.Source
@@ -39,6 +44,7 @@ source_form line =
     else if begins line (codes "switch ") then form.Switch
     else text_form line
 
+-- how a line names a place, by the words that it begins with
 abbrev pub form_of : List ℕ → Form
 form_of line =
     if begins_byte line then form.Byte
@@ -47,6 +53,7 @@ form_of line =
     else if begins_statement line then form.Statement
     else source_form line
 
+-- the byte is no blank
 abbrev pub is_no_blank : ℕ → Bool
 is_no_blank b = not (b == 32)
 
@@ -60,7 +67,7 @@ pub record Leads (byte : ℕ) (text : List ℕ) (n : ℕ) : Type 0 where
   pub rest : List ℕ
   pub spelled : text ≡ decimal n ++ byte ∷ rest
 
--- the place of a number for which this holds
+-- the place that is named is that of a number for which this holds
 pub record IsNumbered (place : ℕ → Named) (Holds : ℕ → Type 0) (named : Named) : Type 0 where
   pub number : ℕ
   pub small : number < 2 ^ 64
@@ -80,5 +87,6 @@ IsNamedBy (form.Text start after) line named = named ≡ Text start (length line
 IsNamedBy form.Fallible line named = named ≡ Fallible 20 (length line)
 IsNamedBy form.Nothing line named = ⊥
 
+-- a line names this place
 abbrev pub IsNamed : List ℕ → Named → Type 0
 IsNamed line named = IsNamedBy (form_of line) line named

@@ -8,13 +8,13 @@ use Rattle.script_places.specs.Counting.{width}
 abbrev pub is_control : ℕ → Bool
 is_control b = (nat_lt b 32 && not (b == 9)) || (nat_le 127 b && nat_lt b 160)
 
--- whether the byte behind the first one is such
+-- whether the second byte is a control byte other than a TAB
 abbrev pub has_control_next : List ℕ → Bool
 has_control_next [] = false
 has_control_next (b ∷ []) = false
 has_control_next (b ∷ c ∷ bs) = is_control c
 
--- the byte order mark at the front
+-- a text begins with the byte order mark
 abbrev pub is_marked : List ℕ → Bool
 is_marked bytes = bytes_eq (take 3 bytes) (0xEF ∷ 0xBB ∷ 0xBF ∷ [])
 
@@ -24,7 +24,7 @@ unfoldable pub is_hidden : List ℕ → Bool
 is_hidden [] = false
 is_hidden (b ∷ bs) = is_control b || (b == 194 && has_control_next (b ∷ bs)) || is_marked (b ∷ bs)
 
--- a hexadecimal digit
+-- the hexadecimal digit of a number below 16
 abbrev pub digit : ℕ → ℕ
 digit n = if nat_lt n 10 then n + 48 else n + 87
 
@@ -32,16 +32,17 @@ digit n = if nat_lt n 10 then n + 48 else n + 87
 abbrev pub escape : ℕ → List ℕ
 escape b = 92 ∷ 120 ∷ digit (b / 16) ∷ digit (b % 16) ∷ []
 
+-- a byte of a character: by its number if the character is hidden
 abbrev pub byte_shown : Bool → ℕ → List ℕ
 byte_shown true b = escape b
 byte_shown false b = b ∷ []
 
--- each byte of a character
+-- the bytes of a character: by their numbers if it is hidden
 abbrev pub character_shown : Bool → List ℕ → List ℕ
 character_shown hidden [] = []
 character_shown hidden (b ∷ bs) = byte_shown hidden b ++ character_shown hidden bs
 
--- where so many bytes at the front belong to a character that has begun, which is hidden or not
+-- bytes as they are shown, of which so many at the front belong to a character that has begun, which is hidden or not
 unfoldable pub shown_within : ℕ → Bool → List ℕ → List ℕ
 shown_within inside hidden [] = []
 shown_within zero hidden (b ∷ bs) = byte_shown (is_hidden (b ∷ bs)) b

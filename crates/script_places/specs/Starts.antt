@@ -16,12 +16,13 @@ before none k = None
 before (more s rest) zero = Some none
 before (more s rest) (suc k) = option_map (more s) (before rest k)
 
--- the first token of a statement, counted from 1: as many tokens stand before it as its forerunners are spelled by
+-- the index of the first token of a statement, counted from 1: as many tokens as spell the statements before it
 abbrev pub first_token : Script → ℕ → Option ℕ
 first_token script zero = None
 first_token script (suc k) = option_map (λ s. length (spelling s)) (before script k)
 
--- the first token of a statement whose fields at are right, by them: a def's is that of its name, behind `def`
+-- the index of the first token of a statement, by its fields at, which are right: a def's is that of its name, behind
+-- `def`
 abbrev pub first_at : Tree APart → ℕ
 first_at (BindPart (Bind at name value)) = at
 first_at (DefPart (Def at name params equals inner result)) = at - 1

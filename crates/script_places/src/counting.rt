@@ -5,7 +5,7 @@ ghost use Rattle.script_places.specs.Counting.{line, are_utf8, width, characters
 
 use std::str;
 
-/// Which line a place lies in, from 1.
+/// Which line a place lies in, from 1, by the bytes before it.
 pub fn line(before: &[u8]) -> usize
     ensures { result ≡ line before.now }
 {
@@ -16,7 +16,7 @@ pub fn line(before: &[u8]) -> usize
     ends + 1
 }
 
-/// What stands behind the last LF.
+/// The bytes behind the last LF, or all where there is none.
 pub fn in_line(before: &[u8]) -> &[u8]
     ensures { result.now ≡ in_line before.now }
 {
@@ -65,7 +65,7 @@ pub fn width(bytes: &[u8]) -> usize
     }
 }
 
-/// The first byte of the first character, and what stands behind that character.
+/// The first byte of the first character, and the bytes behind that character.
 pub fn first_character(bytes: &[u8]) -> (u8, &[u8])
     requires { 0 < length bytes.now }
     ensures characters { characters bytes.now ≡ result.0 ∷ characters result.1.now }
@@ -90,7 +90,7 @@ fn count(bytes: &[u8]) -> usize
     count
 }
 
-/// Which column a place lies in, from 1.
+/// Which column a place lies in, in characters from 1, by the bytes before it.
 pub fn column(before: &[u8]) -> usize
     ensures { result ≡ column before.now }
 {

@@ -54,12 +54,14 @@ pub fn form_of(line: &[u8]) -> Form
     }
 }
 
+// Whether a line begins like one that names a byte.
 fn begins_byte(line: &[u8]) -> bool
     ensures { result ≡ begins_byte line.now }
 {
     begins(line, b"E02 ") || begins(line, b"E03 ") || begins(line, b"E04 ")
 }
 
+// Whether a line begins like one that names a token.
 fn begins_token(line: &[u8]) -> bool
     ensures { result ≡ begins_token line.now }
 {
@@ -72,12 +74,14 @@ fn begins_token(line: &[u8]) -> bool
         || begins(line, b"E14 ")
 }
 
+// Whether a line begins like one that names a statement.
 fn begins_statement(line: &[u8]) -> bool
     ensures { result ≡ begins_statement line.now }
 {
     begins(line, b"E13 statement ") || begins(line, b"E15 statement ")
 }
 
+// The form of a line that begins like none that names a byte, a token or a statement.
 fn source_form(line: &[u8]) -> Form
     ensures { result ≡ source_form line.now }
 {
@@ -92,6 +96,7 @@ fn source_form(line: &[u8]) -> Form
     }
 }
 
+// The form of a line that names a text of the script, or an output that may be silent, or nothing.
 fn text_form(line: &[u8]) -> Form
     ensures { result ≡ text_form line.now }
 {

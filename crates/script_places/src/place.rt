@@ -1,14 +1,14 @@
 // What stands on both sides of a byte of a text.
 ghost use Rattle.std.specs.Prelude.{◌≡◌, take, drop};
 
-/// What stands before the byte of this number.
+/// The bytes before byte `at`, counted from 0; all where there are no more.
 pub fn before(text: &[u8], at: usize) -> &[u8]
     ensures { result.now ≡ take at text.now }
 {
     &text[..at.min(text.len())]
 }
 
-/// What stands from the byte of this number on.
+/// The bytes from byte `at` on, counted from 0; none where there are no more.
 pub fn behind(text: &[u8], at: usize) -> &[u8]
     ensures { result.now ≡ drop at text.now }
 {

@@ -27,7 +27,7 @@ pub fn pointer(alloc: Global, file: &str, text: &[u8], at: usize) -> Result<Vec<
     Ok(lines)
 }
 
-// FILE:LINE:COLUMN and a blank.
+// `FILE:LINE:COLUMN: ` of the place behind the bytes `before`.
 fn head(alloc: Global, file: &str, before: &[u8]) -> Result<String, Memory>
     ensures { IfOk result (λ line. string_bytes line ≡ head file.now before.now) }
 {
@@ -35,7 +35,8 @@ fn head(alloc: Global, file: &str, before: &[u8]) -> Result<String, Memory>
     Ok(format!(in alloc; "{file}:{line}:{column}: ")?)
 }
 
-// Adds a line of three parts, the last of them as it is shown.
+// Adds the first line of a place: `head`, then `front`, which stands before the place and is as it is shown, and the
+// rest.
 fn push_line(lines: &mut Vec<u8>, head: &[u8], front: &[u8], rest: &[u8]) -> Result<(), Memory>
     ensures { OnOk result (lines.new.items ≡ lines.old.items ++ head.now ++ front.now ++ shown rest.now ++ codes "\n") }
 {
@@ -46,7 +47,7 @@ fn push_line(lines: &mut Vec<u8>, head: &[u8], front: &[u8], rest: &[u8]) -> Res
     Ok(())
 }
 
-// Adds a line with a caret below what stands behind two parts.
+// Adds the second line of a place: blanks for `head` and for `front`, which stands before the place, and the caret.
 fn push_caret(lines: &mut Vec<u8>, head: &[u8], front: &[u8], caret: &[u8]) -> Result<(), Memory>
     ensures { OnOk result (lines.new.items ≡ lines.old.items ++ blanks_for head.now ++ blanks_for front.now
         ++ caret.now) }
@@ -57,7 +58,7 @@ fn push_caret(lines: &mut Vec<u8>, head: &[u8], front: &[u8], caret: &[u8]) -> R
     Ok(())
 }
 
-// The caret; below a byte order mark with a word.
+// The caret below byte `at`; below a byte order mark with a word.
 fn caret(text: &[u8], at: usize) -> &'static [u8]
     ensures { result.now ≡ caret text.now at }
 {
@@ -78,7 +79,7 @@ fn cut_cr(line: &[u8]) -> &[u8]
     }
 }
 
-// Without its leading blanks.
+// The bytes without their leading blanks.
 fn trimmed(bytes: &[u8]) -> &[u8]
     ensures { result.now ≡ trimmed bytes.now }
 {
@@ -89,7 +90,7 @@ fn trimmed(bytes: &[u8]) -> &[u8]
     &bytes[start..]
 }
 
-// The rest of a line.
+// The bytes before the first LF.
 fn up_to_lf(bytes: &[u8]) -> &[u8]
     ensures { result.now ≡ up_to_lf bytes.now }
 {
@@ -107,7 +108,7 @@ fn blank_for(first: u8) -> u8
     if first == b'\t' { b'\t' } else { b' ' }
 }
 
-// Adds a blank for each character.
+// Adds a blank for each character of these bytes, as wide as it.
 fn push_blanks(out: &mut Vec<u8>, bytes: &[u8]) -> Result<(), Memory>
     ensures { OnOk result (out.new.items ≡ out.old.items ++ blanks_for bytes.now) }
 {

@@ -16,7 +16,7 @@ fn is_control(byte: u8) -> bool
     (byte < 32 && byte != b'\t') || (127 <= byte && byte < 160)
 }
 
-// Whether the byte behind the first one is such.
+// Whether the second byte is a control byte other than a TAB.
 fn has_control_next(bytes: &[u8]) -> bool
     ensures { result ≡ has_control_next bytes.now }
 {
@@ -47,7 +47,7 @@ fn is_hidden(bytes: &[u8]) -> bool
     }
 }
 
-// A hexadecimal digit.
+// The hexadecimal digit of a number below 16.
 fn digit(number: u8) -> u8
     requires { number < 16 }
     ensures { result ≡ digit number }
@@ -59,7 +59,7 @@ fn digit(number: u8) -> u8
     }
 }
 
-// Adds a byte by its number.
+// Adds a byte by its number: `\x` and two digits.
 fn push_escape(out: &mut Vec<u8>, byte: u8) -> Result<(), Memory>
     ensures { OnOk result (out.new.items ≡ out.old.items ++ escape byte) }
 {
@@ -67,7 +67,7 @@ fn push_escape(out: &mut Vec<u8>, byte: u8) -> Result<(), Memory>
     Ok(())
 }
 
-// Adds a byte of a character that is hidden or not.
+// Adds a byte of a character: by its number if the character is hidden.
 fn push_byte(out: &mut Vec<u8>, byte: u8, hidden: bool) -> Result<(), Memory>
     ensures { OnOk result (out.new.items ≡ out.old.items ++ byte_shown hidden byte) }
 {
@@ -79,7 +79,7 @@ fn push_byte(out: &mut Vec<u8>, byte: u8, hidden: bool) -> Result<(), Memory>
     Ok(())
 }
 
-// Adds the bytes of a character that is hidden or not.
+// Adds the bytes of a character: by their numbers if it is hidden.
 fn push_character(out: &mut Vec<u8>, character: &[u8], hidden: bool) -> Result<(), Memory>
     ensures { OnOk result (out.new.items ≡ out.old.items ++ character_shown hidden character.now) }
 {
@@ -89,7 +89,7 @@ fn push_character(out: &mut Vec<u8>, character: &[u8], hidden: bool) -> Result<(
     Ok(())
 }
 
-// Adds the first character as it is shown, and answers what stands behind it.
+// Adds the first character as it is shown, and answers the bytes behind it.
 fn push_first<'a>(out: &mut Vec<u8>, bytes: &'a [u8]) -> Result<&'a [u8], Memory>
     requires { 0 < length bytes.now }
     ensures shown { IfOk result (λ behind. out.new.items ++ shown behind.now ≡ out.old.items ++ shown bytes.now) }

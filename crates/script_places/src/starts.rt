@@ -7,8 +7,8 @@ ghost use Rattle.script_places.specs.Starts.{start, first_token, first_at};
 use script_grammar::tree::{Script, StmtPart};
 use script_lex::Token;
 
-/// The place of the first byte of a token, which counts from 0; a token past the end is the end of the text, of so many
-/// bytes in all.
+/// The byte at which a token begins, from 0. Tokens count from 0; one past the end begins at the end of the text, which
+/// has `total` bytes.
 pub fn start(total: usize, tokens: &[Token], token: u64) -> usize
     ensures { result ≡ start total tokens.now token }
 {
@@ -19,7 +19,7 @@ pub fn start(total: usize, tokens: &[Token], token: u64) -> usize
     }
 }
 
-/// The first token of a statement, which counts from 1; nothing where the script has none of this number.
+/// The index of the first token of a statement, which counts from 1; nothing where the script has none of this number.
 pub fn first_token(script: &Script, statement: u64) -> Option<u64>
     requires { IsPlaced 0 (view_script script.now) }
     ensures { result ≡ first_token (view_script script.now) statement }
@@ -34,7 +34,7 @@ pub fn first_token(script: &Script, statement: u64) -> Option<u64>
     Some(first_at(&script.statements[index].part))
 }
 
-// The first token of a statement, by its fields.
+// The index of the first token of a statement, by its fields `at`.
 fn first_at(part: &StmtPart) -> u64
     ensures { result ≡ first_at (view_part part.now) }
 {

@@ -26,32 +26,32 @@ pub record Spells (text : List ℕ) (script : Script) : Type 0 where
   pub placed : IsPlaced 0 script
   pub shallow : IsShallow (kinds tokens)
 
--- it spells a script, and the script's names have a typing
+-- the text spells this script, whose names stand for this in a typing
 pub record Types (text : List ℕ) (script : Script) (uses : List Use) : Type 0 where
   pub spelled : Spells text script
   pub typed : IsTyped script uses
 
--- the plan that evaluation ends with
+-- the plan with which the evaluation of the text's script ends
 pub record IsPlan (text : List ℕ) (plan : Plan) : Type 0 where
   pub script : Script
   pub uses : List Use
   pub typed : Types text script uses
   pub evaluated : evaluation script uses ≡ Ok plan
 
--- the text's tokens spell no script
+-- the text's tokens spell no script, for this fault
 pub record IsSyntaxFault (text : List ℕ) (f : ParseFault) : Type 0 where
   pub tokens : List Token
   pub lexed : AreTokens text tokens
   pub told : IsFault (kinds tokens) f
 
--- the text's script has no typing
+-- the text's script has no typing, for this fault
 pub record IsTypingFault (text : List ℕ) (f : TypeFault) : Type 0 where
   pub script : Script
   pub spelled : Spells text script
   pub told : IsTypeFault script f
   pub meant : f ≢ type_fault.Memory
 
--- its evaluation ends without a plan
+-- the evaluation of the text's script ends without a plan, for this fault
 pub record IsEvaluationFault (text : List ℕ) (f : EvalFault) : Type 0 where
   pub script : Script
   pub uses : List Use

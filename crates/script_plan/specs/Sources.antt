@@ -7,14 +7,15 @@ use Rattle.typing_rules.specs.Answers.{IsTyped}
 use Rattle.eval_meaning.specs.Scripts.{sources}
 use Rattle.script_plan.specs.Plans.{Types}
 
--- evaluation ends with this plan, and for each of its sources this is the token of the call that made it
+-- the evaluation of the text's script ends with this plan, and for each of its sources `calls` has the token of the
+-- call that made it
 pub record HasSources (text : List ℕ) (plan : Plan) (calls : List ℕ) : Type 0 where
   pub script : Script
   pub uses : List Use
   pub typed : Types text script uses
   pub evaluated : sources script uses ≡ Ok (plan, calls)
 
--- evaluation of this script ends with this plan and these calls; this is for `src/sources.rt` alone
+-- the evaluation of this script ends with this plan and these calls; this is for `src/sources.rt` alone
 pub record AreSources (script : Script) (plan : Plan) (calls : List ℕ) : Type 0 where
   pub uses : List Use
   pub typed : IsTyped script uses

@@ -17,35 +17,39 @@ use Rattle.eval_meaning.specs.Scripts.{evaluation}
 use Rattle.script_plan.specs.declared.fault.ScriptFault.{ScriptFault}
 use Rattle.script_plan.specs.declared.fault.ScriptFault.TheVariants as fault
 
--- want of memory is that of all stages
+-- a fault of tokens as that of the text; want of memory is that of all stages
 abbrev pub lexical : LexFault → ScriptFault
 lexical lex_fault.Memory = fault.Memory
 lexical f = fault.Lex f
 
+-- a fault of the tree as that of the text; want of memory is that of all stages
 abbrev pub syntactic : ParseFault → ScriptFault
 syntactic parse_fault.Memory = fault.Memory
 syntactic f = fault.Parse f
 
+-- a fault of types as that of the text; want of memory is that of all stages
 abbrev pub of_typing : TypeFault → ScriptFault
 of_typing type_fault.Memory = fault.Memory
 of_typing f = fault.Type f
 
+-- a fault of evaluation as that of the text; want of memory is that of all stages
 abbrev pub of_evaluation : EvalFault → ScriptFault
 of_evaluation eval_fault.Memory = fault.Memory
 of_evaluation f = fault.Eval f
 
--- the plan of a script
+-- the evaluation of this script ends with this plan
 pub record HasPlan (script : Script) (plan : Plan) : Type 0 where
   pub uses : List Use
   pub typed : IsTyped script uses
   pub evaluated : evaluation script uses ≡ Ok plan
 
+-- the evaluation of this script ends without a plan, for this fault
 pub record EndsBy (script : Script) (f : EvalFault) : Type 0 where
   pub uses : List Use
   pub typed : IsTyped script uses
   pub told : evaluation script uses ≡ Err (Some f)
 
--- what may be told of a script, and of one with these uses
+-- what the typing of a script may answer in place of one: its fault, or want of memory
 abbrev pub IsOfTyping : Script → ScriptFault → Type 0
 IsOfTyping script (fault.Lex f) = ⊥
 IsOfTyping script (fault.Parse f) = ⊥
@@ -53,6 +57,8 @@ IsOfTyping script (fault.Type f) = (f ≢ type_fault.Memory) × IsTypeFault scri
 IsOfTyping script (fault.Eval f) = ⊥
 IsOfTyping script fault.Memory = ⊤
 
+-- what the evaluation of a script whose names stand for this may answer in place of a plan: its fault, or want of
+-- memory
 abbrev pub IsOfEvaluation : Script → List Use → ScriptFault → Type 0
 IsOfEvaluation script uses (fault.Lex f) = ⊥
 IsOfEvaluation script uses (fault.Parse f) = ⊥
@@ -60,6 +66,7 @@ IsOfEvaluation script uses (fault.Type f) = ⊥
 IsOfEvaluation script uses (fault.Eval f) = evaluation script uses ≡ Err (Some f)
 IsOfEvaluation script uses fault.Memory = ⊤
 
+-- what may be answered of a script in place of its plan: the fault of its types or of its evaluation, or want of memory
 abbrev pub IsOfScript : Script → ScriptFault → Type 0
 IsOfScript script (fault.Lex f) = ⊥
 IsOfScript script (fault.Parse f) = ⊥

@@ -15,7 +15,7 @@ pub fn one_answer()
     eval_meaning::laws::one_plan();
 }
 
-/// A text has one list at most of the calls that make the sources of its plan: one call for each source.
+/// A text has at most one list of the calls that make the sources of its plan: one call for each source.
 pub fn one_list_of_calls()
     ensures plan { (text : List ℕ) (p : Plan) (calls : List ℕ) → HasSources text p calls → IsPlan text p }
     ensures one { (text : List ℕ) (p q : Plan) (calls others : List ℕ) → HasSources text p calls

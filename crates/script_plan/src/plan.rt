@@ -33,7 +33,7 @@ pub fn plan_of(alloc: Global, text: &[u8]) -> Result<Plan, ScriptFault>
     plan_of_script(alloc, &script)
 }
 
-// The script that the text spells. Its tokens are freed here.
+// The script that these bytes spell, or their first fault. Its tokens are freed here.
 pub(crate) fn script_of(alloc: Global, text: &[u8]) -> Result<Script, ScriptFault>
     ensures spelled { IfOk result (λ s. Spells text.now (view_script s)) }
     ensures fault { IfErr result (λ e. e ≢ fault.Memory → IsPlanFault text.now e) }
@@ -54,7 +54,7 @@ fn plan_of_script(alloc: Global, script: &Script) -> Result<Plan, ScriptFault>
     evaluated(alloc, script, &uses)
 }
 
-// What the names of a script stand for. What else inference made is freed here.
+// What each name of a script stands for, or the fault of its types. What else inference made is freed here.
 pub(crate) fn uses_of(alloc: Global, script: &Script) -> Result<Vec<Use>, ScriptFault>
     requires { IsPlaced 0 (view_script script.now) }
     ensures typed { IfOk result (λ uses. IsTyped (view_script script.now) uses.items) }
@@ -64,7 +64,7 @@ pub(crate) fn uses_of(alloc: Global, script: &Script) -> Result<Vec<Use>, Script
     Ok(uses)
 }
 
-// The plan of a script with these uses.
+// The plan of a script whose names stand for this, or the fault of its evaluation.
 fn evaluated(alloc: Global, script: &Script, uses: &[Use]) -> Result<Plan, ScriptFault>
     requires placed { IsPlaced 0 (view_script script.now) }
     requires typed { IsTyped (view_script script.now) uses.now }

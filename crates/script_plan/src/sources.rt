@@ -18,7 +18,7 @@ use std::alloc::Global;
 use typing_rules::Use;
 
 /// The plan of the script that these bytes spell, and for each of its sources the token of the call that made it: of
-/// calls that run within each other, the outermost. Or the first fault of the bytes. Want of memory may come in place
+/// calls that run within each other, the outermost. Or the first fault of the bytes; want of memory may come in place
 /// of either.
 pub fn sources_of(alloc: Global, text: &[u8]) -> Result<Sources, ScriptFault>
     ensures calls { IfOk result (λ s. HasSources text.now s.plan s.calls) }
@@ -31,7 +31,7 @@ pub fn sources_of(alloc: Global, text: &[u8]) -> Result<Sources, ScriptFault>
     sources_in_script(alloc, &script)
 }
 
-// Those of a script, or the fault of its types or of its evaluation.
+// The plan of a script, with the call that made each source; or the fault of its types or of its evaluation.
 fn sources_in_script(alloc: Global, script: &Script) -> Result<Sources, ScriptFault>
     requires { IsPlaced 0 (view_script script.now) }
     ensures calls { IfOk result (λ s. AreSources (view_script script.now) s.plan s.calls) }
@@ -44,7 +44,7 @@ fn sources_in_script(alloc: Global, script: &Script) -> Result<Sources, ScriptFa
     made(alloc, script, &uses)
 }
 
-// Those of a script with these uses.
+// The plan of a script whose names stand for this, with the call that made each source; or the fault of its evaluation.
 fn made(alloc: Global, script: &Script, uses: &[Use]) -> Result<Sources, ScriptFault>
     requires placed { IsPlaced 0 (view_script script.now) }
     requires typed { IsTyped (view_script script.now) uses.now }

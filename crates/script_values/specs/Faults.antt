@@ -5,7 +5,8 @@ use Rattle.script_values.specs.declared.fault.Stop.TheVariants as inside
 use Rattle.script_values.specs.declared.fault.EvalFault.{EvalFault}
 use Rattle.script_values.specs.declared.fault.EvalFault.TheVariants as fault
 
--- nothing for a value of a wrong type, which no typed script comes to
+-- the fault of a script whose statement of this number ends with this stop; nothing for a value of a wrong type, which
+-- no typed script comes to
 abbrev pub fault_in : ℕ → Stop → Option EvalFault
 fault_in stmt inside.Memory = Some fault.Memory
 fault_in stmt inside.BadSetting = Some (fault.BadSetting stmt)

@@ -3,7 +3,7 @@ use Rattle.std.specs.Prelude.{◌≡◌, Result, Ok, Err}
 use Rattle.script_values.specs.declared.fault.Stop.{Stop}
 use Rattle.script_values.specs.declared.fault.Stop.TheVariants.{Memory, BadSetting, BadValue, TooMuchWork, TooManySources, SameOutput, TooLarge, Stuck}
 
--- want of memory is free, and every other fault is the one of evaluation
+-- a function that returned this stop may have been refused memory; any other stop is the one of evaluation
 abbrev pub Fails : {Y : Type 0} → Stop → Result Y Stop → Type 0
 Fails Memory meant = Unit {0}
 Fails BadSetting meant = meant ≡ Err BadSetting

@@ -6,11 +6,11 @@ use Rattle.script_values.specs.declared.machine.Machine.{Machine}
 use Rattle.script_values.specs.declared.fault.Stop.{Stop}
 use Rattle.script_values.specs.declared.fault.Stop.TheVariants.{TooMuchWork}
 
--- so many millionths, which are few enough
+-- the decimal of m millionths, which are at most 10^15
 abbrev pub some_millionths : (m : ℕ) → T (nat_le m 1000000000000000) → Decimal
 some_millionths m few = record { millionths = pos m; low = record { le = tt }; high = record { le = few } }
 
--- before the first statement: 44100 samples a second, and 0.04 seconds a tick, which are 1764 samples
+-- the state before the first statement: 44100 samples a second, and 0.04 seconds a tick, which are 1764 samples
 abbrev pub first_machine : Machine
 first_machine = record {
   plan = record { rate = 44100; frame = 1764; nodes = []; sinks = []; buffers = [] };
@@ -19,7 +19,7 @@ first_machine = record {
   calls = [];
 }
 
--- adds the cost of a step; past the bound there is too much work
+-- adds `steps` to the work; past the bound there is too much work
 unfoldable pub count_work : ℕ → Machine → Result Machine Stop
 count_work steps m =
     elim (nat_le (m.work + steps) MAX_WORK) [
@@ -27,10 +27,11 @@ count_work steps m =
       | false ↦ Err TooMuchWork
     ]
 
--- the calls of the first sources, and this one for each source behind them, of so many
+-- the calls of the first sources, and behind them the call at this token for each further source, up to number
+-- `sources`
 abbrev pub filled : (at : ℕ) → (sources : ℕ) → List ℕ → List ℕ
 filled at sources calls = calls ++ replicate (sources - length calls) at
 
--- the state behind a call at this token, before which there were so many sources: those that it made are its own
+-- the state behind a call at token `at`, before which there were `before` sources: those that it made are its own
 abbrev pub noted_by : (at before : ℕ) → Machine → Machine
 noted_by at before m = record m { calls = filled at (length m.plan.nodes) (take before m.calls) }

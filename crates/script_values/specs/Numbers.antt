@@ -9,7 +9,7 @@ use Rattle.script_values.specs.declared.fault.Stop.{Stop}
 use Rattle.script_values.specs.declared.fault.Stop.TheVariants.{BadValue, Stuck}
 use Rattle.script_values.specs.Values.{Value, Int, Number, TruthValue}
 
--- an int that a script may have
+-- the int n, or a bad value at this token where it has more than 64 bits
 unfoldable pub int_at : ℕ → ℤ → Result Value Stop
 int_at at n =
     elim (int_le (negsuc 9223372036854775807) n && int_le n (pos 9223372036854775807)) [
@@ -17,24 +17,24 @@ int_at at n =
       | false ↦ Err (BadValue at)
     ]
 
--- a decimal of so many millionths, if there is one
+-- the decimal of m millionths, if they are within both bounds
 abbrev pub decimal_by : (m : ℤ) (low high : Bool) → (T low → negsuc 999999999999999 ≤ℤ m)
     → (T high → m ≤ℤ pos 1000000000000000) → Option Decimal
 decimal_by m true true above below = Some (record { millionths = m; low = above tt; high = below tt })
 decimal_by m true false above below = None
 decimal_by m false high above below = None
 
--- the decimal of so many millionths, within its bounds
+-- the decimal of this number of millionths, if it is at most 10^15 either way
 unfoldable pub of_millionths : ℤ → Option Decimal
 of_millionths m = decimal_by m (int_le (negsuc 999999999999999) m) (int_le m (pos 1000000000000000))
     (λ t. record { le = t }) (λ t. record { le = t })
 
--- a decimal, or a bad value at this token
+-- the value of a decimal, or a bad value at this token if there is none
 abbrev pub or_bad_value : ℕ → Option Decimal → Result Value Stop
 or_bad_value at (Some d) = Ok (Number d)
 or_bad_value at None = Err (BadValue at)
 
--- the decimal of so many millionths, or a bad value at this token
+-- the decimal of this number of millionths, or a bad value at this token
 abbrev pub decimal_at : ℕ → ℤ → Result Value Stop
 decimal_at at m = or_bad_value at (of_millionths m)
 
@@ -48,18 +48,18 @@ unfoldable pub negative : ℕ → Literal → Result Value Stop
 negative at (literal.Int n) = int_at at (neg_ℤ n)
 negative at (literal.Number d) = decimal_at at (neg_ℤ d.millionths)
 
--- a difference, or a sum
+-- the difference of two numbers if true, and else their sum
 abbrev pub plus_or_minus : Bool → ℤ → ℤ → ℤ
 plus_or_minus true a b = a -ℤ b
 plus_or_minus false a b = a +ℤ b
 
--- the sum or the difference of two ints, or of two decimals
+-- the difference of two ints or of two decimals if `minus` is true, and else their sum
 unfoldable pub added : Bool → ℕ → Value → Value → Result Value Stop
 added minus at (Int a) (Int b) = int_at at (plus_or_minus minus a b)
 added minus at (Number a) (Number b) = decimal_at at (plus_or_minus minus a.millionths b.millionths)
 added minus at v w = Err Stuck
 
--- a quotient toward zero
+-- the quotient of two numbers, rounded toward zero; none by 0
 unfoldable pub quotient : ℤ → ℤ → Option ℤ
 quotient a b =
     elim (int_le b (pos 0) && int_le (pos 0) b) [
@@ -67,12 +67,13 @@ quotient a b =
       | false ↦ Some (int_div a b)
     ]
 
--- a quotient, or a bad value where the divisor is 0
+-- what is made of a quotient, or a bad value at this token where the divisor was 0
 abbrev pub quotient_at : ℕ → (ℤ → Result Value Stop) → Option ℤ → Result Value Stop
 quotient_at at made None = Err (BadValue at)
 quotient_at at made (Some n) = made n
 
--- the product or the quotient of two ints, or of two decimals, rounded to a millionth as the language says
+-- the quotient of two ints or of two decimals if `divide` is true, and else their product; a decimal is rounded toward
+-- zero to a millionth
 unfoldable pub multiplied : Bool → ℕ → Value → Value → Result Value Stop
 multiplied false at (Int a) (Int b) = int_at at (a *ℤ b)
 multiplied true at (Int a) (Int b) = quotient_at at (int_at at) (quotient a b)
@@ -81,7 +82,7 @@ multiplied true at (Number a) (Number b) = quotient_at at (decimal_at at)
     (quotient (a.millionths *ℤ pos 1000000) b.millionths)
 multiplied divide at v w = Err Stuck
 
--- whether a comparison holds
+-- whether two numbers compare as the operator says
 abbrev pub is_so : CompareOp → ℤ → ℤ → Bool
 is_so op.Equal a b = int_le a b && int_le b a
 is_so op.Differs a b = int_lt a b || int_lt b a

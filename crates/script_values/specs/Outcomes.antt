@@ -5,16 +5,16 @@ use Rattle.script_values.specs.declared.machine.Machine.{Machine}
 use Rattle.script_values.specs.Machines.{noted_by}
 use Rattle.script_values.specs.Values.{Value}
 
--- the first fault ends the steps
+-- a step, and the next one over what it gives; the first fault ends them
 infixl 10 ◌>>=◌
 abbrev pub ◌>>=◌ : {A B : Type 0} → Result A Stop → (A → Result B Stop) → Result B Stop
 (Ok x) >>= f = f x
 (Err e) >>= f = Err e
 
--- a value, and the state behind it
+-- a value and the state behind it, or why evaluation stops
 abbrev pub Outcome : Type 0
 Outcome = Result (Value × Machine) Stop
 
--- what a call at this token makes of this state: the sources that it made are its own
+-- what a call at this token makes of the state m, where the sources that it made are noted as its own
 abbrev pub ascribed : ℕ → Machine → Outcome → Outcome
 ascribed at m made = made >>= λ x. Ok (x.0, noted_by at (length m.plan.nodes) x.1)

@@ -5,7 +5,7 @@ use Rattle.script_values.specs.View.{view_value}
 use Rattle.script_values.specs.Views.{view_given}
 use Rattle.typing_rules.specs.Arguments.{argument}
 
--- whatever stands there is what the search takes, and the others are what it leaves
+-- argument i is the one that a search for this label takes; the others stay
 pub record IsPlace (label : Option (List ℕ)) (given : List program.Given) (i : ℕ) : Type 0 where
   pub within : i < length given
   pub taken : (g : program.Given) (left : List program.Given) → g ≡ slice_index_or given i g → left ≡ remove given i

@@ -3,15 +3,15 @@ use Rattle.std.specs.Prelude.{ℕ, List, [], ◌∷◌, Option, Some, None, cond
 use Rattle.typing_rules.specs.Arguments as arguments
 use Rattle.script_values.specs.Values.{Value}
 
--- a value, with the token that binds it
+-- a binding by the token of its name, with its value
 abbrev pub SlotValue : Type 0
 SlotValue = ℕ × Value
 
--- the value of the binding at this token
+-- the value of the first binding whose name stands at this token
 abbrev pub value_at_token : ℕ → List SlotValue → Option Value
 value_at_token at [] = None
 value_at_token at (s ∷ ss) = cond (nat_eq s.0 at) (Some s.1) (value_at_token at ss)
 
--- an argument by its value
+-- an argument of a call: its label, if it has one, and its value
 abbrev pub Argument : Type 0
 Argument = arguments.GivenArgument Value

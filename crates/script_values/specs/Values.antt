@@ -3,12 +3,12 @@ use Rattle.std.specs.Prelude.{ℕ, ◌+◌, ℤ, List, [], ◌∷◌, Bool}
 use Rattle.fixed_text.specs.declared.decimal.Decimal.{Decimal}
 use Rattle.time_pred.specs.Predicates.{Predicate}
 
--- one value, or a list of them
+-- the sort of a tree of values: one value, or a list of them
 pub data ValueSort : Type 0 where
   OneValue : ValueSort
   ManyValues : ValueSort
 
--- the values of a script
+-- the values of a script, and lists of them, as trees
 pub data ValueTree : ValueSort → Type 0 where
   no_values : ValueTree ManyValues
   more_values : ValueTree OneValue → ValueTree ManyValues → ValueTree ManyValues
@@ -29,11 +29,12 @@ pub data ValueTree : ValueSort → Type 0 where
 abbrev pub Value : Type 0
 Value = ValueTree OneValue
 
--- a list of values as one tree, and back
+-- a list of values as one tree
 abbrev pub many : List Value → ValueTree ManyValues
 many [] = no_values
 many (v ∷ vs) = more_values v (many vs)
 
+-- the values of a tree, as a list
 abbrev pub items : ValueTree ManyValues → List Value
 items no_values = []
 items (more_values v vs) = v ∷ items vs

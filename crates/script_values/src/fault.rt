@@ -127,7 +127,8 @@ impl<T: Drop> From<AllocFailed<T>> for Stop {
     }
 }
 
-/// The fault of a script, where this one comes in its statement of this number. A value of a wrong type is none.
+/// The fault of a script whose statement `stmt`, counted from 1, ends with this stop. `None` for a value of a wrong
+/// type, which no typed script comes to.
 pub fn fault_in(stmt: u32, fault: Stop) -> Option<EvalFault>
     ensures { result ≡ fault_in stmt fault }
 {

@@ -1,4 +1,4 @@
-// What evaluation changes: the plan so far, the work, the settings, and the calls of its sources.
+// What evaluation changes: the plan, the work, the settings, and the calls of its sources.
 ghost use Rattle.std.specs.Prelude.{◌≡◌, OnOk, length};
 ghost use Rattle.script_values.specs.Gives.{Gives};
 ghost use Rattle.script_values.specs.Machines.{count_work, filled, first_machine, noted_by};
@@ -13,12 +13,13 @@ use liq_base::limits::MAX_WORK;
 use plan_core::{Draft, Items};
 use std::alloc::Global;
 
-/// The plan so far, the work that was done, the settings so far, and the calls of the sources.
+/// The state of evaluation: the plan with the nodes of the statements before, the work that was done, the settings, and
+/// the calls of the sources.
 #[derive(Drop)]
 pub struct Machine {
     pub plan: Draft,
 
-    /// What was evaluated so far, at most 999999.
+    /// How many steps of evaluation were counted, at most 999999.
     pub work: u64,
     pub settings: Settings,
 
@@ -26,7 +27,7 @@ pub struct Machine {
     pub calls: Items<u32>,
 }
 
-/// The settings so far; the rate stands in the plan.
+/// The settings of a script, but for the rate, which stands in the plan.
 #[derive(Clone, Copy, Debug, PartialEq, Eq)]
 pub struct Settings {
     /// How long a tick is, in seconds.
@@ -62,7 +63,7 @@ impl Machine {
     }
 }
 
-/// Counts so much work, or refuses it where the work passes 999999.
+/// Counts `steps` more of work; too much where the work passes 999999.
 pub fn count(machine: &mut Machine, steps: u64) -> Result<(), Stop>
     ensures { Gives (λ _. machine.new) result (count_work steps machine.old) }
 {
@@ -74,22 +75,22 @@ pub fn count(machine: &mut Machine, steps: u64) -> Result<(), Stop>
     Ok(())
 }
 
-/// Counts the size of a value.
+/// Counts the size of a value as work.
 pub fn count_value(machine: &mut Machine, value: &Value) -> Result<(), Stop>
     ensures { Gives (λ _. machine.new) result (count_work (size (view_value value.now)) machine.old) }
 {
     count(machine, size(value))
 }
 
-/// How many sources were made so far.
+/// How many sources the plan has.
 pub fn sources_made(plan: &Draft) -> usize
     ensures { result ≡ length plan.now.nodes }
 {
     plan.plan().nodes.len()
 }
 
-/// Notes a call at this token, before which there were so many sources: those that it made are its own. Where memory is
-/// refused, some of them may be noted.
+/// Notes the call at token `at` for the sources that it made: those from number `before` on. Where memory is refused,
+/// some of them may be noted.
 pub fn note(machine: &mut Machine, at: u32, before: usize) -> Result<(), Memory>
     ensures { OnOk result (machine.new ≡ noted_by at before machine.old) }
 {
@@ -98,7 +99,7 @@ pub fn note(machine: &mut Machine, at: u32, before: usize) -> Result<(), Memory>
     fill(&mut machine.calls, at, sources)
 }
 
-// Adds this call until there are so many.
+// Adds the call at token `at` until there are `sources` calls.
 fn fill(calls: &mut Items<u32>, at: u32, sources: usize) -> Result<(), Memory>
     ensures { OnOk result (calls.new ≡ filled at sources calls.old) }
 {

@@ -10,7 +10,7 @@ use crate::{Stop, Value};
 use fixed_text::Decimal;
 use script_grammar::tree::{CompareOp, Literal};
 
-/// A number as its token holds it.
+/// The value of a number as its token holds it.
 pub fn literal(number: Literal) -> Value
     ensures { view_value result ≡ literal_value number }
 {
@@ -20,7 +20,7 @@ pub fn literal(number: Literal) -> Value
     }
 }
 
-/// The number below zero.
+/// The value of a number behind the minus at token `at`; a bad value out of range.
 #[tactic(auto, unfolding(crate::specs::Numbers::negative))]
 pub fn negative(at: u32, number: Literal) -> Result<Value, Stop>
     ensures { Gives (λ v. view_value v) result (negative at number) }
@@ -31,7 +31,7 @@ pub fn negative(at: u32, number: Literal) -> Result<Value, Stop>
     }
 }
 
-/// A sum, or with `minus` a difference.
+/// The sum of two numbers, or with `minus` their difference. The operator stands at token `at`.
 #[tactic(auto, unfolding(crate::specs::Numbers::added))]
 pub fn added(minus: bool, at: u32, left: &Value, right: &Value) -> Result<Value, Stop>
     ensures { Gives (λ v. view_value v) result (added minus at (view_value left.now) (view_value right.now)) }
@@ -43,7 +43,7 @@ pub fn added(minus: bool, at: u32, left: &Value, right: &Value) -> Result<Value,
     }
 }
 
-/// Whether one of two holds.
+/// `or` of two truth values.
 #[tactic(auto, unfolding(crate::specs::Numbers::either))]
 pub fn either(left: &Value, right: &Value) -> Result<Value, Stop>
     ensures { Gives (λ v. view_value v) result (either (view_value left.now) (view_value right.now)) }
@@ -54,7 +54,7 @@ pub fn either(left: &Value, right: &Value) -> Result<Value, Stop>
     }
 }
 
-/// Whether both hold.
+/// `and` of two truth values.
 #[tactic(auto, unfolding(crate::specs::Numbers::both))]
 pub fn both(left: &Value, right: &Value) -> Result<Value, Stop>
     ensures { Gives (λ v. view_value v) result (both (view_value left.now) (view_value right.now)) }
@@ -65,7 +65,7 @@ pub fn both(left: &Value, right: &Value) -> Result<Value, Stop>
     }
 }
 
-/// Whether it does not hold.
+/// `not` of a truth value.
 #[tactic(auto, unfolding(crate::specs::Numbers::opposite))]
 pub fn opposite(value: &Value) -> Result<Value, Stop>
     ensures { Gives (λ v. view_value v) result (opposite (view_value value.now)) }
@@ -87,7 +87,7 @@ pub fn truth_of(value: &Value) -> Result<bool, Stop>
     }
 }
 
-/// A product, or with `divide` a quotient.
+/// The product of two numbers, or with `divide` their quotient. The operator stands at token `at`.
 #[tactic(auto, unfolding(crate::specs::Numbers::multiplied))]
 pub fn multiplied(divide: bool, at: u32, left: &Value, right: &Value) -> Result<Value, Stop>
     ensures { Gives (λ v. view_value v) result (multiplied divide at (view_value left.now) (view_value right.now)) }
@@ -111,7 +111,7 @@ pub fn multiplied(divide: bool, at: u32, left: &Value, right: &Value) -> Result<
     }
 }
 
-/// Whether two numbers compare so.
+/// The truth of a comparison of two ints or of two decimals.
 #[tactic(auto, unfolding(crate::specs::Numbers::compared))]
 pub fn compared(op: CompareOp, left: &Value, right: &Value) -> Result<Value, Stop>
     ensures { Gives (λ v. view_value v) result (compared op (view_value left.now) (view_value right.now)) }
@@ -125,7 +125,7 @@ pub fn compared(op: CompareOp, left: &Value, right: &Value) -> Result<Value, Sto
     }
 }
 
-// An int that a script may have.
+// An int, or a bad value at token `at` if it has more than 64 bits.
 fn int(at: u32, number: i128) -> Result<Value, Stop>
     ensures { Gives (λ v. view_value v) result (int_at at number) }
 {
@@ -138,7 +138,7 @@ fn int(at: u32, number: i128) -> Result<Value, Stop>
     Ok(Value::Int(number as i64))
 }
 
-// A decimal of so many millionths.
+// The decimal of this number of millionths, or a bad value at token `at` beyond 10^15.
 fn decimal(at: u32, millionths: i128) -> Result<Value, Stop>
     ensures { Gives (λ v. view_value v) result (decimal_at at millionths) }
 {
@@ -153,7 +153,7 @@ fn decimal(at: u32, millionths: i128) -> Result<Value, Stop>
     }))
 }
 
-// A sum of ints, or with `minus` a difference.
+// The sum of two ints, or with `minus` their difference.
 fn int_sum(minus: bool, at: u32, a: i64, b: i64) -> Result<Value, Stop>
     ensures { Gives (λ v. view_value v) result (int_at at (plus_or_minus minus a b)) }
 {
@@ -164,7 +164,7 @@ fn int_sum(minus: bool, at: u32, a: i64, b: i64) -> Result<Value, Stop>
     }
 }
 
-// The same of decimals.
+// The sum of two decimals, or with `minus` their difference.
 fn decimal_sum(minus: bool, at: u32, a: Decimal, b: Decimal) -> Result<Value, Stop>
     ensures { Gives (λ v. view_value v) result (decimal_at at (plus_or_minus minus a.millionths b.millionths)) }
 {
@@ -175,7 +175,8 @@ fn decimal_sum(minus: bool, at: u32, a: Decimal, b: Decimal) -> Result<Value, St
     }
 }
 
-// A quotient toward zero, of a number that was made so many times as large.
+// The quotient of `a` and `b`, rounded toward zero; `None` if `b` is 0. `a` may be as large as a number of 64 bits
+// times a million.
 #[tactic(auto, unfolding(crate::specs::Numbers::quotient))]
 fn divided(a: i128, b: i64) -> Option<i128>
     requires low { negsuc 9223372036854775807999999 ≤ℤ a }
@@ -188,6 +189,7 @@ fn divided(a: i128, b: i64) -> Option<i128>
     Some(a / i128::from(b))
 }
 
+/// The quotient of two ints, rounded toward zero.
 fn int_quotient(at: u32, a: i64, b: i64) -> Result<Value, Stop>
     ensures { Gives (λ v. view_value v) result (quotient_at at (int_at at) (quotient a b)) }
 {
@@ -197,6 +199,7 @@ fn int_quotient(at: u32, a: i64, b: i64) -> Result<Value, Stop>
     }
 }
 
+/// The quotient of two decimals, rounded toward zero to a millionth.
 fn decimal_quotient(at: u32, a: Decimal, b: Decimal) -> Result<Value, Stop>
     ensures { Gives (λ v. view_value v) result
         (quotient_at at (decimal_at at) (quotient (a.millionths *ℤ pos 1000000) b.millionths)) }
@@ -207,30 +210,35 @@ fn decimal_quotient(at: u32, a: Decimal, b: Decimal) -> Result<Value, Stop>
     }
 }
 
+/// The product of two ints.
 fn int_product(at: u32, a: i64, b: i64) -> Result<Value, Stop>
     ensures { Gives (λ v. view_value v) result (int_at at (a *ℤ b)) }
 {
     int(at, i128::from(a) * i128::from(b))
 }
 
+/// The product of two numbers of millionths: in millionths of a millionth.
 fn product(a: i64, b: i64) -> i128
     ensures { result ≡ a *ℤ b }
 {
     i128::from(a) * i128::from(b)
 }
 
+/// Millionths of a millionth as millionths, rounded toward zero.
 fn in_units(millionths: i128) -> i128
     ensures { result ≡ int_div millionths (pos 1000000) }
 {
     millionths / 1_000_000
 }
 
+/// The product of two decimals, rounded toward zero to a millionth.
 fn decimal_product(at: u32, a: Decimal, b: Decimal) -> Result<Value, Stop>
     ensures { Gives (λ v. view_value v) result (decimal_at at (int_div (a.millionths *ℤ b.millionths) (pos 1000000))) }
 {
     decimal(at, in_units(product(a.millionths, b.millionths)))
 }
 
+/// Whether two numbers compare as the operator says.
 fn holds(op: CompareOp, a: i64, b: i64) -> bool
     ensures { result ≡ is_so op a b }
 {

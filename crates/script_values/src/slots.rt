@@ -10,7 +10,7 @@ use crate::Value;
 use liq_base::{Memory, Text};
 use std::alloc::Global;
 
-/// The value of a binding, by the token of the name that it binds.
+/// A binding: the token of the name that it binds, and its value.
 #[derive(Drop)]
 pub struct Slot {
     pub at: u32,
@@ -24,7 +24,7 @@ pub struct Given {
     pub value: Value,
 }
 
-/// The value of the binding at this token.
+/// The value of the first binding whose name stands at token `at`; `None` if there is none.
 pub fn slot_at(slots: &[Slot], at: u32) -> Option<&Value>
     ensures { option_map (λ v. view_value v.now) result ≡ value_at_token at (map view_slot slots.now) }
 {
@@ -36,7 +36,7 @@ pub fn slot_at(slots: &[Slot], at: u32) -> Option<&Value>
     None
 }
 
-/// Takes the first argument with this label, or the first without one.
+/// Takes the first argument with this label, or the first without one; `None` if there is none.
 pub fn argument(given: &mut Vec<Given>, label: Option<&str>) -> Option<Value>
     ensures taken { option_map (λ v. (view_value v, map view_given given.new.items)) result
         ≡ argument (option_map (λ t. t.now) label.entry) (map view_given given.old.items) }
@@ -58,6 +58,7 @@ pub fn copy_label(alloc: Global, label: &Option<Text>) -> Result<Option<Text>, M
     }
 }
 
+/// Whether an argument's label is the wanted one; `None` is an argument without a label.
 fn is_label(wanted: Option<&str>, label: &Option<Text>) -> bool
     ensures { result ≡ is_label (option_map (λ t. t.now) wanted.entry) label.now }
 {
@@ -68,7 +69,7 @@ fn is_label(wanted: Option<&str>, label: &Option<Text>) -> bool
     }
 }
 
-// The place of the first argument with this label, or the first without one.
+// The index of the first argument with this label, or of the first without one; `None` if there is none.
 fn place_of(given: &[Given], label: Option<&str>) -> Option<usize>
     ensures found { IfSome result (λ i. IsPlace (option_map (λ t. t.now) label.entry) given.now i) }
     ensures none { IfNone result (None ≡ argument (option_map (λ t. t.now) label.entry) (map view_given given.now)) }

@@ -46,7 +46,8 @@ pub enum Value {
     Tuple(Vec<Value>),
 }
 
-/// The size of a value, which is what a name for it costs, or `u64::MAX` where it is more than that.
+/// The size of a value, or `u64::MAX` where it is more: 1, and for a list or a tuple the sizes of its parts besides. A
+/// name for the value costs so much work.
 #[cycle(size)]
 pub fn size(value: &Value) -> u64
     ensures { result ≡ min (size (view_value value.now)) u64.MAX }
@@ -77,20 +78,21 @@ pub fn copy(alloc: Global, value: &Value) -> Result<Value, Memory>
     }
 }
 
-/// A list of values.
+/// The list of these values as a value.
 pub fn listed(parts: Vec<Value>) -> Value
     ensures { view_value result ≡ a_list (many (map view_value parts.items)) }
 {
     Value::Listed(parts)
 }
 
-/// A tuple of values.
+/// The tuple of these values as a value.
 pub fn tuple(parts: Vec<Value>) -> Value
     ensures { view_value result ≡ a_tuple (many (map view_value parts.items)) }
 {
     Value::Tuple(parts)
 }
 
+/// The sum of the sizes of these values, or `u64::MAX` where it is more.
 #[cycle(size)]
 fn sizes(parts: &[Value]) -> u64
     ensures { result ≡ min (size (many (map view_value parts.now))) u64.MAX }
@@ -102,6 +104,7 @@ fn sizes(parts: &[Value]) -> u64
     sum
 }
 
+/// Copies of these values, in order.
 #[cycle(copy)]
 fn copies(alloc: Global, parts: &[Value]) -> Result<Vec<Value>, Memory>
     ensures { IfOk result (λ copies. map view_value copies.items ≡ map view_value parts.now) }

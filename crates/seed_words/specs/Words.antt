@@ -4,12 +4,12 @@ use Rattle.rand_core.specs.Pcg32Seed.{pcg32_seed}
 use Rattle.rand_pcg.specs.Lcg.{Lcg}
 use Rattle.rand_pcg.specs.Pcg.{pcg32, pcg32_of_seed}
 
--- the generator of a seed after its first n words, and word n, counted from 0
+-- the generator of a seed after its first n words
 unfoldable pub generator_after : (seed n : ℕ) → Lcg
 generator_after seed zero = pcg32_of_seed (pcg32_seed 16 seed)
 generator_after seed (suc n) = (pcg32 (generator_after seed n)).1
 
--- the n-th word of chance of a seed
+-- word n of a seed, counted from 0
 abbrev pub word : (seed n : ℕ) → ℕ
 word seed n = (pcg32 (generator_after seed n)).0
 

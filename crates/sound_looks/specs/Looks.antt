@@ -21,7 +21,7 @@ use Rattle.sound_looks.specs.declared.look.Look.TheVariants.{Unread, Bad, Sound}
 use Rattle.sound_looks.specs.declared.list.ListLook.{ListLook}
 use Rattle.sound_looks.specs.declared.list.ListLook.TheVariants as list_look
 
--- of the WAV file of these bytes
+-- what is told of the WAV file of these bytes
 abbrev pub facts_of : Rules → (bytes : List ℕ) → Wav → Facts
 facts_of rules bytes wav = record {
   kind = wav.kind;
@@ -33,7 +33,7 @@ facts_of rules bytes wav = record {
   bytes = counted_bytes (length bytes) (sound_of rules.rate wav);
 }
 
--- the same, by its head
+-- what is told of a WAV file by its head, where the file has `size` bytes
 abbrev pub head_facts : Rules → (size : ℕ) → Head → Facts
 head_facts rules size head = record {
   kind = head.kind;
@@ -45,22 +45,23 @@ head_facts rules size head = record {
   bytes = max size (written_size head rules.rate);
 }
 
--- of these bytes, as they were read
+-- what a look finds in bytes that were read as a WAV file, or were none
 abbrev pub look_in : Rules → (bytes : List ℕ) → Result Wav WavFault → Look
 look_in rules bytes (Err fault) = Bad (NotWav fault)
 look_in rules bytes (Ok wav) = Sound (facts_of rules bytes wav)
 
--- of a file
+-- what a look finds in a file, by its bytes, or why it has none of use
 abbrev pub look_of : Rules → Result (List ℕ) Unusable → Look
 look_of rules (Err fault) = Bad fault
 look_of rules (Ok bytes) = look_in rules bytes (read_of bytes)
 
--- the file of a name is this, where the shelf tells its files
+-- if the shelf tells its files, this is what a look finds in the file of this name
 abbrev pub Looks : Rules → (name : List ℕ) → ShelfTold → Look → Type 0
 Looks rules name told found = ForSome told.files
     (λ files. look_of rules (bytes_in rules.file (file_at files name)) ≡ found)
 
--- what was found under a name: a read that failed let the count rise, and else it is what the file is
+-- what a look at the file of this name found: if it says that the read failed, the count of these rose, and otherwise
+-- it is what the file is
 abbrev pub IsLooked : Rules → (name : List ℕ) → (old new : ShelfTold) → Look → Type 0
 IsLooked rules name old new Unread = Rose old.reads new.reads
 IsLooked rules name old new (Bad fault) = Looks rules name old (Bad fault)
@@ -70,29 +71,33 @@ IsLooked rules name old new (Sound facts) = Looks rules name old (Sound facts)
 abbrev pub is_skipped : List ℕ → Bool
 is_skipped line = not (nat_eq (length line) 0) && not (nat_eq (slice_index line 0) 35) && not (is_utf8 line)
 
--- how many of these lines are skipped so
+-- how many of these lines would be names if they were UTF-8
 abbrev pub skipped_among : List (List ℕ) → ℕ
 skipped_among [] = 0
 skipped_among (line ∷ lines) = if is_skipped (without_cr line) then 1 + skipped_among lines else skipped_among lines
 
+-- how many lines of a list would be names if they were UTF-8
 abbrev pub skipped_in : List ℕ → ℕ
 skipped_in bytes = skipped_among (lines (without_mark bytes))
 
--- the names of a list and how many lines were skipped, as it was read
+-- the names of a list and how many lines are skipped, by its bytes, or why it has none of use
 abbrev pub list_look_of : Result (List ℕ) Unusable → Result (List (List ℕ) × ℕ) Unusable
 list_look_of (Err fault) = Err fault
 list_look_of (Ok bytes) = Ok (names_listed bytes, skipped_in bytes)
 
+-- if the shelf tells its files, the list of this name is of no use for this reason, or has these names and so many
+-- skipped lines
 abbrev pub ListLooks : (name : List ℕ) → ShelfTold → Result (List (List ℕ) × ℕ) Unusable → Type 0
 ListLooks name told found = ForSome told.files (λ files. list_look_of (bytes_in (2 ^ 20) (file_at files name)) ≡ found)
 
--- the same of a list
+-- what a look at the list of this name found: that it was not read, why it is of no use, or its names and how many
+-- lines are skipped
 abbrev pub IsListLook : (name : List ℕ) → (old new : ShelfTold) → ListLook → Type 0
 IsListLook name old new list_look.Unread = Rose old.reads new.reads
 IsListLook name old new (list_look.Bad fault) = ListLooks name old (Err fault)
 IsListLook name old new (list_look.Names names skipped) = ListLooks name old (Ok (names.items, skipped))
 
--- whether a file that was looked at is used where it is met alone, and for how many bytes it counts
+-- the bytes for which a file that was looked at counts, if it is used where it is met alone; otherwise why it is not
 abbrev pub counted_as : Rules → Look → Result ℕ Unusable
 counted_as rules Unread = Err NotThere
 counted_as rules (Bad fault) = Err fault

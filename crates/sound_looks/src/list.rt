@@ -56,6 +56,7 @@ fn count_skipped(bytes: &[u8]) -> u64
     count
 }
 
+// Whether a line would be a name if it were UTF-8.
 fn is_skipped(line: &[u8]) -> bool
     ensures { result ≡ is_skipped (without_cr line.now) }
 {

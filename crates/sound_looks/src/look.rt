@@ -47,7 +47,7 @@ pub enum Look {
     Sound(Facts),
 }
 
-/// Looks at the audio file of this name. What was read of it is given back before it answers.
+/// Looks at the audio file of this name, by the rules of a plan. What was read of it is given back before it returns.
 pub fn look_at<S: Shelf>(
     alloc: Global,
     shelf: &mut S,
@@ -66,7 +66,7 @@ pub fn look_at<S: Shelf>(
     }
 }
 
-// The facts of a WAV file of this head and of so many bytes.
+// The facts of a WAV file of this head, which has `size` bytes.
 fn facts_of(size: u64, head: Head, rules: Rules) -> Facts
     requires rules { AreRules rules }
     requires rate { 0 < head.rate }

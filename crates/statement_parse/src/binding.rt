@@ -1,5 +1,6 @@
 // Bindings in the body of a def, each function reading as `script_grammar`'s reading functions do; the production that
-// it reads stands at its head, in the notation of `docs/grammar.md`.
+// it reads stands at its head, in the notation of `docs/grammar.md`. The tokens are the last of `total`, by which a
+// field `at` is an index.
 ghost use Rattle.std.specs.Prelude.{◌<◌, ◌≤◌, ◌^◌, true, IfOk, length, map};
 ghost use Rattle.std.specs.List.{All};
 ghost use Rattle.script_grammar.specs.Read.{many};
@@ -68,7 +69,7 @@ fn bind(alloc: Global, total: usize, tokens: &[Token]) -> Result<(Bind, &[Token]
     bind_of(alloc, total, at, name, after)
 }
 
-// `=` value, behind the name.
+// `=` value, behind the name, whose index is `at`.
 fn bind_of<'a>(
     alloc: Global,
     total: usize,

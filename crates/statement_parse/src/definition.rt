@@ -34,7 +34,7 @@ pub fn def(alloc: Global, total: usize, tokens: &[Token]) -> Result<(Def, &[Toke
     def_of(alloc, total, at, name, after)
 }
 
-// (param (`,` param)*)? `)` `=`? inner* expression `end`, behind the name.
+// (param (`,` param)*)? `)` `=`? inner* expression `end`, behind the name, whose index is `at`.
 fn def_of<'a>(
     alloc: Global,
     total: usize,

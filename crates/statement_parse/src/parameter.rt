@@ -36,7 +36,7 @@ pub fn params(
     Ok((items, rest))
 }
 
-// The same, pushed to a list that is empty at first.
+// (param (`,` param)*)? `)`, pushed to a list that is empty at first.
 #[tactic(auto, unfolding(script_grammar::specs::Read::closed))]
 fn push_params<'a>(
     alloc: Global,
@@ -166,7 +166,7 @@ fn labelled(alloc: Global, total: usize, tokens: &[Token]) -> Result<(Param, &[T
     label_of(alloc, total, at, name, after)
 }
 
-// (`=` value)?, behind the `~` and the name.
+// (`=` value)?, behind the `~` and the name, whose index is `at`.
 #[tactic(auto, unfolding(crate::specs::Reads::label_of))]
 fn label_of<'a>(
     alloc: Global,
@@ -192,7 +192,7 @@ fn label_of<'a>(
     }
 }
 
-// value, the default of a parameter.
+// value, the default of a parameter. `at` is the index of its name.
 fn default_of<'a>(
     alloc: Global,
     total: usize,

@@ -73,7 +73,7 @@ fn statement<'a>(
     }
 }
 
-// binding `;`?
+// binding `;`? It is pushed.
 #[tactic(auto, using(crate::proofs::Arms::bind_is))]
 fn bind_stmt<'a>(
     alloc: Global,
@@ -94,7 +94,7 @@ fn bind_stmt<'a>(
     bind_stmt_of(alloc, total, items, at, name, after)
 }
 
-// `=` value `;`?, behind the name of a binding.
+// `=` value `;`?, behind the name of a binding, whose index is `at`. The binding is pushed.
 fn bind_stmt_of<'a>(
     alloc: Global,
     total: usize,
@@ -116,7 +116,8 @@ fn bind_stmt_of<'a>(
     keep_bind(items, at, name, value(alloc, total, false, rest))
 }
 
-// The same, once the value is read.
+// Pushes the binding of the value that was read, with the `;` that may stand behind it, and answers the tokens behind
+// both. `at` is the index of its name.
 fn keep_bind<'a>(
     items: &mut Vec<Stmt>,
     at: u32,
@@ -135,7 +136,7 @@ fn keep_bind<'a>(
     Ok(keep(items, StmtPart::Bind(Bind { at, name, value }), rest))
 }
 
-// The statement that a def makes, and the `;` that may stand behind it.
+// Pushes the def that was read, with the `;` that may stand behind it, and answers the tokens behind both.
 fn keep_def<'a>(
     items: &mut Vec<Stmt>,
     read: Result<(Def, &'a [Token]), Fault>,
@@ -152,7 +153,7 @@ fn keep_def<'a>(
     Ok(keep(items, StmtPart::Def(def), rest))
 }
 
-// That of a call.
+// Pushes the call that was read, with the `;` that may stand behind it, and answers the tokens behind both.
 fn keep_call<'a>(
     items: &mut Vec<Stmt>,
     read: Result<(Call, &'a [Token]), Fault>,
@@ -169,7 +170,7 @@ fn keep_call<'a>(
     Ok(keep(items, StmtPart::Call(call), rest))
 }
 
-// That of an `if`.
+// Pushes the `if` that was read, with the `;` that may stand behind it, and answers the tokens behind both.
 fn keep_if<'a>(
     items: &mut Vec<Stmt>,
     read: Result<(If, &'a [Token]), Fault>,

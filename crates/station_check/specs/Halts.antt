@@ -18,14 +18,14 @@ use Rattle.station_check.specs.Steps.{OnlyCause}
 use Rattle.station_check.specs.declared.halt.CheckEnd.{CheckEnd}
 use Rattle.station_check.specs.declared.halt.CheckEnd.TheVariants.{Refused, Read, Memory}
 
--- a plan is refused for what is found where the files are told; a read failed where the count of failed reads rose; and
--- memory may be refused anywhere
+-- why a check ends: a plan is refused for what is found where the files are told; a read failed where the count of
+-- failed reads rose; and memory may be refused anywhere
 abbrev pub HaltsFor : (old new : ShelfTold) → (Files → StationFault → Type 0) → CheckEnd → Type 0
 HaltsFor old new IsTold (Refused fault) = ForSome old.files (λ files. IsTold files fault)
 HaltsFor old new IsTold Read = Rose old.reads new.reads
 HaltsFor old new IsTold Memory = ⊤
 
--- how a check ends at a fault of files, and at one of clocks
+-- how a check ends at this fault of files
 abbrev pub load_halt : LoadFault → CheckEnd
 load_halt (Missing name) = Refused (StationFault.Files (Missing name))
 load_halt (BadAudio name fault) = Refused (StationFault.Files (BadAudio name fault))
@@ -34,13 +34,14 @@ load_halt AllTooLarge = Refused (StationFault.Files AllTooLarge)
 load_halt (ReadFault name) = Read
 load_halt LoadFault.Memory = Memory
 
+-- how a check ends at this fault of clocks
 abbrev pub clock_halt : ClockFault → CheckEnd
 clock_halt (TwoClocks node first second) = Refused (Clocks (TwoClocks node first second))
 clock_halt (Nested node) = Refused (Clocks (Nested node))
 clock_halt TooManyClocks = Refused (Clocks TooManyClocks)
 clock_halt ClockFault.Memory = Memory
 
--- the first output that needs an infallible node and has none
+-- the fault of a plan with an output that needs an infallible node and has none: it names the first one
 pub record IsGapped (plan : Plan) (fault : StationFault) : Type 0 where
   pub name : List ℕ
   pub fault_is : fault ≡ FallibleOutput name
@@ -48,34 +49,37 @@ pub record IsGapped (plan : Plan) (fault : StationFault) : Type 0 where
   pub marking : IsMarking plan.nodes mark
   pub first : first_name (refuses mark) plan.sinks ≡ Some name
 
+-- how the look for outputs that may have gaps ends, where it does not pass
 abbrev pub GapHalts : Plan → CheckEnd → Type 0
 GapHalts plan (Refused fault) = IsGapped plan fault
 GapHalts plan Read = ⊥
 GapHalts plan Memory = ⊤
 
--- the fault of clocks
+-- the fault of a plan that has no clocks: it has the only cause
 pub record HasNoClocks (plan : Plan) (fault : StationFault) : Type 0 where
   pub clock_fault : ClockFault
   pub fault_is : fault ≡ Clocks clock_fault
   pub only_cause : OnlyCause plan clock_fault
 
+-- how the look for clocks ends, where it does not pass
 abbrev pub ClockHalts : Plan → CheckEnd → Type 0
 ClockHalts plan (Refused fault) = HasNoClocks plan fault
 ClockHalts plan Read = ⊥
 ClockHalts plan Memory = ⊤
 
--- the first output that is too long
+-- the fault of a plan with an output that is too long after so many ticks: it names the first one
 pub record IsLong (plan : Plan) (ticks : ℕ) (fault : StationFault) : Type 0 where
   pub name : List ℕ
   pub fault_is : fault ≡ OutputTooLong name
   pub first : first_name (is_too_long plan ticks) plan.sinks ≡ Some name
 
+-- how the look for outputs that are too long ends, where it does not pass
 abbrev pub LengthHalts : Plan → (ticks : ℕ) → CheckEnd → Type 0
 LengthHalts plan ticks (Refused fault) = IsLong plan ticks fault
 LengthHalts plan ticks Read = ⊥
 LengthHalts plan ticks Memory = ⊤
 
--- the fault of a plan whose audio files are there
+-- how the check of a plan whose audio files are there ends, where it does not pass
 abbrev pub RestHalts : Plan → (ticks : ℕ) → CheckEnd → Type 0
 RestHalts plan ticks (Refused fault) = (files : Files) (library : Sounds) → IsLoaded files plan library
     → IsFound files plan ticks (Fails fault)

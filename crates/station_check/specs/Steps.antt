@@ -14,19 +14,19 @@ use Rattle.stations.specs.Findings.{Fits, IsFound, first_name}
 use Rattle.stations.specs.Reports.{checked_line}
 use Rattle.stations.specs.Stations.{Station}
 
--- each output has an infallible node, or is written with `fallible=true`
+-- each output of a plan has an infallible node, or is written with `fallible=true`
 pub record IsUngapped (plan : Plan) : Type 0 where
   pub mark : ℕ → Bool
   pub marking : IsMarking plan.nodes mark
   pub none : first_name (refuses mark) plan.sinks ≡ None
 
--- the clocks of a plan, which has no others and no fault of clocks
+-- these are the clocks of a plan, which has no others and no fault of clocks
 pub record OnlyClocks (plan : Plan) (clocks : ClockMap) : Type 0 where
   pub map : IsClockMap plan clocks
   pub only : (other : ClockMap) → IsClockMap plan other → other ≡ clocks
   pub apart : (fault : ClockFault) → fault ≢ Memory → IsCause plan fault → ⊥
 
--- the fault of clocks of a plan, which has no other and no clocks
+-- this is why a plan has no clocks, and there is no other cause
 pub record OnlyCause (plan : Plan) (fault : ClockFault) : Type 0 where
   pub of_plan : fault ≢ Memory
   pub cause : IsCause plan fault
@@ -43,7 +43,7 @@ pub record IsOf (plan : Plan) (clocks : ClockMap) (station : Station) : Type 0 w
   pub plan_is : station.plan ≡ plan
   pub clocks_are : station.clocks ≡ clocks
 
--- the line of a sink in the report of a check
+-- the line of a sink in the report of a check; a feed has none
 abbrev pub sink_line : ClockMap → (mark : ℕ → Bool) → SinkPlan → List ℕ
 sink_line clocks mark (Output name node fallible wide) = checked_line clocks mark name node
 sink_line clocks mark (Feed buffer node) = []

@@ -20,9 +20,9 @@ use plan_core::Plan;
 use stations::Ready;
 use std::alloc::Global;
 
-/// The audio files and the clocks of a plan that is to be rendered for so many ticks, at most 1000000000; or the first
-/// fault that stands against it, in the order of `docs/faults.md`. A check alone is that for no tick. Each file is read
-/// once, and files are as they were. No memory is taken for samples before all faults have been looked for.
+/// The audio files and the clocks of a plan that is to be rendered for so many ticks, at most 1000000000; or its first
+/// fault, in the order of `docs/faults.md`. A check alone is that for no tick. Each file is read once, and files are as
+/// they were. No memory is taken for samples before all faults have been looked for.
 pub fn check_plan<S: Shelf>(
     alloc: Global,
     plan: &Plan,
@@ -77,7 +77,7 @@ pub fn check_clocks<S: Shelf>(
     check_rest(alloc, plan, ticks)
 }
 
-// The clocks of a plan whose audio files are there, or its first fault.
+// The clocks of a plan whose audio files are there, or its first fault, if it is to be rendered for so many ticks.
 fn check_rest(alloc: Global, plan: &Plan, ticks: u64) -> Result<ClockMap, CheckEnd>
     requires plan { IsWellFormed plan.now }
     requires few { ticks ≤ 1000000000 }

@@ -15,7 +15,7 @@ use stations::StationFault;
 use std::alloc::Global;
 use track_library::{LoadFault, PlanFiles, Sizes, find_files, try_files};
 
-/// How many bytes the audio files of a plan may count for.
+/// How many bytes an audio file, and all audio files of a plan, may count for.
 const SIZES: Sizes = Sizes {
     file: MAX_FILE_BYTES,
     all: MAX_ALL_BYTES,
@@ -54,7 +54,7 @@ pub fn check_files<S: Shelf>(alloc: Global, plan: &Plan, shelf: &mut S) -> Resul
     }
 }
 
-// How a check ends at a fault of files.
+// How a check ends at this fault of files.
 fn halt_of(fault: LoadFault) -> CheckEnd
     ensures { result ≡ load_halt fault }
 {

@@ -30,7 +30,7 @@ pub fn check_lengths(alloc: Global, plan: &Plan, ticks: u64) -> Result<(), Check
     Ok(())
 }
 
-// The kind of a node.
+// Whether a node is mono or stereo.
 fn kind_at(plan: &Plan, node: u32) -> Kind
     ensures { result ≡ node_kind plan.now node }
 {
@@ -40,7 +40,7 @@ fn kind_at(plan: &Plan, node: u32) -> Kind
     }
 }
 
-// Whether an output is too long for a header after so many ticks.
+// Whether a sink is an output that is too long for the header of its file after so many ticks.
 fn is_too_long(plan: &Plan, ticks: u64, sink: &SinkPlan) -> bool
     requires plan { IsWellFormed plan.now }
     requires few { ticks ≤ 1000000000 }
@@ -55,7 +55,7 @@ fn is_too_long(plan: &Plan, ticks: u64, sink: &SinkPlan) -> bool
     }
 }
 
-// Whether a file of this width with so many samples on each side has no header.
+// Whether so many samples of each channel, wide or not, are too many for the header of a file.
 fn has_no_header(wide: bool, kind: Kind, rate: u32, samples: u64) -> bool
     requires { rate ≤ MAX_RATE }
     ensures { result ≡ is_none (header_at wide kind rate samples) }

@@ -31,7 +31,7 @@ pub fn check_report(alloc: Global, plan: &Plan, clocks: &ClockMap) -> Result<Str
     Ok(text)
 }
 
-// Adds the line of a sink; a feed has none.
+// Adds the line of a sink, if it is an output; `marks` says which nodes are infallible.
 fn push_sink(
     alloc: Global,
     text: &mut String,
@@ -50,7 +50,7 @@ fn push_sink(
     Ok(())
 }
 
-// The line of an output.
+// The line of the output of this name, whose node lies in this clock.
 fn output_line(alloc: Global, name: &str, clock: &str, infallible: bool) -> Result<String, Memory>
     ensures { IfOk result (λ line. string_bytes line
         ≡ codes "output " ++ name.now ++ codes " clock " ++ clock.now ++ codes " " ++ fallible_word infallible
@@ -60,7 +60,7 @@ fn output_line(alloc: Global, name: &str, clock: &str, infallible: bool) -> Resu
     Ok(format!(in alloc; "output {name} clock {clock} {word}\n")?)
 }
 
-// How a report names a source that is infallible or not.
+// How a report calls a source that is infallible, or is not.
 fn fallible_word(infallible: bool) -> &'static str
     ensures { result.now ≡ fallible_word infallible }
 {

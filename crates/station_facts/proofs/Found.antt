@@ -2,7 +2,10 @@
 use Rattle.std.proofs.Common.{◌≡◌, ℕ, ◌+◌, ◌<◌, List, [], ◌∷◌, ◌++◌, take, get_or, refl, sym, ap, ◌∙◌, subst, arith, length}
 use Rattle.std.proofs.lemmas.List.{take_more}
 use Rattle.liq_base.specs.Shelves.{OnlyRead, ShelfTold}
-use Rattle.station_facts.specs.Files.{AreFound}
+use Rattle.plan_core.specs.declared.plan.Plan.{Plan}
+use Rattle.sound_looks.specs.Looks.{IsListLook}
+use Rattle.sound_looks.specs.declared.list.ListLook.{ListLook}
+use Rattle.station_facts.specs.Files.{AreFound, AreListLooks, HasNoFiles, lists_of, once, sounds_of}
 
 found_push : {A : Type 0} (P : List ℕ → (old new : ShelfTold) → A → Type 0) (names : List (List ℕ)) (looks : List A)
     (name : List ℕ) (look : A) (a b c : ShelfTold) → AreFound P names a b looks → P name b c look → OnlyRead b c
@@ -46,3 +49,22 @@ found_on P names i name look looks more a b c here is so_far found read pushed =
       (ap (λ (n : List ℕ). take i names ++ n ∷ []) is ∙ sym (take_more names i name here))
       (found_push P (take i names) looks name look a b c so_far.are found read));
 }
+
+-- nothing is found under no names
+found_none : {A : Type 0} (P : List ℕ → (old new : ShelfTold) → A → Type 0) (names : List (List ℕ)) (a b : ShelfTold) (looks : List A)
+    → names ≡ [] → AreFound P names a b looks → looks ≡ []
+found_none P [] a b [] none are = refl
+found_none P [] a b (look ∷ looks) none are = absurd are
+found_none P (name ∷ names) a b looks none are = absurd cc
+
+none_sounds : (plan : Plan) (looks : List ListLook) → HasNoFiles plan → looks ≡ [] → sounds_of plan looks ≡ []
+none_sounds plan looks none is = ap (sounds_of plan) is ∙ ap (λ (names : List (List ℕ)). once (names ++ [])) none.1
+
+-- the lists that were asked for and their looks, the sounds that these give, and a shelf that stays at each if it is asked for none
+pub none_asked : {S : Type 0} {s t u : S} (plan : Plan) (names keys sounds sound_keys : List (List ℕ)) (looks given : List ListLook) (a b : ShelfTold)
+    → (names ≡ [] → t ≡ s) → (sounds ≡ [] → u ≡ t) → names ≡ keys → keys ≡ lists_of plan → AreListLooks names a b looks
+    → sounds ≡ sound_keys → sound_keys ≡ sounds_of plan given → given ≡ looks → HasNoFiles plan → u ≡ s
+none_asked plan names keys sounds sound_keys looks given a b lists_kept sounds_kept named listed found told all same none =
+    let no_lists : names ≡ [] = named ∙ listed ∙ ap once none.0 in
+    let no_looks : given ≡ [] = same ∙ found_none IsListLook names a b looks no_lists found in
+    sounds_kept (told ∙ all ∙ none_sounds plan given none no_looks) ∙ lists_kept no_lists

@@ -11,17 +11,18 @@ use Rattle.week_plan.specs.declared.span.Span.{Span}
 use Rattle.week_windows.specs.Windows.{case_spans, hole_spans}
 use Rattle.station_facts.specs.Members.{list_member, number_member, object}
 
--- the cases of a source, and one more for the seconds at which none holds
+-- how many cases a switch has, and one more for the seconds at which none holds; 0 of another source
 abbrev pub cases_in : Op → ℕ
 cases_in (Switch sensitive preds) = length preds + 1
 cases_in _ = 0
 
--- those of these sources and so many more; more than 100,000 are not counted
+-- n and how many cases these sources have; where they are more than 100,000, 100,001
 abbrev pub cases_to : ℕ → List Node → ℕ
 cases_to n [] = n
 cases_to n (node ∷ nodes) = cases_to (min (n + cases_in node.op) 100001) nodes
 
--- How many spans are told of a case, at most: so of all cases no more than 100,000 are told.
+-- How many spans are told of a case at most: 2000, or, if there are many cases, so few that all of them have no more
+-- than 100,000.
 abbrev pub most_spans : List Node → ℕ
 most_spans nodes = min (100000 / max (cases_to 0 nodes) 1) 2000
 
@@ -29,11 +30,11 @@ most_spans nodes = min (100000 / max (cases_to 0 nodes) 1) 2000
 abbrev pub span_list : Span → List Token
 span_list span = begin_array ∷ number (decimal span.from) ∷ number (decimal span.to) ∷ end_array ∷ []
 
--- the spans, unless they are more than the most
+-- the spans of a case, unless they are more than `most`
 abbrev pub spans_member : (most : ℕ) → List Span → List Token
 spans_member most spans = if nat_le (length spans) most then list_member (codes "spans") span_list spans else []
 
--- how many spans there are, and they
+-- the object of a case: how many spans it has, and these, unless they are more than `most`
 abbrev pub hours_object : (most : ℕ) → List Span → List Token
 hours_object most spans = object (number_member (codes "count") (length spans) ++ spans_member most spans)
 
@@ -45,31 +46,33 @@ switch_of most place cases none at = object (number_member (codes "source") plac
     ++ (list_member (codes "cases") (hours_object most) cases
     ++ (key (codes "none") ∷ hours_object most none))))
 
--- the same, by the predicates of its cases
+-- the object of switch `place`, by the predicates of its cases; its call begins at byte `at` of the script, and no more
+-- than `most` spans are told of a case
 abbrev pub switch_object : (most place : ℕ) → List Predicate → (at : ℕ) → List Token
 switch_object most place preds at = switch_of most place (case_spans [] preds) (hole_spans preds) at
 
--- of another source nothing is told
+-- the object of source `place`, if it is a switch; of another source nothing is told
 abbrev pub source_hours : (most place : ℕ) → Op → (at : ℕ) → List Token
 source_hours most place (Switch sensitive preds) at = switch_object most place preds at
 source_hours most place _ at = []
 
--- the switches among these sources, of which the first has this number
+-- the objects of the switches among these sources; the first source has number `place`, and `ats` has the byte of the
+-- script at which the call of each begins
 abbrev pub switches_from : (most place : ℕ) → List Node → (ats : List ℕ) → List Token
 switches_from most place [] ats = []
 switches_from most place (node ∷ nodes) [] = []
 switches_from most place (node ∷ nodes) (at ∷ ats) =
     source_hours most place node.op at ++ switches_from most (place + 1) nodes ats
 
--- the object of the switches among these sources
+-- the object of the switches among these sources; no more than `most` spans are told of a case
 abbrev pub switches_object : (most : ℕ) → List Node → (ats : List ℕ) → List Token
 switches_object most nodes ats = object (number_member (codes "most") most
     ++ (key (codes "switches") ∷ begin_array ∷ (switches_from most 0 nodes ats ++ end_array ∷ [])))
 
--- the whole object
+-- the whole object of the hours of a plan
 abbrev pub week_object : Plan → (ats : List ℕ) → List Token
 week_object plan ats = switches_object (most_spans plan.nodes) plan.nodes ats
 
--- what is told of the hours of a plan, whose sources are made at these bytes
+-- what is told of the hours of a plan; `ats` has the byte of the script at which the call of each source begins
 abbrev pub AreHours : Plan → (ats : List ℕ) → (told : List ℕ) → Type 0
 AreHours plan ats told = told ≡ print (week_object plan ats)

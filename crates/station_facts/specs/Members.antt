@@ -10,41 +10,45 @@ pub record Adds (old new : Written) (more : List Token) : Type 0 where
   pub tokens : new.tokens ≡ old.tokens ++ more
   pub before : new.before ≡ old.before
 
+-- a member of this name that is a text
 abbrev pub text_member : (name text : List ℕ) → List Token
 text_member name text = key name ∷ string text ∷ []
 
+-- a member of this name that is a number
 abbrev pub number_member : (name : List ℕ) → ℕ → List Token
 number_member name n = key name ∷ number (decimal n) ∷ []
 
+-- a member of this name that is true or false
 abbrev pub flag_member : (name : List ℕ) → Bool → List Token
 flag_member name b = key name ∷ boolean b ∷ []
 
--- of each item, one after another
+-- the tokens of each item, one after another
 abbrev pub each : {A : Type 0} → (A → List Token) → List A → List Token
 each text [] = []
 each text (x ∷ xs) = text x ++ each text xs
 
--- a member that is a list
+-- a member that is a list of the tokens of these items
 abbrev pub list_member : {A : Type 0} → (name : List ℕ) → (A → List Token) → List A → List Token
 list_member name text xs = key name ∷ begin_array ∷ (each text xs ++ end_array ∷ [])
 
--- of each two items at one place of two lists
+-- the tokens of each two items at one place of two lists, one after another
 abbrev pub paired : {A B : Type 0} → (A → B → List Token) → List A → List B → List Token
 paired text [] ys = []
 paired text (x ∷ xs) [] = []
 paired text (x ∷ xs) (y ∷ ys) = text x y ++ paired text xs ys
 
--- a member that is a list of these
+-- a member that is a list of the tokens of each two items at one place of two lists
 abbrev pub paired_member : {A B : Type 0} → (name : List ℕ) → (A → B → List Token) → List A → List B → List Token
 paired_member name text xs ys = key name ∷ begin_array ∷ (paired text xs ys ++ end_array ∷ [])
 
--- of each three items at one place of three lists
+-- the tokens of each three items at one place of three lists, one after another
 abbrev pub by_threes : {A B C : Type 0} → (A → B → C → List Token) → List A → List B → List C → List Token
 by_threes text [] ys zs = []
 by_threes text (x ∷ xs) [] zs = []
 by_threes text (x ∷ xs) (y ∷ ys) [] = []
 by_threes text (x ∷ xs) (y ∷ ys) (z ∷ zs) = text x y z ++ by_threes text xs ys zs
 
+-- a member that is a list of the tokens of each three items at one place of three lists
 abbrev pub member_by_threes : {A B C : Type 0} → (name : List ℕ) → (A → B → C → List Token) → List A → List B → List C
     → List Token
 member_by_threes name text xs ys zs = key name ∷ begin_array ∷ (by_threes text xs ys zs ++ end_array ∷ [])
@@ -53,10 +57,11 @@ member_by_threes name text xs ys zs = key name ∷ begin_array ∷ (by_threes te
 abbrev pub object : List Token → List Token
 object members = begin_object ∷ (members ++ end_object ∷ [])
 
+-- how many channels there are
 abbrev pub kind_member : Kind → List Token
 kind_member kind = number_member (codes "sides") (channels_of kind)
 
--- the bits of a sample
+-- how many bits a sample has
 abbrev pub bits_of : (wide : Bool) → ℕ
 bits_of true = 24
 bits_of false = 16

@@ -23,28 +23,29 @@ abbrev pub AreClocks : Plan → Result ClockMap ClockFault → Type 0
 AreClocks plan (Ok clocks) = IsClockMap plan clocks
 AreClocks plan (Err cause) = (cause ≢ ClockFault.Memory) × IsCause plan cause
 
--- which of its sources are never silent, and its clocks
+-- what is inferred of a plan: which of its sources are never silent, and its clocks
 pub record IsInferred (plan : Plan) (inferred : Inferred) : Type 0 where
   pub each : length inferred.marks.items ≡ length plan.nodes
   pub marking : IsMarking plan.nodes (mark_at inferred.marks.items)
   pub are_clocks : AreClocks plan inferred.clocks
 
--- the channels of a source
+-- how many channels a source has
 abbrev pub side_members : Option Node → List Token
 side_members None = []
 side_members (Some node) = kind_member node.kind
 
+-- the name of a clock, if there is one
 abbrev pub name_members : Option (List ℕ) → List Token
 name_members None = []
 name_members (Some name) = text_member (codes "clock") name
 
--- the name of a main clock
+-- the name of a clock, if it is a main one
 abbrev pub main_members : ClockMap → Option NodeClock → List Token
 main_members clocks None = []
 main_members clocks (Some (Sub fade)) = []
 main_members clocks (Some (Main m)) = name_members (slice_get clocks.names m)
 
--- the clock of a source, where the plan has clocks
+-- the name of the main clock of a source, if the plan has clocks
 abbrev pub clock_members : Result ClockMap ClockFault → (node : ℕ) → List Token
 clock_members (Err cause) node = []
 clock_members (Ok clocks) node = main_members clocks (slice_get clocks.of node)
@@ -58,11 +59,12 @@ output_object plan inferred (Output name node fallible wide) = object (text_memb
     ++ clock_members inferred.clocks node)))))
 output_object plan inferred (Feed buffer node) = []
 
--- the windows of a case: how many it has in the week, and the seconds of the shortest and the longest one
+-- how many seconds the shortest and the longest window of a case have
 abbrev pub length_members : Windows → List Token
 length_members windows = number_member (codes "shortest") windows.shortest
     ++ number_member (codes "longest") windows.longest
 
+-- the windows of a case: how many it has in the week, and how long they are, if it has any
 abbrev pub windows_object : Windows → List Token
 windows_object windows = object (number_member (codes "count") windows.count
     ++ (if nat_eq windows.count 0 then [] else length_members windows))
@@ -99,7 +101,7 @@ source_object node always at = object (op_members node.op ++ (kind_member node.k
     ++ (list_member (codes "children") (λ child. number (decimal child) ∷ []) node.children
     ++ (flag_member (codes "always") always ++ number_member (codes "at") at))))
 
--- the members of a plan, whose sources are made at these bytes
+-- the members of a plan; `ats` has the byte of the script at which the call of each source begins
 abbrev pub plan_members : Plan → (ats : List ℕ) → Inferred → List Token
 plan_members plan ats inferred = number_member (codes "rate") plan.rate ++ (number_member (codes "tick") plan.frame
     ++ (list_member (codes "outputs") (output_object plan inferred) plan.sinks

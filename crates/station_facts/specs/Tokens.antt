@@ -10,7 +10,7 @@ use Rattle.script_lex.specs.declared.token.TokenKind.{TokenKind}
 use Rattle.script_lex.specs.declared.token.TokenKind.TheVariants as kind
 use Rattle.station_facts.specs.Members.{list_member, number_member, object}
 
--- the word of a kind
+-- the word for the kind of a token
 abbrev pub kind_word : TokenKind → List ℕ
 kind_word (kind.Name text) = codes "name"
 kind_word (kind.NameOpen text) = codes "open"
@@ -34,7 +34,7 @@ abbrev pub token_array : Token → List JsonToken
 token_array token = begin_array ∷ string (kind_word token.kind) ∷ number (decimal token.start)
     ∷ number (decimal token.end) ∷ (text_item token.kind ++ end_array ∷ [])
 
--- the number and the place of a fault
+-- the number of a fault, and the byte of the script at which it is, if it has one
 abbrev pub fault_members : LexFault → List JsonToken
 fault_members (faults.BadByte at) = number_member (codes "fault") 1 ++ number_member (codes "at") at
 fault_members (faults.UnclosedString at) = number_member (codes "fault") 2 ++ number_member (codes "at") at
@@ -42,6 +42,7 @@ fault_members (faults.NumberTooLarge at) = number_member (codes "fault") 3 ++ nu
 fault_members faults.TextTooLong = number_member (codes "fault") 4
 fault_members faults.Memory = []
 
+-- the fault at which the tokens end, if there is one
 abbrev pub stop_members : Option LexFault → List JsonToken
 stop_members None = []
 stop_members (Some fault) = fault_members fault

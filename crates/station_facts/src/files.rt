@@ -2,7 +2,7 @@
 ghost use Rattle.std.specs.Prelude.{◌≡◌, IfOk, OnOk, length};
 ghost use Rattle.liq_base.specs.Shelves.{OnlyRead};
 ghost use Rattle.plan_core.specs.Plans.{IsWellFormed};
-ghost use Rattle.station_facts.specs.Files.{files_object, limit_members, lists_of, sounds_of, IsTold};
+ghost use Rattle.station_facts.specs.Files.{files_object, HasNoFiles, IsTold, limit_members, lists_of, sounds_of};
 ghost use Rattle.station_facts.specs.Members.{Adds};
 ghost use Rattle.track_library.specs.Loads.{rules_for};
 ghost use Rattle.track_library.specs.States.{AreRules};
@@ -20,8 +20,9 @@ use sound_looks::{ListLook, Look};
 use std::alloc::Global;
 use track_library::{Rules, Sizes};
 
-/// What a plan is, whose sources are made at these bytes, and what becomes of each file that it plays, as one object of
-/// JSON. Each list and each audio file is read once, and of the audio files one is held at a time.
+/// What a plan is, and what becomes of each file that it plays, as one object of JSON. `ats` has the byte of the script
+/// at which the call of each source begins. Each list and each audio file is read once, and of the audio files one is
+/// held at a time. Of a plan that plays none nothing is read.
 pub fn tell_files<S: Shelf>(
     alloc: Global,
     plan: &Plan,
@@ -35,6 +36,7 @@ pub fn tell_files<S: Shelf>(
     ensures told { IfOk result
         (λ told. IsTold (rules_for plan.now sizes) plan.now ats.now (S.told shelf.old) (S.told shelf.new) told.items) }
     ensures shelf { OnlyRead (S.told shelf.old) (S.told shelf.new) }
+    ensures untouched { HasNoFiles plan.now → shelf.new ≡ shelf.old }
 {
     let rules = Rules {
         rate: plan.rate,
@@ -62,7 +64,7 @@ pub fn tell_files<S: Shelf>(
     Ok(out.into_inner())
 }
 
-// Writes the whole object.
+// Writes the whole object of a plan and its files.
 fn push_all(
     alloc: Global,
     out: &mut Out,
@@ -90,6 +92,7 @@ fn push_all(
     Ok(())
 }
 
+// Writes how many bytes all sounds that are used, one sound, a list and a script have at most.
 fn push_limits(out: &mut Out, rules: Rules) -> Result<(), Memory>
     ensures { OnOk result (Adds out.old out.new (limit_members rules)) }
 {

@@ -21,11 +21,11 @@ use week_windows::{Known, hours_again, known_holes, unknown};
 /// How many spans are told in all, at most.
 const MOST_OF_ALL: u64 = 100_000;
 
-/// How many are told of a case, at most.
+/// How many spans are told of a case, at most.
 const MOST_OF_CASE: u64 = 2000;
 
 /// When in the week each case of each switch of a plan is the first that holds, and when none holds, as one object of
-/// JSON. The sources are made at these bytes.
+/// JSON. `ats` has the byte of the script at which the call of each source begins.
 pub fn tell_hours(alloc: Global, plan: &Plan, ats: &[usize]) -> Result<Vec<u8>, Memory>
     requires { length ats.now ≡ length plan.now.nodes }
     ensures { IfOk result (λ told. AreHours plan.now ats.now told.items) }
@@ -35,6 +35,7 @@ pub fn tell_hours(alloc: Global, plan: &Plan, ats: &[usize]) -> Result<Vec<u8>, 
     Ok(out.into_inner())
 }
 
+// Writes the object of the hours of a plan.
 fn push_week(alloc: Global, out: &mut Out, plan: &Plan, ats: &[usize]) -> Result<(), Memory>
     ensures { OnOk result (Adds out.old out.new (week_object plan.now ats.now)) }
 {
@@ -44,6 +45,7 @@ fn push_week(alloc: Global, out: &mut Out, plan: &Plan, ats: &[usize]) -> Result
     Ok(())
 }
 
+// Writes the object of the switches among these sources. At most `most` spans are told of a case.
 fn push_switches<'a>(
     alloc: Global,
     out: &mut Out,
@@ -64,7 +66,8 @@ fn push_switches<'a>(
     Ok(())
 }
 
-// How many spans are told of a case, at most.
+// How many spans are told of a case at most: 2000, or, if there are many cases, so few that all of them have no more
+// than 100,000.
 fn most_spans(nodes: &[Node]) -> u64
     ensures { result ≡ most_spans nodes.now }
 {
@@ -72,6 +75,7 @@ fn most_spans(nodes: &[Node]) -> u64
     share.min(MOST_OF_CASE)
 }
 
+// How many cases these sources have; where they are more than 100,000, 100,001.
 fn all_cases(nodes: &[Node]) -> u64
     ensures { result ≡ cases_to 0 nodes.now }
 {
@@ -82,6 +86,7 @@ fn all_cases(nodes: &[Node]) -> u64
     all
 }
 
+// The cases of a source and `all` others; where they are more than 100,000, 100,001.
 fn more_cases(all: u64, op: &Op) -> u64
     requires { all ≤ 100001 }
     ensures is { result ≡ min (all + cases_in op.now) 100001 }
@@ -90,6 +95,7 @@ fn more_cases(all: u64, op: &Op) -> u64
     (all + cases_in(op)).min(MOST_OF_ALL + 1)
 }
 
+// How many cases a switch has, and one more for the seconds at which none holds; 0 of another source.
 fn cases_in(op: &Op) -> u64
     ensures is { result ≡ cases_in op.now }
     ensures small { result ≤ 2 ^ 63 }
@@ -100,7 +106,8 @@ fn cases_in(op: &Op) -> u64
     }
 }
 
-// The hours of the switch before are kept, since the next one may have the same cases.
+// Writes each switch among these sources. The hours of the last switch are kept in `known`, since the next one may have
+// the same cases.
 fn push_each_switch<'a>(
     alloc: Global,
     out: &mut Out,
@@ -121,6 +128,7 @@ fn push_each_switch<'a>(
     Ok(())
 }
 
+// Writes source `number`, if it is a switch; its call begins at byte `at` of the script.
 fn push_source<'a>(
     alloc: Global,
     out: &mut Out,
@@ -142,6 +150,7 @@ fn push_source<'a>(
     }
 }
 
+// Writes switch `number`, by the predicates of its cases; its call begins at byte `at` of the script.
 fn push_switch<'a>(
     alloc: Global,
     out: &mut Out,
@@ -161,6 +170,8 @@ fn push_switch<'a>(
     Ok(())
 }
 
+// Writes switch `number`, by the spans of its cases and those at which none holds; no more than `most` spans are told
+// of a case.
 fn push_hours(
     out: &mut Out,
     cases: &[Vec<Span>],
@@ -180,6 +191,7 @@ fn push_hours(
     Ok(())
 }
 
+// Writes the spans of each case, as a member.
 fn push_cases(out: &mut Out, cases: &[Vec<Span>], most: u64) -> Result<(), Memory>
     ensures { OnOk result (Adds out.old out.new
         (list_member (codes "cases") (hours_object most) (map spans_in cases.now))) }
@@ -189,6 +201,7 @@ fn push_cases(out: &mut Out, cases: &[Vec<Span>], most: u64) -> Result<(), Memor
     end_list(out)
 }
 
+// Writes the object of each case.
 fn push_each_case(out: &mut Out, cases: &[Vec<Span>], most: u64) -> Result<(), Memory>
     ensures { OnOk result (Adds out.old out.new (each (hours_object most) (map spans_in cases.now))) }
 {
@@ -198,6 +211,7 @@ fn push_each_case(out: &mut Out, cases: &[Vec<Span>], most: u64) -> Result<(), M
     Ok(())
 }
 
+// Writes the spans at which no case holds, as a member.
 fn push_none(out: &mut Out, spans: &[Span], most: u64) -> Result<(), Memory>
     ensures { OnOk result (Adds out.old out.new (key (codes "none") ∷ hours_object most spans.now)) }
 {
@@ -206,6 +220,7 @@ fn push_none(out: &mut Out, spans: &[Span], most: u64) -> Result<(), Memory>
     Ok(())
 }
 
+// Writes the name of a member.
 fn push_key(out: &mut Out, name: &str) -> Result<(), Memory>
     ensures { OnOk result (Adds out.old out.new (key name.now ∷ [])) }
 {
@@ -213,6 +228,7 @@ fn push_key(out: &mut Out, name: &str) -> Result<(), Memory>
     Ok(())
 }
 
+// Writes the object of a case: how many spans it has, and these, unless they are more than `most`.
 fn push_spans(out: &mut Out, spans: &[Span], most: u64) -> Result<(), Memory>
     ensures { OnOk result (Adds out.old out.new (hours_object most spans.now)) }
 {
@@ -222,7 +238,7 @@ fn push_spans(out: &mut Out, spans: &[Span], most: u64) -> Result<(), Memory>
     end(out)
 }
 
-// Writes the spans, unless they are more than the most.
+// Writes the spans of a case, unless they are more than `most`.
 fn push_told(out: &mut Out, spans: &[Span], most: u64) -> Result<(), Memory>
     ensures { OnOk result (Adds out.old out.new (spans_member most spans.now)) }
 {
@@ -234,6 +250,7 @@ fn push_told(out: &mut Out, spans: &[Span], most: u64) -> Result<(), Memory>
     end_list(out)
 }
 
+// Writes each span.
 fn push_each_span(out: &mut Out, spans: &[Span]) -> Result<(), Memory>
     ensures { OnOk result (Adds out.old out.new (each span_list spans.now)) }
 {
@@ -243,6 +260,7 @@ fn push_each_span(out: &mut Out, spans: &[Span]) -> Result<(), Memory>
     Ok(())
 }
 
+// Writes a span: its first second, and the second after its last one.
 fn push_span(out: &mut Out, span: Span) -> Result<(), Memory>
     ensures { OnOk result (Adds out.old out.new (span_list span)) }
 {
@@ -252,6 +270,7 @@ fn push_span(out: &mut Out, span: Span) -> Result<(), Memory>
     end_list(out)
 }
 
+// Writes that an item begins which is a list of two.
 fn begin_pair(out: &mut Out) -> Result<(), Memory>
     ensures { OnOk result (Adds out.old out.new (begin_array ∷ [])) }
 {

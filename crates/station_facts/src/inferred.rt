@@ -19,7 +19,7 @@ pub struct Inferred {
     pub clocks: Result<ClockMap, ClockFault>,
 }
 
-/// Infers it.
+/// Infers which sources of a plan are never silent, and its clocks.
 pub fn infer(alloc: Global, plan: &Plan) -> Result<Inferred, Memory>
     requires { IsWellFormed plan.now }
     ensures { IfOk result (IsInferred plan.now) }

@@ -92,7 +92,7 @@ pub fn push_kind(out: &mut Out, kind: Kind) -> Result<(), Memory>
     push_number(out, "sides", u64::from(kind.channels()))
 }
 
-/// The bits of a sample.
+/// How many bits a sample has: 24 if it is wide, and otherwise 16.
 pub fn bits_of(wide: bool) -> u64
     ensures { result ≡ bits_of wide }
 {

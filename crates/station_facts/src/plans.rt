@@ -22,7 +22,7 @@ use std::alloc::Global;
 use time_pred::SharedPred;
 use week_windows::{Known, Windows, unknown, windows_again};
 
-/// Writes the members of a plan, whose sources are made at these bytes.
+/// Writes the members of a plan. `ats` has the byte of the script at which the call of each source begins.
 pub fn push_plan(
     alloc: Global,
     out: &mut Out,
@@ -38,6 +38,7 @@ pub fn push_plan(
     push_sources(alloc, out, plan.nodes.as_slice(), &inferred.marks, ats)
 }
 
+// Writes the outputs of a plan.
 fn push_outputs(out: &mut Out, plan: &Plan, inferred: &Inferred) -> Result<(), Memory>
     ensures { OnOk result (Adds out.old out.new
         (list_member (codes "outputs") (output_object plan.now inferred.now) plan.now.sinks)) }
@@ -47,6 +48,7 @@ fn push_outputs(out: &mut Out, plan: &Plan, inferred: &Inferred) -> Result<(), M
     end_list(out)
 }
 
+// Writes the object of each output.
 fn push_each_output(out: &mut Out, plan: &Plan, inferred: &Inferred) -> Result<(), Memory>
     ensures { OnOk result
         (Adds out.old out.new (each (output_object plan.now inferred.now) plan.now.sinks)) }
@@ -57,6 +59,7 @@ fn push_each_output(out: &mut Out, plan: &Plan, inferred: &Inferred) -> Result<(
     Ok(())
 }
 
+// Writes the object of an output; of a feed nothing is told.
 fn push_output(
     out: &mut Out,
     plan: &Plan,
@@ -86,6 +89,7 @@ fn push_output(
     }
 }
 
+// Writes how many channels this node has.
 fn push_sides(out: &mut Out, nodes: &[Node], node: u32) -> Result<(), Memory>
     ensures { OnOk result (Adds out.old out.new (side_members (slice_get nodes.now node))) }
 {
@@ -95,6 +99,7 @@ fn push_sides(out: &mut Out, nodes: &[Node], node: u32) -> Result<(), Memory>
     }
 }
 
+// Writes the name of the main clock of this node, if the plan has clocks.
 fn push_clock(out: &mut Out, clocks: &Result<ClockMap, ClockFault>, node: u32) -> Result<(), Memory>
     ensures { OnOk result (Adds out.old out.new (clock_members clocks.now node)) }
 {
@@ -104,6 +109,7 @@ fn push_clock(out: &mut Out, clocks: &Result<ClockMap, ClockFault>, node: u32) -
     }
 }
 
+// Writes the name of the main clock of this node.
 fn push_clock_of(out: &mut Out, clocks: &ClockMap, node: u32) -> Result<(), Memory>
     ensures { OnOk result (Adds out.old out.new (main_members clocks.now (slice_get clocks.now.of node))) }
 {
@@ -113,6 +119,7 @@ fn push_clock_of(out: &mut Out, clocks: &ClockMap, node: u32) -> Result<(), Memo
     }
 }
 
+// Writes the name of a clock, if it is a main one.
 fn push_main_clock(out: &mut Out, clocks: &ClockMap, clock: NodeClock) -> Result<(), Memory>
     ensures { OnOk result (Adds out.old out.new (main_members clocks.now (Some clock))) }
 {
@@ -122,6 +129,7 @@ fn push_main_clock(out: &mut Out, clocks: &ClockMap, clock: NodeClock) -> Result
     }
 }
 
+// Writes the name of the main clock of this number.
 fn push_clock_name(out: &mut Out, names: &[Text], number: u32) -> Result<(), Memory>
     ensures { OnOk result (Adds out.old out.new (name_members (slice_get names.now number))) }
 {
@@ -131,6 +139,8 @@ fn push_clock_name(out: &mut Out, names: &[Text], number: u32) -> Result<(), Mem
     }
 }
 
+// Writes the sources of a plan. `marks` has of each whether it is never silent, and `ats` the byte of the script at
+// which its call begins.
 fn push_sources(
     alloc: Global,
     out: &mut Out,
@@ -147,7 +157,7 @@ fn push_sources(
     end_list(out)
 }
 
-// The windows of the switch before are kept, since the next one may have the same cases.
+// Writes each source. The windows of the last switch are kept in `known`, since the next one may have the same cases.
 fn push_each_source<'a>(
     alloc: Global,
     out: &mut Out,
@@ -171,6 +181,7 @@ fn push_each_source<'a>(
     Ok(())
 }
 
+// Writes the object of a source, which is never silent if `always` says so; its call begins at byte `at` of the script.
 fn push_source<'a>(
     alloc: Global,
     out: &mut Out,
@@ -193,6 +204,7 @@ fn push_source<'a>(
     Ok(())
 }
 
+// Writes the numbers of a source's children, as a member.
 fn push_children(out: &mut Out, children: &[u32]) -> Result<(), Memory>
     ensures { OnOk result (Adds out.old out.new
         (list_member (codes "children") (λ child. number (decimal child) ∷ []) children.now)) }
@@ -202,6 +214,7 @@ fn push_children(out: &mut Out, children: &[u32]) -> Result<(), Memory>
     end_list(out)
 }
 
+// Writes the number of each child.
 fn push_each_child(out: &mut Out, children: &[u32]) -> Result<(), Memory>
     ensures { OnOk result (Adds out.old out.new (each (λ child. number (decimal child) ∷ []) children.now)) }
 {
@@ -211,6 +224,7 @@ fn push_each_child(out: &mut Out, children: &[u32]) -> Result<(), Memory>
     Ok(())
 }
 
+// Writes the operator of a source, and what it has beside its children.
 fn push_op<'a>(
     alloc: Global,
     out: &mut Out,
@@ -248,12 +262,14 @@ fn push_op<'a>(
     }
 }
 
+// Writes the word for an operator.
 fn push_word(out: &mut Out, word: &str) -> Result<(), Memory>
     ensures { OnOk result (Adds out.old out.new (text_member (codes "op") word.now)) }
 {
     push_text(out, "op", word)
 }
 
+// Writes the word for an operator that plays a file or a list, and its name.
 fn push_file(out: &mut Out, word: &str, file: &Text) -> Result<(), Memory>
     ensures { OnOk result (Adds out.old out.new
         (text_member (codes "op") word.now ++ text_member (codes "file") file.now)) }
@@ -262,6 +278,7 @@ fn push_file(out: &mut Out, word: &str, file: &Text) -> Result<(), Memory>
     push_text(out, "file", file.as_str())
 }
 
+// Writes the word for an operator, and a number that it has.
 fn push_sized(out: &mut Out, word: &str, name: &str, size: u64) -> Result<(), Memory>
     ensures { OnOk result (Adds out.old out.new
         (text_member (codes "op") word.now ++ number_member name.now size)) }
@@ -270,6 +287,7 @@ fn push_sized(out: &mut Out, word: &str, name: &str, size: u64) -> Result<(), Me
     push_number(out, name, size)
 }
 
+// Writes the word for an operator, and whether it is track-sensitive.
 fn push_choice(out: &mut Out, word: &str, sensitive: bool) -> Result<(), Memory>
     ensures { OnOk result (Adds out.old out.new
         (text_member (codes "op") word.now ++ flag_member (codes "sensitive") sensitive)) }
@@ -279,6 +297,7 @@ fn push_choice(out: &mut Out, word: &str, sensitive: bool) -> Result<(), Memory>
     Ok(())
 }
 
+// Writes a switch: whether it is track-sensitive, and the windows of its cases.
 fn push_switch<'a>(
     alloc: Global,
     out: &mut Out,
@@ -308,6 +327,7 @@ fn push_windows(out: &mut Out, windows: &[Windows]) -> Result<(), Memory>
     end_list(out)
 }
 
+// Writes the windows of each case.
 fn push_each_window(out: &mut Out, windows: &[Windows]) -> Result<(), Memory>
     ensures { OnOk result (Adds out.old out.new (each windows_object windows.now)) }
 {
@@ -317,6 +337,7 @@ fn push_each_window(out: &mut Out, windows: &[Windows]) -> Result<(), Memory>
     Ok(())
 }
 
+// Writes the windows of a case: how many it has in the week, and how long they are, if it has any.
 fn push_window(out: &mut Out, windows: Windows) -> Result<(), Memory>
     ensures { OnOk result (Adds out.old out.new (windows_object windows)) }
 {
@@ -326,6 +347,7 @@ fn push_window(out: &mut Out, windows: Windows) -> Result<(), Memory>
     end(out)
 }
 
+// Writes how many seconds the shortest and the longest window have, if there is one.
 fn push_lengths(out: &mut Out, windows: Windows) -> Result<(), Memory>
     ensures { OnOk result (Adds out.old out.new
         (if nat_eq windows.count 0 then [] else length_members windows)) }

@@ -26,6 +26,7 @@ pub fn look_at_lists<S: Shelf>(
 ) -> Result<Vec<ListLook>, Memory>
     ensures looks { IfOk result (λ looks. AreListLooks names.now (S.told shelf.old) (S.told shelf.new) looks.items) }
     ensures shelf { OnlyRead (S.told shelf.old) (S.told shelf.new) }
+    ensures untouched { names.now ≡ [] → shelf.new ≡ shelf.old }
 {
     let mut looks = Vec::new(alloc);
     for name in names {
@@ -45,6 +46,7 @@ pub fn look_at_sounds<S: Shelf>(
     requires { AreRules rules }
     ensures looks { IfOk result (λ looks. AreLooks rules names.now (S.told shelf.old) (S.told shelf.new) looks.items) }
     ensures shelf { OnlyRead (S.told shelf.old) (S.told shelf.new) }
+    ensures untouched { names.now ≡ [] → shelf.new ≡ shelf.old }
 {
     let mut looks = Vec::new(alloc);
     for name in names {
@@ -54,7 +56,7 @@ pub fn look_at_sounds<S: Shelf>(
     Ok(looks)
 }
 
-/// Writes what was found under each name of a list.
+/// Writes of each list its name and what a look at it found.
 pub fn push_lists(out: &mut Out, names: &[Text], looks: &[ListLook]) -> Result<(), Memory>
     ensures { OnOk result (Adds out.old out.new (paired_member (codes "lists") list_object names.now looks.now)) }
 {
@@ -63,6 +65,7 @@ pub fn push_lists(out: &mut Out, names: &[Text], looks: &[ListLook]) -> Result<(
     end_list(out)
 }
 
+// Writes the object of each list.
 fn push_each_list(out: &mut Out, names: &[Text], looks: &[ListLook]) -> Result<(), Memory>
     ensures { OnOk result (Adds out.old out.new (paired list_object names.now looks.now)) }
 {
@@ -75,6 +78,7 @@ fn push_each_list(out: &mut Out, names: &[Text], looks: &[ListLook]) -> Result<(
     Ok(())
 }
 
+// Writes the object of a list.
 fn push_list(out: &mut Out, name: &Text, found: &ListLook) -> Result<(), Memory>
     ensures { OnOk result (Adds out.old out.new (list_object name.now found.now)) }
 {
@@ -84,6 +88,7 @@ fn push_list(out: &mut Out, name: &Text, found: &ListLook) -> Result<(), Memory>
     end(out)
 }
 
+// Writes what a look at a list found.
 fn push_list_look(out: &mut Out, found: &ListLook) -> Result<(), Memory>
     ensures { OnOk result (Adds out.old out.new (list_look_members found.now)) }
 {
@@ -98,6 +103,7 @@ fn push_list_look(out: &mut Out, found: &ListLook) -> Result<(), Memory>
     }
 }
 
+// Writes the names in a list.
 fn push_entries(out: &mut Out, names: &[Text]) -> Result<(), Memory>
     ensures { OnOk result (Adds out.old out.new
         (list_member (codes "entries") (λ name. string name ∷ []) names.now)) }
@@ -107,6 +113,7 @@ fn push_entries(out: &mut Out, names: &[Text]) -> Result<(), Memory>
     end_list(out)
 }
 
+// Writes each name.
 fn push_each_entry(out: &mut Out, names: &[Text]) -> Result<(), Memory>
     ensures { OnOk result (Adds out.old out.new (each (λ name. string name ∷ []) names.now)) }
 {
@@ -116,7 +123,7 @@ fn push_each_entry(out: &mut Out, names: &[Text]) -> Result<(), Memory>
     Ok(())
 }
 
-/// Writes what was found under each name of an audio file.
+/// Writes of each audio file its name and what a look at it found.
 pub fn push_sounds(
     out: &mut Out,
     names: &[Text],
@@ -131,6 +138,7 @@ pub fn push_sounds(
     end_list(out)
 }
 
+// Writes the object of each audio file.
 fn push_each_sound(
     out: &mut Out,
     names: &[Text],
@@ -148,6 +156,7 @@ fn push_each_sound(
     Ok(())
 }
 
+// Writes the object of an audio file.
 fn push_sound(out: &mut Out, name: &Text, found: Look, rules: Rules) -> Result<(), Memory>
     ensures { OnOk result (Adds out.old out.new (sound_object rules name.now found)) }
 {
@@ -157,6 +166,7 @@ fn push_sound(out: &mut Out, name: &Text, found: Look, rules: Rules) -> Result<(
     end(out)
 }
 
+// Writes what a look at an audio file found.
 fn push_look(out: &mut Out, found: Look, rules: Rules) -> Result<(), Memory>
     ensures { OnOk result (Adds out.old out.new (look_members rules found)) }
 {
@@ -167,6 +177,7 @@ fn push_look(out: &mut Out, found: Look, rules: Rules) -> Result<(), Memory>
     }
 }
 
+// Writes whether a sound is used, and its facts.
 fn push_facts(out: &mut Out, facts: Facts, rules: Rules) -> Result<(), Memory>
     ensures { OnOk result (Adds out.old out.new (facts_members rules facts)) }
 {
@@ -181,12 +192,14 @@ fn push_facts(out: &mut Out, facts: Facts, rules: Rules) -> Result<(), Memory>
     Ok(())
 }
 
+// The word for a sound, by whether it counts for no more bytes than a sound may.
 fn use_word(fits: bool) -> &'static str
     ensures { result.now ≡ use_word fits }
 {
     if fits { "used" } else { "too large" }
 }
 
+// Writes why a file or a list is of no use.
 fn push_unusable(out: &mut Out, fault: Unusable) -> Result<(), Memory>
     ensures { OnOk result (Adds out.old out.new (unusable_members fault)) }
 {
@@ -200,6 +213,7 @@ fn push_unusable(out: &mut Out, fault: Unusable) -> Result<(), Memory>
     }
 }
 
+// Writes what becomes of a file, in a word.
 fn push_state(out: &mut Out, word: &str) -> Result<(), Memory>
     ensures { OnOk result (Adds out.old out.new (state_member word.now)) }
 {
@@ -220,6 +234,7 @@ pub fn all_bytes(looks: &[Look], rules: Rules) -> Result<u64, Memory>
     Ok(bytes)
 }
 
+// For how many bytes a file counts; 0 if it is not used.
 fn count(found: Look, rules: Rules) -> u64
     ensures { result ≡ count_or_none (counted_as rules found) }
 {

@@ -21,7 +21,7 @@ pub fn tell_tokens(alloc: Global, text: &[u8]) -> Result<Vec<u8>, Memory>
     Ok(out.into_inner())
 }
 
-/// What is told of each script that is longer than a script may be: no token, and that fault.
+/// What is told of each script that is longer than a script may be: no token, and fault 4.
 pub fn tell_too_long(alloc: Global) -> Result<Vec<u8>, Memory>
     ensures { IfOk result (λ told. (text : List ℕ) → MAX_SCRIPT_BYTES < length text → AreTold text told.items) }
 {
@@ -31,6 +31,7 @@ pub fn tell_too_long(alloc: Global) -> Result<Vec<u8>, Memory>
     Ok(out.into_inner())
 }
 
+// Writes the tokens, and the fault at which they end, if there is one.
 fn push_front(out: &mut Out, tokens: &[Token], stop: Option<LexFault>) -> Result<(), Memory>
     ensures { OnOk result (Adds out.old out.new
         (object (list_member (codes "tokens") token_array tokens.now ++ stop_members stop))) }
@@ -43,6 +44,7 @@ fn push_front(out: &mut Out, tokens: &[Token], stop: Option<LexFault>) -> Result
     end(out)
 }
 
+// Writes each token.
 fn push_each_token(out: &mut Out, tokens: &[Token]) -> Result<(), Memory>
     ensures { OnOk result (Adds out.old out.new (each token_array tokens.now)) }
 {
@@ -52,6 +54,7 @@ fn push_each_token(out: &mut Out, tokens: &[Token]) -> Result<(), Memory>
     Ok(())
 }
 
+// Writes a token: its kind, its first byte, the byte after its last one, and its text.
 fn push_token(out: &mut Out, token: &Token) -> Result<(), Memory>
     ensures { OnOk result (Adds out.old out.new (token_array token.now)) }
 {
@@ -64,6 +67,7 @@ fn push_token(out: &mut Out, token: &Token) -> Result<(), Memory>
     Ok(())
 }
 
+// The word for the kind of a token.
 fn kind_word(kind: &TokenKind) -> &'static str
     ensures { result.now ≡ kind_word kind.now }
 {
@@ -80,6 +84,7 @@ fn kind_word(kind: &TokenKind) -> &'static str
     }
 }
 
+// Writes the text that a token stands for, if it has one.
 fn push_text(out: &mut Out, kind: &TokenKind) -> Result<(), Memory>
     ensures { OnOk result (Adds out.old out.new (text_item kind.now)) }
 {
@@ -91,6 +96,7 @@ fn push_text(out: &mut Out, kind: &TokenKind) -> Result<(), Memory>
     }
 }
 
+// Writes the fault at which the tokens end, if there is one.
 fn push_stop(out: &mut Out, stop: Option<LexFault>) -> Result<(), Memory>
     ensures { OnOk result (Adds out.old out.new (stop_members stop)) }
 {
@@ -100,6 +106,7 @@ fn push_stop(out: &mut Out, stop: Option<LexFault>) -> Result<(), Memory>
     }
 }
 
+// Writes the number of a fault, and the byte of the script at which it is, if it has one.
 fn push_fault(out: &mut Out, fault: LexFault) -> Result<(), Memory>
     ensures { OnOk result (Adds out.old out.new (fault_members fault)) }
 {
@@ -112,6 +119,7 @@ fn push_fault(out: &mut Out, fault: LexFault) -> Result<(), Memory>
     }
 }
 
+// Writes the number of a fault, and the byte of the script at which it is.
 fn push_placed(out: &mut Out, number: u64, at: u32) -> Result<(), Memory>
     ensures { OnOk result (Adds out.old out.new
         (number_member (codes "fault") number ++ number_member (codes "at") at)) }

@@ -53,8 +53,8 @@ pub record Told (station : Station) (old new : ShelfTold) (report : List ℕ) : 
   pub marking : IsMarking station.plan.nodes mark
   pub report_is : report ≡ check_report_of station mark
 
--- The shelf is as it was, and this is the summary of a run over the files of a workload. It is that of the one record
--- that rounds on one thread have, so it rests on the station and its files alone.
+-- The shelf is as it was, and the report is the summary of a run over the files of a workload. Rounds on one thread
+-- have one record, and the same summary, so this rests on the station and its files alone.
 pub record Summed (made : Files) (station : Station) (old new : ShelfTold) (report : List ℕ) : Type 0 where
   pub kept : OnlyRead old new
   pub run : Run
@@ -71,10 +71,10 @@ IsDone verdict files old new report =
     ⊎ ((station : Station) × (verdict ≡ Checked station) × Told station old new report)
     ⊎ ((made : Files) × (station : Station) × (verdict ≡ Made made station) × Summed made station old new report)
 
--- A rendering broke off: in its ticks or before them, where its run begins that of one thread, on one thread and where
--- no buffer joins two clocks; or behind them, where on one thread there is no other run, and where no buffer joins two
--- clocks, it is one that renders what one thread does. Its first files were made and closed, in their order, and no
--- other. `device` says that a device failed, and not memory.
+-- A rendering broke off. If it did so before its ticks or in them, its run begins that of one thread: on one thread,
+-- and where no buffer joins two clocks. If it did so after them, there is no other run on one thread, and where no
+-- buffer joins two clocks, it renders what one thread does. Its first files were made and closed, in their order, and
+-- no other. `device` says that a device failed, and not memory.
 pub record BrokeOff (station : Station) (device : Bool) (files : Files) (old new : ShelfTold) : Type 0 where
   pub left : ((stopped : StoppedInTicks station device files old new)
       × (IsDetermined station → BeginsAsOneThread station stopped.run))
@@ -82,7 +82,7 @@ pub record BrokeOff (station : Station) (device : Bool) (files : Files) (old new
       × (HasNoJoin (bare station) station.clocks.running → RendersAsOneThread station stopped.run))
   pub front : (run : Run) → CreatedFront (names_of station run) old new
 
--- that of a verdict did
+-- the verdict is a station, and its rendering broke off
 abbrev pub IsBroken : Verdict → (device : Bool) → Files → (old new : ShelfTold) → Type 0
 IsBroken verdict device files old new = (station : Station) × (verdict ≡ Accepted station)
     × BrokeOff station device files old new

@@ -33,6 +33,7 @@ pub data Outcome : Type 0 where
   Found : Plan → Sounds → ClockMap → Outcome
   Lost : Fault → Outcome
 
+-- what is found of the script of a rendering: that it is accepted, with these parts, or its first fault
 abbrev pub IsOutcome : Files → Rendering → Outcome → Type 0
 IsOutcome files rendering (Found plan library clocks) = IsPrepared files rendering plan library clocks
 IsOutcome files rendering (Lost fault) = IsScriptFault files rendering fault
@@ -43,16 +44,18 @@ pub data Ruling : Type 0 where
   Granted : Plan → Sounds → ClockMap → Way → Ruling
   Denied : Fault → Ruling
 
+-- the script that is asked for is accepted, with this plan, these audio files and clocks, and is rendered in this way
 pub record IsGranted (asked : Asked) (files : Files) (plan : Plan) (library : Sounds) (clocks : ClockMap)
     (way : Way) : Type 0 where
   pub prepared : IsPrepared files (rendering_of asked) plan library clocks
   pub is_way : IsWayFor asked files plan library clocks way
 
+-- what is asked for is granted in this way, or denied for its first fault
 abbrev pub IsRuling : Asked → Files → Ruling → Type 0
 IsRuling asked files (Granted plan library clocks way) = IsGranted asked (files_for asked files) plan library clocks way
 IsRuling asked files (Denied fault) = IsRefusal asked files fault
 
--- this is the ruling, and there is no other
+-- the ruling on what is asked for is this one, and there is no other
 pub record IsOneRuling (asked : Asked) (files : Files) (ruling : Ruling) : Type 0 where
   pub holds : IsRuling asked files ruling
   pub only : (other : Ruling) → IsRuling asked files other → other ≡ ruling
@@ -63,11 +66,12 @@ verdict_of asked (Denied fault) = Refused fault
 verdict_of asked (Granted plan library clocks way) = verdict_for asked
     (station_for (rendering_of asked) plan library clocks way)
 
--- this is the outcome, and there is no other
+-- what is found of the script of a rendering is this outcome, and no other
 pub record IsOneOutcome (files : Files) (rendering : Rendering) (outcome : Outcome) : Type 0 where
   pub holds : IsOutcome files rendering outcome
   pub only : (other : Outcome) → IsOutcome files rendering other → other ≡ outcome
 
+-- the outcome from which a job was made
 abbrev pub outcome_of : Job → Outcome
 outcome_of job = Found job.plan job.ready.library job.ready.clocks
 
@@ -76,20 +80,22 @@ pub record IsChecked (files : Files) (file : List ℕ) (plan : Plan) (clocks : C
   pub library : Sounds
   pub one : IsOneOutcome files (rendering_by file 0 0 None false) (Found plan library clocks)
 
--- why a step that reads ended: a fault only where it is the outcome, and a read fault only where a read failed
+-- why a step ended that only reads: for a fault only if it is the outcome, and for a read only if the count of failed
+-- reads rose
 pub record EndsFor {T : Type 0} (rendering : Rendering) (old new : ShelfTold) (result : Result T CallEnd) : Type 0 where
   pub fault : (fault : Fault) → result ≡ Err (refused_for fault)
       → ForSome old.files (λ files. IsOneOutcome files rendering (Lost fault))
   pub read : IsErrOf result Read → Rose old.reads new.reads
   pub no_write : IsErrOf result Write → ⊥
 
--- a fault is one of the trace in the file of this name
+-- a fault is one of the trace in the file of this name, over N ticks of so many clocks
 pub record HasFaultOf (files : Files) (name : List ℕ) (base : Setting) (clocks N : ℕ) (fault : Fault) : Type 0 where
   pub untold : ReplayFault
   pub fault_is : fault ≡ Fault.Replay untold
   pub is_fault : IsReplayFault files name base clocks N untold
 
--- why the reading of a trace ended: a fault only where it is the trace's, and a read fault only where a read failed
+-- why the reading of the trace of this name ended: for a fault only if the trace has it, and for a read only if the
+-- count of failed reads rose; N is how many ticks are rendered
 pub record TraceEnds {T : Type 0} (name : List ℕ) (base : Setting) (clocks N : ℕ) (old new : ShelfTold)
     (result : Result T CallEnd) : Type 0 where
   pub fault : (fault : Fault) → result ≡ Err (refused_for fault)
@@ -101,30 +107,30 @@ pub record TraceEnds {T : Type 0} (name : List ℕ) (base : Setting) (clocks N :
 abbrev pub IsUntold : ReplayFault → CallEnd → Type 0
 IsUntold fault halt = (halt ≡ refused_for (Fault.Replay fault)) ⊎ (halt ≡ Memory)
 
--- why a test of the names of files ended: this is the name of two
+-- why a test of the names of files ended: for a fault only if it names the first name that two files have
 pub record ClashEnds {T : Type 0} (clash : Option (List ℕ)) (result : Result T CallEnd) : Type 0 where
   pub fault : (fault : Fault) → result ≡ Err (refused_for fault)
       → (name : List ℕ) × (fault ≡ SameFile name) × (clash ≡ Some name)
   pub no_read : IsErrOf result Read → ⊥
   pub no_write : IsErrOf result Write → ⊥
 
--- what is asked for has one verdict and no other, and this holds of it
+-- what is asked for has one verdict and no other, and P holds of it
 pub record ForOne (asked : Asked) (files : Files) (P : Verdict → Type 0) : Type 0 where
   pub verdict : Verdict
   pub is_verdict : IsVerdictOn asked files verdict
   pub only : (other : Verdict) → IsVerdictOn asked files other → other ≡ verdict
   pub holds : P verdict
 
--- this holds of each verdict on what is asked for
+-- P holds of each verdict on what is asked for
 abbrev pub ForEach : Asked → Files → (Verdict → Type 0) → Type 0
 ForEach asked files P = (verdict : Verdict) → IsVerdictOn asked files verdict → P verdict
 
--- where the shelf tells its files, this is said of the one verdict on what is asked for
+-- where the shelf tells its files, P holds of them and of the one verdict on what is asked for
 abbrev pub ForOneOf : Asked → ShelfTold → (Files → Verdict → Type 0) → Type 0
 ForOneOf asked shelf P = ForSome shelf.files (λ files. ForOne asked files (P files))
 
--- A job ended so, over what is told of the shelf before and after it: with the report of what was done; for the fault
--- that is the verdict, or since a read failed, where the shelf was only read; since a write failed; or since memory was
+-- How a job may end, by what the shelf tells before and after it: with the report of what was done; with the fault that
+-- is the verdict, or since a read failed, where the shelf was only read; since a write failed; or since memory was
 -- refused.
 abbrev pub Ended : (asked : Asked) (old new : ShelfTold) → Result (String Global) CallEnd → Type 0
 Ended asked old new (Ok report) = ForOneOf asked old
@@ -137,14 +143,14 @@ Ended asked old new (Err Write) = Rose old.writes new.writes
 Ended asked old new (Err Memory) = ForSome old.files
     (λ files. ForEach asked files (λ verdict. IsStarved verdict files old new))
 
--- a job is to be rendered so
+-- a job is for this rendering: it begins at its second and makes its ticks, with its trace and its cue files
 pub record IsJobFor (rendering : Rendering) (job : Job) : Type 0 where
   pub start_is : rendering.start ≡ job.start.second
   pub ticks_are : rendering.ticks ≡ job.ticks
   pub trace_is : rendering.trace ≡ name_in job
   pub cues_are : rendering.cues ≡ job.cues
 
--- what is asked for is a rendering: what is granted is accepted
+-- what is asked for is a rendering: once it is granted, its station is accepted
 abbrev pub IsToRender : Asked → Type 0
 IsToRender asked = (station : Station) → verdict_for asked station ≡ Accepted station
 
@@ -152,7 +158,7 @@ IsToRender asked = (station : Station) → verdict_for asked station ≡ Accepte
 abbrev pub granted : Job → Way → Ruling
 granted job way = Granted job.plan job.ready.library job.ready.clocks way
 
--- how the ends of lower steps go on
+-- the end of a call whose script has this fault
 abbrev pub halt_of_script : ScriptFault → CallEnd
 halt_of_script (script_fault.Lex fault) = refused_for (Script (script_fault.Lex fault))
 halt_of_script (script_fault.Parse fault) = refused_for (Script (script_fault.Parse fault))
@@ -160,11 +166,13 @@ halt_of_script (script_fault.Type fault) = refused_for (Script (script_fault.Typ
 halt_of_script (script_fault.Eval fault) = refused_for (Script (script_fault.Eval fault))
 halt_of_script script_fault.Memory = Memory
 
+-- the end of a call, by the end of its check
 abbrev pub halt_of_check : CheckEnd → CallEnd
 halt_of_check (check_refused fault) = refused_for (Fault.Station fault)
 halt_of_check check_read = Read
 halt_of_check check_memory = Memory
 
+-- the end of a call whose rendering broke off so
 abbrev pub halt_of_render : RenderFault → CallEnd
 halt_of_render render_write = Write
 halt_of_render render_memory = Memory

@@ -7,10 +7,11 @@ use Rattle.station_jobs.specs.declared.form.Form.TheVariants.{Check as checks, A
 use Rattle.station_jobs.specs.declared.form.Rendering.{Rendering as ReadRendering}
 use Rattle.station_jobs.specs.declared.options.Options.{Options as ReadOptions}
 
--- a name that is said or not
+-- the bytes of a name, if one is said
 abbrev pub named : Option (Bor (List ℕ)) → Option (List ℕ)
 named name = option_map (λ name. name.now) name
 
+-- the options that were read, as the forms have them
 abbrev pub options_of : ReadOptions → Options
 options_of options = record {
   one_thread = options.one_thread;
@@ -20,7 +21,7 @@ options_of options = record {
   cues = options.cues;
 }
 
--- what was read of a rendering
+-- the rendering that was read from words
 abbrev pub rendering_read : ReadRendering → Rendering
 rendering_read asked =
     rendering_by asked.file.now asked.start.second asked.ticks.count (named asked.trace) asked.cues

@@ -11,7 +11,7 @@ use Rattle.stations.specs.Reports.{counted_part}
 use Rattle.stations.specs.Stations.{Station, bare}
 use Rattle.stations.specs.Streams.{gaps_of, output_files}
 
--- the sum of the samples behind the header of a WAV file of 16 bits, as each output of a workload is, of both sides
+-- the sum of all samples of a WAV file of 16 bits, on both sides: those after the 44 bytes of its header
 abbrev pub sum_of : List ℕ → ℤ
 sum_of bytes = fold ◌+ℤ◌ (pos 0) (samples_from (drop 44 bytes))
 
@@ -19,15 +19,15 @@ sum_of bytes = fold ◌+ℤ◌ (pos 0) (samples_from (drop 44 bytes))
 abbrev pub sum_at : Files → (name : List ℕ) → ℤ
 sum_at files name = sum_of (unwrap_or (file_at files name) [])
 
--- the end of a line of a summary: the sum of the samples
+-- the end of the line of an output in a summary: the sum of its samples
 abbrev pub sum_part : (sum : ℤ) → List ℕ
 sum_part sum = codes " sum " ++ signed_decimal sum ++ codes "\n"
 
--- a line of a summary, with the sum of the samples
+-- the line of an output in a summary: its samples on each side, its gaps, and the sum of its samples
 abbrev pub summed_line : (name : List ℕ) (samples gaps : ℕ) (sum : ℤ) → List ℕ
 summed_line name samples gaps sum = counted_part name samples gaps ++ sum_part sum
 
--- the lines of the outputs among these sinks, whose files these are
+-- the lines of a summary for the outputs among these sinks; `files` has what was written of them
 abbrev pub summed_lines : Station → Run → Files → List SinkPlan → List ℕ
 summed_lines station run files [] = []
 summed_lines station run files (Output name node fallible wide ∷ sinks) =
@@ -35,12 +35,12 @@ summed_lines station run files (Output name node fallible wide ∷ sinks) =
     ++ summed_lines station run files sinks
 summed_lines station run files (Feed buffer node ∷ sinks) = summed_lines station run files sinks
 
--- the summary of a run that wrote its outputs beside these files
+-- the summary of a run that wrote its outputs among these files
 abbrev pub summary_of : Files → Station → Run → List ℕ
 summary_of files station run = summed_lines station run (with_outputs files (output_files station run))
     station.plan.sinks
 
--- the summary is that of rounds on one thread, which have one record
+-- rounds on one thread have one record, and this summary
 pub record SumsAsOneThread (files : Files) (station : Station) (summary : List ℕ) : Type 0 where
   pub alone : Run
   pub rounds : IsRounds (bare station) station.clocks.running station.ticks alone

@@ -33,7 +33,7 @@ pub data Verdict : Type 0 where
   Accepted : Station → Verdict
   Made : Files → Station → Verdict
 
--- the line that words of no form are answered with
+-- the line that a call prints if its words have no form
 abbrev pub usage_line : List ℕ
 usage_line = codes "usage: check FILE | render FILE N [--one-thread] [--window=W] [--start=D:HH:MM:SS] [--trace=NAME] [--cues] | make SEED SIZE | replay FILE N TRACE [--start=D:HH:MM:SS]\n"
 
@@ -54,13 +54,13 @@ abbrev pub has_name : (name : List ℕ) → SinkPlan → Bool
 has_name name (Output own node fallible wide) = bytes_eq own name
 has_name name (Feed buffer node) = false
 
--- the name of the cue file of an output, if one of all outputs has it
+-- the name of the cue file of an output, if an output among all sinks has it
 abbrev pub cue_clash_at : (all : List SinkPlan) → SinkPlan → Option (List ℕ)
 cue_clash_at all (Output name node fallible wide) = if list_any (has_name (cue_name name)) all then Some (cue_name name)
     else None
 cue_clash_at all (Feed buffer node) = None
 
--- the first such name among these outputs
+-- the first name of a cue file of these sinks that an output among all sinks has
 abbrev pub first_cue_clash : (all : List SinkPlan) → List SinkPlan → Option (List ℕ)
 first_cue_clash all [] = None
 first_cue_clash all (sink ∷ sinks) = option_or (cue_clash_at all sink) (first_cue_clash all sinks)
@@ -98,7 +98,7 @@ pub record HasUnfitPlan (files : Files) (rendering : Rendering) (fault : Station
   pub apart : clash_of plan rendering.trace rendering.cues ≡ None
   pub is_fault : IsStationFault files plan rendering.ticks fault
 
--- the first fault of a script that is to be rendered so
+-- the first fault of the script of a rendering; it is none of a trace
 abbrev pub IsScriptFault : Files → Rendering → Fault → Type 0
 IsScriptFault files rendering NoScript = file_at files rendering.file ≡ None
 IsScriptFault files rendering (Script fault) = HasPlanFault files rendering.file fault
@@ -113,7 +113,7 @@ pub record IsPrepared (files : Files) (rendering : Rendering) (plan : Plan) (lib
   pub apart : clash_of plan rendering.trace rendering.cues ≡ None
   pub renderable : IsRenderable files plan rendering.ticks library clocks
 
--- the script is accepted, and the trace in the file of this name is not rendered again, for this fault
+-- the script is accepted, and is not rendered again by the trace in the file of this name, for this fault
 pub record HasUntold (files : Files) (rendering : Rendering) (trace : List ℕ) (fault : Fault) : Type 0 where
   pub plan : Plan
   pub library : Sounds
@@ -124,7 +124,7 @@ pub record HasUntold (files : Files) (rendering : Rendering) (trace : List ℕ) 
   pub is_fault : IsReplayFault files trace (base_of plan library clocks rendering.start) clocks.running rendering.ticks
       untold
 
--- a fault of the trace of a replay
+-- a fault of the trace of a replay; what asks for no replay has none
 abbrev pub IsTraceFault : Asked → Files → Fault → Type 0
 IsTraceFault (Check file) files fault = ⊥
 IsTraceFault (Render rendering window) files fault = ⊥
@@ -132,7 +132,7 @@ IsTraceFault (Make seed size) files fault = ⊥
 IsTraceFault (Replay file start ticks trace) files fault = HasUntold files
     (rendering_by file start ticks None false) trace fault
 
--- by threads in windows of so many ticks, or, where no window is there, in rounds on one thread
+-- the way of a rendering: by threads in windows of so many ticks, or in rounds on one thread if no window is given
 abbrev pub way_in : (window : Option ℕ) → Way
 way_in None = InRounds
 way_in (Some window) = InWindows window
@@ -166,7 +166,7 @@ pub record IsStation (asked : Asked) (files : Files) (station : Station) : Type 
   pub is_way : IsWayFor asked files station.plan station.library station.clocks station.way
   pub rest_is : station ≡ station_for (rendering_of asked) station.plan station.library station.clocks station.way
 
--- the files of a workload
+-- the files of the workload of this seed, with so many audio files
 unfoldable pub files_made : (seed size : ℕ) → Files
 files_made seed size = from_entries (workload seed (size - 1))
 
@@ -177,19 +177,20 @@ files_for (Render rendering window) files = files
 files_for (Make seed size) files = files_made seed size
 files_for (Replay file start ticks trace) files = files
 
--- what a station is judged: it is checked, it is rendered, or it is that of a workload, with its files
+-- the verdict on what is asked for, if this is its station: it is checked, rendered, or that of a workload with its
+-- files
 abbrev pub verdict_for : Asked → Station → Verdict
 verdict_for (Check file) station = Checked station
 verdict_for (Render rendering window) station = Accepted station
 verdict_for (Make seed size) station = Made (files_made seed size) station
 verdict_for (Replay file start ticks trace) station = Accepted station
 
--- this is its first fault: of its script, or else, of a replay, of its trace
+-- the first fault of what is asked for: of its script, and if that has none, of the trace of a replay
 abbrev pub IsRefusal : Asked → Files → Fault → Type 0
 IsRefusal asked files fault =
     IsScriptFault (files_for asked files) (rendering_of asked) fault ⊎ IsTraceFault asked files fault
 
--- this is the verdict on what is asked for: its first fault, or its station
+-- the verdict on what is asked for: its first fault, or its station
 abbrev pub IsVerdictOn : Asked → Files → Verdict → Type 0
 IsVerdictOn asked files verdict =
     ((fault : Fault) × (verdict ≡ Refused fault) × IsRefusal asked files fault)
@@ -201,17 +202,17 @@ pub record IsFormed (words : List (List ℕ)) (files : Files) (verdict : Verdict
   pub is_asked : IsAsked words asked
   pub is_verdict : IsVerdictOn asked files verdict
 
--- this is the verdict on these words over these files: words of no form have the usage line
+-- the verdict on these words over these files: words of no form have the usage line
 abbrev pub IsVerdict : List (List ℕ) → Files → Verdict → Type 0
 IsVerdict words files verdict = ((verdict ≡ Usage) × HasNoForm words) ⊎ IsFormed words files verdict
 
--- words and files have one verdict and no other, and this holds of it
+-- words and files have one verdict and no other, and P holds of it
 pub record ForVerdict (words : List (List ℕ)) (files : Files) (P : Verdict → Type 0) : Type 0 where
   pub verdict : Verdict
   pub is_verdict : IsVerdict words files verdict
   pub only : (other : Verdict) → IsVerdict words files other → other ≡ verdict
   pub holds : P verdict
 
--- this holds of each verdict on these words over these files
+-- P holds of each verdict on these words over these files
 abbrev pub ForEachVerdict : List (List ℕ) → Files → (Verdict → Type 0) → Type 0
 ForEachVerdict words files P = (verdict : Verdict) → IsVerdict words files verdict → P verdict

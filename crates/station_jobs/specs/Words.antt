@@ -12,7 +12,7 @@ pub record Rendering : Type 0 where
   pub trace : Option (List ℕ)
   pub cues : Bool
 
--- such a rendering
+-- a rendering of these parts
 abbrev pub rendering_by : (file : List ℕ) (start ticks : ℕ) (trace : Option (List ℕ)) (cues : Bool) → Rendering
 rendering_by file start ticks trace cues =
     record { file = file; start = start; ticks = ticks; trace = trace; cues = cues }
@@ -31,8 +31,8 @@ pub data Asked : Type 0 where
 unfoldable pub made_script : List ℕ
 made_script = codes "make.liq"
 
--- a check renders no tick; a workload is rendered for 500 ticks; neither of them and no replay writes a trace or cue
--- files
+-- the rendering that is asked for: a check renders no tick, and a workload 500 ticks; neither of them and no replay
+-- writes a trace or cue files
 abbrev pub rendering_of : Asked → Rendering
 rendering_of (Check file) = rendering_by file 0 0 None false
 rendering_of (Render rendering window) = rendering
@@ -52,42 +52,42 @@ pub record Options : Type 0 where
   pub trace : Option (List ℕ)
   pub cues : Bool
 
--- before any option was read
+-- the options before any word was read
 abbrev pub no_options : Options
 no_options = record { one_thread = false; window = None; start = None; trace = None; cues = false }
 
--- where it is not said, it begins with the week
+-- the second of the week at which a rendering with these options begins: 0 if they do not say it
 abbrev pub start_in : Options → ℕ
 start_in options = unwrap_or options.start 0
 
--- where no window is said, it has 16 ticks; on one thread there is none
+-- how many ticks a window has with these options: 16 if they do not say it; `None` on one thread
 abbrev pub window_in : Options → Option ℕ
 window_in options = if options.one_thread then None else Some (unwrap_or options.window 16)
 
--- a number of ticks from 1 to 1000000
+-- a text is the number of ticks of a window, from 1 to 1000000
 pub record IsWindowText (text : List ℕ) (window : ℕ) : Type 0 where
   pub text_is : text ≡ decimal window
   pub some : 0 < window
   pub few : window ≤ 10 ^ 6
 
--- `--window=W`
+-- a word is `--window=W`, and says how many ticks a window has
 pub record IsWindow (word : List ℕ) (window : ℕ) : Type 0 where
   pub text : List ℕ
   pub word_is : word ≡ codes "--window=" ++ text
   pub means : IsWindowText text window
 
--- `--start=D:HH:MM:SS`
+-- a word is `--start=D:HH:MM:SS`, and says the second of the week
 pub record IsStart (word : List ℕ) (start : ℕ) : Type 0 where
   pub text : List ℕ
   pub word_is : word ≡ codes "--start=" ++ text
   pub means : IsStartText text start
 
--- `--trace=NAME`, where the name is not empty
+-- a word is `--trace=NAME`, with a name that is not empty
 pub record IsTraceName (word name : List ℕ) : Type 0 where
   pub word_is : word ≡ codes "--trace=" ++ name
   pub some : name ≢ []
 
--- a word that is an option which none before it was: `--one-thread`, a window, a start, a trace, or `--cues`
+-- the word is `--one-thread`, for the first time
 pub record SaysOneThread (word : List ℕ) (before after : Options) : Type 0 where
   pub word_is : word ≡ codes "--one-thread"
   pub once : before.one_thread ≡ false
@@ -131,11 +131,11 @@ abbrev pub AreOptions : (before : Options) → List (List ℕ) → (all : Option
 AreOptions before [] all = all ≡ before
 AreOptions before (word ∷ words) all = (after : Options) × IsOption word before after × AreOptions after words all
 
--- neither a window nor a trace stands beside `--one-thread`
+-- with `--one-thread` neither a window nor a trace is said
 abbrev pub AreApart : Options → Type 0
 AreApart options = options.one_thread ≡ true → (options.window ≡ None) × (options.trace ≡ None)
 
--- `FILE N` and options
+-- words are `FILE N` and options, and ask for this rendering of N ticks, at most 1000000000
 pub record IsRendering (file number : List ℕ) (words : List (List ℕ)) (asked : Asked) : Type 0 where
   pub options : Options
   pub ticks : ℕ
@@ -146,19 +146,19 @@ pub record IsRendering (file number : List ℕ) (words : List (List ℕ)) (asked
   pub options_are : AreOptions no_options words options
   pub apart : AreApart options
 
--- what may stand behind `render`
+-- the words after `render` ask for this
 abbrev pub IsRender : List (List ℕ) → Asked → Type 0
 IsRender [] asked = ⊥
 IsRender (file ∷ []) asked = ⊥
 IsRender (file ∷ number ∷ options) asked = IsRendering file number options asked
 
--- what may stand behind `check`
+-- the words after `check` ask for this
 abbrev pub IsCheck : List (List ℕ) → Asked → Type 0
 IsCheck [] asked = ⊥
 IsCheck (file ∷ []) asked = asked ≡ Check file
 IsCheck (file ∷ more ∷ words) asked = ⊥
 
--- `SEED SIZE`: a number of 64 bits, and one from 1 to 100
+-- words are `SEED SIZE`, a number of 64 bits and one from 1 to 100, and ask for this workload
 pub record IsWorkload (seed_word size_word : List ℕ) (asked : Asked) : Type 0 where
   pub seed : ℕ
   pub size : ℕ
@@ -169,20 +169,20 @@ pub record IsWorkload (seed_word size_word : List ℕ) (asked : Asked) : Type 0 
   pub some : 1 ≤ size
   pub few : size ≤ 100
 
--- what may stand behind `make`
+-- the words after `make` ask for this
 abbrev pub IsMake : List (List ℕ) → Asked → Type 0
 IsMake [] asked = ⊥
 IsMake (seed ∷ []) asked = ⊥
 IsMake (seed ∷ size ∷ []) asked = IsWorkload seed size asked
 IsMake (seed ∷ size ∷ more ∷ words) asked = ⊥
 
--- no option, or a start alone
+-- options say this start and nothing else: 0 if there is no word
 abbrev pub IsOnlyStart : List (List ℕ) → (start : ℕ) → Type 0
 IsOnlyStart [] start = start ≡ 0
 IsOnlyStart (word ∷ []) start = IsStart word start
 IsOnlyStart (word ∷ more ∷ words) start = ⊥
 
--- `FILE N TRACE`, and maybe a start
+-- words are `FILE N TRACE` and maybe a start, and ask for this replay of N ticks, at most 1000000000
 pub record IsReplaying (file number trace : List ℕ) (words : List (List ℕ)) (asked : Asked) : Type 0 where
   pub start : ℕ
   pub ticks : ℕ
@@ -191,7 +191,7 @@ pub record IsReplaying (file number trace : List ℕ) (words : List (List ℕ)) 
   pub few : ticks ≤ 10 ^ 9
   pub start_is : IsOnlyStart words start
 
--- what may stand behind `replay`
+-- the words after `replay` ask for this
 abbrev pub IsReplayAsked : List (List ℕ) → Asked → Type 0
 IsReplayAsked [] asked = ⊥
 IsReplayAsked (file ∷ []) asked = ⊥
@@ -210,7 +210,7 @@ IsAsked (verb ∷ words) asked =
 abbrev pub HasNoForm : List (List ℕ) → Type 0
 HasNoForm words = (asked : Asked) → IsAsked words asked → ⊥
 
--- this takes threads: a rendering in windows, and a workload; a replay takes none
+-- what is asked for takes threads: a rendering in windows, or a workload
 abbrev pub TakesThreads : Asked → Type 0
 TakesThreads (Check file) = ⊥
 TakesThreads (Render rendering None) = ⊥

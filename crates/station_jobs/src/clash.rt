@@ -31,7 +31,8 @@ pub fn keep_apart(
     }
 }
 
-// The first name that two files would have.
+// The first name that two files of a rendering would have, if any: that of a cue file and an output, and then that of
+// the trace and an output or a cue file.
 fn find_clash(
     alloc: Global,
     plan: &Plan,
@@ -46,7 +47,7 @@ fn find_clash(
     find_trace_clash(alloc, plan, trace, cues)
 }
 
-// The name of the first cue file that an output has, where cue files are wanted.
+// If cue files are wanted, the name of the first one that an output has too.
 fn find_cue_clash(alloc: Global, plan: &Plan, cues: bool) -> Result<Option<Text>, Memory>
     ensures { IfOk result (λ name. name ≡ cue_clash plan.now cues) }
 {
@@ -76,7 +77,7 @@ fn cue_clash_of(alloc: Global, plan: &Plan, sink: &SinkPlan) -> Result<Option<Te
     Ok(Some(file))
 }
 
-// The name of a trace, if an output has it, or, where they are wanted, a cue file.
+// The name of the trace, if an output has it, or, where they are wanted, a cue file.
 fn find_trace_clash(
     alloc: Global,
     plan: &Plan,
@@ -94,7 +95,7 @@ fn find_trace_clash(
     Ok(Some(Text::from_str(alloc, name)?))
 }
 
-// Whether an output has this name, or, where they are wanted, a cue file.
+// Whether an output has this name, or, where cue files are wanted, one of them.
 fn is_taken(plan: &Plan, name: &str, cues: bool) -> bool
     ensures { result ≡ list_any (writes_to name.now cues) plan.now.sinks }
 {

@@ -27,6 +27,7 @@ pub enum Form<'a> {
 
     /// `make SEED SIZE`
     Make {
+        /// The number from which the workload is made.
         seed: u64,
         size: Size,
     },
@@ -47,7 +48,7 @@ pub enum Form<'a> {
     },
 }
 
-/// A rendering, but for its way.
+/// A rendering, but for how its ticks are made.
 #[derive(Clone, Copy)]
 pub struct Rendering<'a> {
     /// The name of the script.

@@ -60,7 +60,7 @@ pub fn threads_job<S: Shelf, G: Gate + Sync, R: Threads + Wait + Sync>(
     conclude(alloc, &job, ended)
 }
 
-/// What a job of the words ends with whose rendering ended so: its report, or why there is none.
+/// The end of a job, by the end of its rendering: its report, or why there is none.
 pub(crate) fn conclude(
     alloc: Global,
     job: &Job<'_>,
@@ -83,8 +83,8 @@ pub(crate) fn conclude(
     report_or_halt(report(alloc, &job.plan, job.ticks, &rendered))
 }
 
-/// The report, or that memory was refused for it. Where a plan is alive, a `?` would be one more place at which it
-/// ends.
+/// The report, or that memory was refused for it. It is a function of its own, since with a plan alive a `?` would be
+/// one more place at which the caller ends.
 pub(crate) fn report_or_halt(report: Result<String, Memory>) -> Result<String, CallEnd>
     ensures told { IfOk result (λ text. report ≡ Ok text) }
     ensures starved { IfErr result (λ halt. halt ≡ no_memory) }

@@ -22,13 +22,13 @@ use std::sync::Wait;
 use std::thread::Threads;
 use workload_gen::make;
 
-/// Ticks of a workload.
+/// How many ticks a workload is rendered for.
 const TICKS: u64 = 500;
 
-/// Ticks of its windows.
+/// How many ticks a window of its rendering has.
 const WINDOW: u64 = 16;
 
-/// The summary of the workload of a seed and a size. Its files and its outputs stand in a shelf of its own.
+/// The summary of the workload of a seed and a size. Its files and its outputs are in a shelf of its own.
 pub fn make_job<G: Gate + Sync, R: Threads + Wait + Sync>(
     rt: &R,
     alloc: Global,
@@ -42,7 +42,7 @@ pub fn make_job<G: Gate + Sync, R: Threads + Wait + Sync>(
     sum_workload(rt, alloc, seed, size, &mut shelf, gate)
 }
 
-// The summary, over the shelf that holds the files of the workload.
+// The summary of the workload of a seed and a size, over the shelf that holds its files.
 fn sum_workload<G: Gate + Sync, R: Threads + Wait + Sync>(
     rt: &R,
     alloc: Global,

@@ -19,7 +19,7 @@ pub struct Options<'a> {
     pub cues: bool,
 }
 
-/// The options that words are, in any order and each at most once.
+/// The options that words are, in any order and each at most once; nothing if a word is none.
 pub fn read_options(words: &[String]) -> Option<Options<'_>>
     ensures found { IfSome result (λ options. AreOptions no_options (texts words.now) (options_of options)) }
     ensures only { (all : AllOptions) → AreOptions no_options (texts words.now) all
@@ -38,7 +38,7 @@ pub fn read_options(words: &[String]) -> Option<Options<'_>>
     Some(options)
 }
 
-// The options with the one that a word is; nothing where it is none, or was there before.
+// The options with the one that a word is; nothing if it is none, or was said before.
 fn read_option<'a>(word: &'a str, before: Options<'a>) -> Option<Options<'a>>
     ensures found { IfSome result (λ after. IsOption word.now (options_of before.entry) (options_of after)) }
     ensures only { (after : AllOptions) → IsOption word.now (options_of before.entry) after
@@ -130,7 +130,7 @@ fn with_trace<'a>(trace: &'a str, before: Options<'a>) -> Option<Options<'a>>
     })
 }
 
-/// The window that options give.
+/// The window that options give: 16 ticks if they say none.
 pub fn window_of(options: Options<'_>) -> Window
     ensures { result.ticks ≡ unwrap_or (options_of options.entry).window 16 }
 {
@@ -140,7 +140,7 @@ pub fn window_of(options: Options<'_>) -> Window
     }
 }
 
-/// The start that options give.
+/// The start that options give: the first second of the week if they say none.
 pub fn start_of(options: Options<'_>) -> WeekSecond
     ensures { result.second ≡ start_in (options_of options.entry) }
 {

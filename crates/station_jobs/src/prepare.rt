@@ -24,7 +24,7 @@ use station_check::{check_clocks, check_plan};
 use station_render::Job;
 use std::alloc::Global;
 
-/// A plan with its clocks, which are all that a check tells.
+/// A plan with its clocks: all that the report of a check is made of.
 #[derive(Drop)]
 pub struct CheckedPlan {
     pub plan: Plan,
@@ -78,7 +78,7 @@ pub fn prepare_check<S: Shelf>(
     Ok(CheckedPlan { plan, clocks })
 }
 
-// The plan of the script, where its outputs, its cue files and the trace have names of their own.
+// The plan of the script of this name, if its outputs, its cue files and the trace have names of their own.
 fn read_plan<S: Shelf>(
     alloc: Global,
     file: &str,
@@ -100,7 +100,7 @@ fn read_plan<S: Shelf>(
     Ok(plan)
 }
 
-// The bytes of the script.
+// The bytes of the script of this name.
 fn read_script<S: Shelf>(alloc: Global, file: &str, shelf: &mut S) -> Result<Vec<u8>, CallEnd>
     ensures script { IfOk result (λ script. ForSome (S.told shelf.old).files (λ files. file_at files file.now
         ≡ Some script.items)) }

@@ -7,10 +7,10 @@ use liq_base::{Memory, SureShelf};
 use std::alloc::Global;
 use track_library::read_samples;
 
-/// Bytes of the header of an output.
+/// How many bytes the header of an output has.
 const HEADER_BYTES: usize = 44;
 
-/// The sum of the samples in the file of this name, of both sides.
+/// The sum of the samples in the file of this name, of both sides; 0 if there is no such file.
 pub fn sum_at(alloc: Global, shelf: &SureShelf, name: &str) -> Result<i128, Memory>
     ensures { IfOk result (λ sum. sum ≡ sum_at shelf.now name.now) }
 {
@@ -28,7 +28,7 @@ fn file_bytes<'a>(shelf: &'a SureShelf, name: &str) -> &'a [u8]
     }
 }
 
-// What stands behind the header.
+// The bytes of a file after its header.
 fn behind_header(bytes: &[u8]) -> &[u8]
     ensures { result.now ≡ drop 44 bytes.now }
 {
@@ -39,7 +39,7 @@ fn behind_header(bytes: &[u8]) -> &[u8]
     body
 }
 
-// The sum of samples. No slice is so long that it does not fit.
+// The sum of samples. A slice is never so long that the sum does not fit.
 fn sum_of(samples: &[i16]) -> i128
     ensures { result ≡ fold ◌+ℤ◌ (pos 0) samples.now }
 {

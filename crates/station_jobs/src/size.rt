@@ -3,7 +3,7 @@ ghost use Rattle.std.specs.Prelude.{◌≡◌, ◌≤◌, ◌<◌, ◌^◌, ℕ,
 
 use fixed_text::read_u64;
 
-/// Audio files of a workload, at most.
+/// How many audio files a workload has at most.
 const MAX_SIZE: u64 = 100;
 
 /// How many audio files a workload has.

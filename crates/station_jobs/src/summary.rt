@@ -13,7 +13,7 @@ use station_render::push_counts;
 use std::alloc::Global;
 
 /// The summary of a rendering of so many ticks, at most 1000000000, that wrote its outputs into this shelf: a line for
-/// each output, in sink order, with its gaps and the sum of its samples.
+/// each output, in sink order, with its gaps and the sum of its samples. `gaps` has those of each output.
 pub fn summary(
     alloc: Global,
     plan: &Plan,
@@ -42,7 +42,7 @@ pub fn summary(
     Ok(text)
 }
 
-// The end of the line of an output: the sum of the samples in the file of this name.
+// Appends the end of the line of an output: the sum of the samples in the file of this name.
 fn push_sum(alloc: Global, text: &mut String, shelf: &SureShelf, name: &str) -> Result<(), Memory>
     ensures { OnOk result (string_bytes text.new ≡ string_bytes text.old ++ sum_part (sum_at shelf.now name.now)) }
 {

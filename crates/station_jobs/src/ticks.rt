@@ -3,7 +3,7 @@ ghost use Rattle.std.specs.Prelude.{◌≡◌, ◌≤◌, ◌^◌, ℕ, decimal,
 
 use fixed_text::read_u64;
 
-/// Ticks of a rendering, at most.
+/// How many ticks a rendering has at most.
 const MAX_TICKS: u64 = 1_000_000_000;
 
 /// How many ticks are rendered.
@@ -14,7 +14,7 @@ pub struct Ticks {
     ghost few: { count ≤ 10 ^ 9 },
 }
 
-/// The number of ticks that a word is.
+/// The number of ticks that a word is: at most 1000000000.
 pub fn read_ticks(word: &[u8]) -> Option<Ticks>
     ensures found { IfSome result (λ ticks. word.now ≡ decimal ticks.count) }
     ensures only { (n : ℕ) → n ≤ 10 ^ 9 → word.now ≡ decimal n → IsSomeAnd result (λ ticks. ticks.count ≡ n) }

@@ -19,7 +19,7 @@ use std::alloc::Global;
 use trace_log::{Trace, TraceFault, read};
 use trace_replay::{RecordTurns, find_record};
 
-/// Bytes of a trace, at most.
+/// How many bytes a trace has at most.
 const MAX_TRACE_BYTES: u64 = 268_435_456;
 
 /// A trace by which a script is rendered again, and all the turns of its record.
@@ -29,9 +29,9 @@ pub struct FoundTrace {
     pub turns: RecordTurns,
 }
 
-/// The trace in the file of this name, with all the turns of its record, where it is that of a lawful record of this
-/// job, whose ticks can be ordered. `docs/faults.md` has the faults, which are looked for in this order: no file, too
-/// many bytes, another form, no such record.
+/// The trace in the file of this name, with all the turns of its record. It fits if it is that of a lawful record of
+/// this job whose ticks can be ordered. `docs/faults.md` has the faults, which are looked for in this order: no file,
+/// too many bytes, another form, no such record.
 pub fn find_trace<S: Shelf>(
     alloc: Global,
     job: &Job<'_>,

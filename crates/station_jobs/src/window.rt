@@ -4,7 +4,7 @@ ghost use Rattle.station_jobs.specs.Words.{IsWindow, IsWindowText};
 
 use fixed_text::read_u64;
 
-/// Ticks of a window, at most.
+/// How many ticks a window has at most.
 const MAX_WINDOW: u64 = 1_000_000;
 
 /// How many ticks a window of threads has.

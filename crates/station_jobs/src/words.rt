@@ -11,7 +11,7 @@ use crate::size::read_size;
 use crate::ticks::{Ticks, read_ticks};
 use fixed_text::{WeekSecond, read_u64};
 
-/// The form of the words, or nothing where they have none.
+/// The form of the words; nothing if they have none.
 pub fn read_words(words: &[String]) -> Option<Form<'_>>
     ensures found { IfSome result (λ form. IsAsked (texts words.now) (asked_of form)) }
     ensures only { (asked : Asked) → IsAsked (texts words.now) asked → option_map asked_of result ≡ Some asked }
@@ -28,7 +28,7 @@ pub fn read_words(words: &[String]) -> Option<Form<'_>>
     }
 }
 
-// `FILE`
+// What the words after `check` ask for: `FILE`.
 fn read_check(words: &[String]) -> Option<Form<'_>>
     ensures found { IfSome result (λ form. IsCheck (texts words.now) (asked_of form)) }
     ensures only { (asked : Asked) → IsCheck (texts words.now) asked → option_map asked_of result ≡ Some asked }
@@ -41,7 +41,7 @@ fn read_check(words: &[String]) -> Option<Form<'_>>
     }
 }
 
-// `FILE N` and options
+// What the words after `render` ask for: `FILE N` and options.
 fn read_render(words: &[String]) -> Option<Form<'_>>
     ensures found { IfSome result (λ form. IsRender (texts words.now) (asked_of form)) }
     ensures only { (asked : Asked) → IsRender (texts words.now) asked → option_map asked_of result ≡ Some asked }
@@ -54,7 +54,7 @@ fn read_render(words: &[String]) -> Option<Form<'_>>
     form_of(file.as_str(), ticks, options)
 }
 
-// `SEED SIZE`
+// What the words after `make` ask for: `SEED SIZE`.
 fn read_make(words: &[String]) -> Option<Form<'_>>
     ensures found { IfSome result (λ form. IsMake (texts words.now) (asked_of form)) }
     ensures only { (asked : Asked) → IsMake (texts words.now) asked → option_map asked_of result ≡ Some asked }
@@ -67,7 +67,7 @@ fn read_make(words: &[String]) -> Option<Form<'_>>
     Some(Form::Make { seed, size })
 }
 
-// `FILE N TRACE`, and maybe a start
+// What the words after `replay` ask for: `FILE N TRACE`, and maybe a start.
 fn read_replay(words: &[String]) -> Option<Form<'_>>
     ensures found { IfSome result (λ form. IsReplayAsked (texts words.now) (asked_of form)) }
     ensures only { (asked : Asked) → IsReplayAsked (texts words.now) asked → option_map asked_of result ≡ Some asked }
@@ -85,7 +85,7 @@ fn read_replay(words: &[String]) -> Option<Form<'_>>
     })
 }
 
-// The start that options give which have nothing else.
+// The start that options give, if they are this one or none.
 fn read_only_start(options: &[String]) -> Option<WeekSecond>
     ensures found { IfSome result (λ start. IsOnlyStart (texts options.now) start.second) }
     ensures only { (start : ℕ) → IsOnlyStart (texts options.now) start
@@ -98,7 +98,7 @@ fn read_only_start(options: &[String]) -> Option<WeekSecond>
     }
 }
 
-// The rendering of so many ticks that options ask for; nothing where a window or a trace stands beside `--one-thread`.
+// The rendering of so many ticks that options ask for; nothing if a window or a trace is said beside `--one-thread`.
 fn form_of<'a>(file: &'a str, ticks: Ticks, options: Options<'a>) -> Option<Form<'a>>
     ensures found { IfSome result (λ form. asked_of form
         ≡ AsksToRender (rendering_by file.now (start_in (options_of options.entry)) ticks.count

@@ -10,13 +10,13 @@ use Rattle.rounds_run.specs.Rounds.{nothing}
 abbrev pub outs_of : {S : Type 0} → List (ClockEngine S) → List (List S)
 outs_of engines = map (λ engine. engine.outs) engines
 
--- lists, the first of which are others
+-- the second list, with its first items replaced by those of the first list
 abbrev pub pooled : {S : Type 0} → List (List S) → List (List S) → List (List S)
 pooled [] lists = lists
 pooled (first ∷ others) [] = []
 pooled (first ∷ others) (list ∷ lists) = first ∷ pooled others lists
 
--- the first lists are empty
+-- the first n lists are empty
 abbrev pub AreEmptyBelow : {S : Type 0} → (n : ℕ) → List (List S) → Type 0
 AreEmptyBelow n lists = (m : ℕ) (list : List _) → m < n → slice_get lists m ≡ Some list → list ≡ []
 
@@ -30,7 +30,8 @@ pub record IsAt {S : Type 0} (setting : Setting) (m : ℕ) (engine : ClockEngine
 pub record AreAt {S : Type 0} (setting : Setting) (engines : List (ClockEngine S)) : Type 0 where
   pub each : (m : ℕ) (engine : ClockEngine S) → slice_get engines m ≡ Some engine → IsAt setting m engine
 
--- an engine of main clock m has made so many ticks, with answers of buffers that are those of `world`
+-- an engine of main clock m has made so many ticks; what its buffers answered, with answers that follow, is what they
+-- answer in `world`
 pub record IsPast {S : Type 0} (setting world : Setting) (ticks m : ℕ) (engine : ClockEngine S) : Type 0 where
   pub over : setting_of engine.parts ≡ setting
   pub clock_is : engine.parts.clock ≡ m
@@ -43,7 +44,7 @@ pub record IsPast {S : Type 0} (setting world : Setting) (ticks m : ℕ) (engine
 pub record ArePast {S : Type 0} (setting world : Setting) (ticks : ℕ) (engines : List (ClockEngine S)) : Type 0 where
   pub each : (m : ℕ) (engine : ClockEngine S) → slice_get engines m ≡ Some engine → IsPast setting world ticks m engine
 
--- the engines keep their marks exactly where these are wanted
+-- each engine keeps marks if they are wanted, and none otherwise
 abbrev pub AreKeeping : {S : Type 0} → (wanted : Bool) → List (ClockEngine S) → Type 0
 AreKeeping wanted engines = (m : ℕ) (engine : ClockEngine _) → slice_get engines m ≡ Some engine
     → engine.parts.cues.keeping ≡ wanted

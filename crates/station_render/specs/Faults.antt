@@ -5,15 +5,17 @@ use Rattle.liq_base.specs.declared.shelf.ShelfFault.TheVariants.{Failed as devic
 use Rattle.station_render.specs.declared.fault.RenderFault.{RenderFault}
 use Rattle.station_render.specs.declared.fault.RenderFault.TheVariants.{Write as write_fault, Memory as memory_fault}
 
+-- the fault of a rendering that broke off for this fault of its shelf
 abbrev pub render_fault_of : ShelfFault → RenderFault
 render_fault_of device_failed = write_fault
 render_fault_of no_memory = memory_fault
 
--- it was a device that failed, and not memory that was refused
+-- whether a device failed; otherwise memory was refused
 abbrev pub is_device : RenderFault → Bool
 is_device write_fault = true
 is_device memory_fault = false
 
+-- whether a result is the fault of a device
 abbrev pub ended_by_device : {T : Type 0} → Result T RenderFault → Bool
 ended_by_device (Ok value) = false
 ended_by_device (Err fault) = is_device fault

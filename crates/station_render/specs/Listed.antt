@@ -17,7 +17,7 @@ pub record IsMeasured (size pieces : ℕ) (sink : SinkTold) : Type 0 where
   pub size_is : size_of sink ≡ Some size
   pub pieces_are : sink.appends ≡ Some pieces
 
--- whatever the size is, and so many pieces at least
+-- a sink tells for how many bytes it was created, and that it got at least so many pieces
 pub record AreTold (least : ℕ) (sink : SinkTold) : Type 0 where
   pub size_told : IsSome (size_of sink)
   pub pieces : ℕ
@@ -28,14 +28,14 @@ pub record AreTold (least : ℕ) (sink : SinkTold) : Type 0 where
 abbrev pub HasHeader : SinkTold → Type 0
 HasHeader sink = sink.faults ≡ 0 → ForSome sink.held (λ held. 44 ≤ length held)
 
--- where a shelf tells of its closings, a sink tells what that of its own will list, and that is of this name, of a
--- piece at least, and of a whole header, if it did not fail
+-- if the shelf lists its closings, in `closed`, the sink of an output tells what the list will say of it: this name,
+-- its size, a piece at least, and a whole header, unless it failed
 abbrev pub WillClose : {O : Type 0} → (told : O → SinkTold) → (closed : Option (List Closing)) → List ℕ → OutputSink O
     → Type 0
 WillClose told closed name output = ForSome closed (λ before. ((told output.sink).name ≡ Some name)
     × (AreTold 1 (told output.sink) × HasHeader (told output.sink)))
 
--- once a sink got the byte that it owes, its closing lists this
+-- a closing lists the last state of a sink: its name, its size, how many bytes and pieces it got, and no fault
 pub record EndsAs (closing : Closing) (last : SinkTold) : Type 0 where
   pub named : last.name ≡ Some closing.name
   pub size_is : size_of last ≡ Some closing.room
@@ -45,7 +45,8 @@ pub record EndsAs (closing : Closing) (last : SinkTold) : Type 0 where
   pub pieces_are : last.appends ≡ Some closing.pieces
   pub sound : closing.faults ≡ 0
 
--- so it will be of an output
+-- if the shelf lists its closings, this is the one of an output's sink, once that got the zero byte that it owes, if
+-- any
 abbrev pub WillList : {O : Type 0} → (told : O → SinkTold) → (closed : Option (List Closing)) → Closing → OutputSink O
     → Type 0
 WillList told closed closing output = ForSome closed (λ before. (last : SinkTold)

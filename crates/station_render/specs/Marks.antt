@@ -11,18 +11,19 @@ use Rattle.stations.specs.Outputs.{OutputFile}
 use Rattle.station_render.specs.Sinks.{lists_of}
 use Rattle.station_render.specs.declared.job.Job.{Job}
 
+-- a kept mark, as a cue file has it: its instant and its title
 abbrev pub cue_of : CueMark → Cue
 cue_of mark = record { at = mark.at; title = mark.title }
 
--- the marks of each output
+-- the cues of each output, by the marks that were kept of it
 abbrev pub cues_of : List (Vec CueMark Global) → List (List Cue)
 cues_of marks = map (map cue_of) (lists_of marks)
 
--- the cue file of an output that has these marks
+-- the cue file of the output of this name, which has these cues
 abbrev pub cue_file : Sounds → (name : List ℕ) → List Cue → OutputFile
 cue_file library name cues = record { name = cue_name name; bytes = cue_text library cues }
 
--- the cue files of the outputs among these sinks, which have these marks, each in its turn
+-- the cue files of the outputs among these sinks; the first list of cues is the first output's, and so on
 abbrev pub cue_files_with : Sounds → List SinkPlan → List (List Cue) → List OutputFile
 cue_files_with library [] marks = []
 cue_files_with library (Output name node fallible wide ∷ sinks) [] = []
@@ -30,10 +31,11 @@ cue_files_with library (Output name node fallible wide ∷ sinks) (cues ∷ mark
     ∷ cue_files_with library sinks marks
 cue_files_with library (Feed buffer node ∷ sinks) marks = cue_files_with library sinks marks
 
--- the same for a job, where they are wanted
+-- the cue files of the outputs among these sinks if they are wanted, and otherwise none
 abbrev pub cue_files_if : (wanted : Bool) → Sounds → List SinkPlan → List (List Cue) → List OutputFile
 cue_files_if false library sinks marks = []
 cue_files_if true library sinks marks = cue_files_with library sinks marks
 
+-- the cue files of a job, if it wants them, by the cues of each output
 abbrev pub cue_files_by : Job → List (List Cue) → List OutputFile
 cue_files_by job marks = cue_files_if job.cues job.ready.library job.plan.sinks marks

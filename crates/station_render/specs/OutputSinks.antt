@@ -5,40 +5,44 @@ use Rattle.stations.specs.Outputs.{OutputPart}
 use Rattle.station_render.specs.Sinks.{HoldsFront}
 use Rattle.station_render.specs.declared.output_sink.OutputSink.{OutputSink}
 
--- a room, where one byte of it is kept back
+-- a room in bytes, with one byte kept back; `None` where it is not told
 abbrev pub but_one : Option ℕ → Option ℕ
 but_one None = None
 but_one (Some room) = Some (room - 1)
 
+-- a room in bytes, with one byte kept back if the bytes of the samples are odd
 abbrev pub but_one_if : (odd : Bool) → Option ℕ → Option ℕ
 but_one_if false room = room
 but_one_if true room = but_one room
 
--- whether there is room for a byte, as far as it is told
+-- whether a sink has room for one byte more; true where the room is not told
 abbrev pub has_one : Option ℕ → Bool
 has_one None = true
 has_one (Some zero) = false
 has_one (Some (suc room)) = true
 
--- what is owed: nothing, or a byte, and whether there is room for it
+-- what a sink owes, as a number: 0 for nothing, 1 for a zero byte that it has no room for, 2 for one that it has room
+-- for
 abbrev pub owed_by : (odd : Bool) → Option ℕ → ℕ
 owed_by false room = 0
 owed_by true room = if has_one room then 2 else 1
 
--- for how many bytes a sink was created, where it tells what it holds and how many more it takes
+-- for how many bytes a sink was created: those that it holds and those that it still takes, where it tells both
 abbrev pub size_by : (held : Option (List ℕ)) (left : Option ℕ) → Option ℕ
 size_by None left = None
 size_by (Some held) None = None
 size_by (Some held) (Some left) = Some (length held + left)
 
+-- for how many bytes a sink was created, where it tells this
 abbrev pub size_of : SinkTold → Option ℕ
 size_of sink = size_by sink.held sink.room
 
--- a number and a name, where they are told
+-- a number that may be told, as one number: 0 where it is not, and otherwise one more
 abbrev pub told_number : Option ℕ → ℕ
 told_number None = 0
 told_number (Some number) = suc number
 
+-- a name that may be told, as numbers: none where it is not, and otherwise a 0 in front of its bytes
 abbrev pub told_name : Option (List ℕ) → List ℕ
 told_name None = []
 told_name (Some name) = 0 ∷ name
@@ -47,7 +51,8 @@ told_name (Some name) = 0 ∷ name
 abbrev pub known : (odd : Bool) → SinkTold → List ℕ
 known odd sink = owed_by odd sink.room ∷ told_number (size_of sink) ∷ told_name sink.name
 
--- what it tells while ticks are written: a byte that it owes is kept back, and its name is what it is known by
+-- what the sink of an output tells, by the sink within: the byte that it owes is no room, and its name is what it is
+-- known by
 abbrev pub told_by : (odd : Bool) → SinkTold → SinkTold
 told_by odd sink = record {
   held = sink.held;
@@ -57,10 +62,11 @@ told_by odd sink = record {
   faults = sink.faults;
 }
 
+-- what the sink of an output tells
 abbrev pub output_told : {O : Type 0} → (told : O → SinkTold) → OutputSink O → SinkTold
 output_told told output = told_by output.odd (told output.sink)
 
--- the zero byte that an output owes
+-- the zero byte that ends an output, if the bytes of its samples are odd
 abbrev pub last_byte : (odd : Bool) → List ℕ
 last_byte false = []
 last_byte true = 0 ∷ []
@@ -82,14 +88,14 @@ pub record HoldsBody {O : Type 0} (told : O → SinkTold) (part : OutputPart) (o
   pub holds : (told output.sink).held ≡ Some part.least
   pub whole : part.most ≡ part.least ++ last_byte output.odd
 
--- what the sink within tells
+-- what the sink within the sink of an output tells
 abbrev pub inner : {O : Type 0} → (told : O → SinkTold) → OutputSink O → SinkTold
 inner told output = told output.sink
 
--- a sink is as it was, or took these bytes in one piece
+-- a sink is as it was, or took some bytes in one piece
 abbrev pub MayHaveTaken : (old new : SinkTold) → Type 0
 MayHaveTaken old new = (new ≡ old) ⊎ ((taken : List ℕ) × TookPiece taken old new)
 
--- a sink holds so much of an output
+-- the sink within holds a front of an output, from its least to its most bytes; or it failed with fewer
 abbrev pub HoldsSoMuch : {O : Type 0} → (told : O → SinkTold) → OutputPart → OutputSink O → Type 0
 HoldsSoMuch told part output = HoldsFront part (told output.sink)

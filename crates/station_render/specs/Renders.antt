@@ -31,23 +31,24 @@ written [] = []
 written (Output name node fallible wide ∷ sinks) = record { name = name; node = node; wide = wide } ∷ written sinks
 written (Feed buffer node ∷ sinks) = written sinks
 
--- the number of a main clock; a sink's node lies in one
+-- the number of a main clock, in which the node of a sink lies; 0 for a sub-clock, in which none lies
 abbrev pub main_of : NodeClock → ℕ
 main_of (Main m) = m
 main_of (Sub k) = 0
 
--- the clocks of these outputs
+-- the number of the main clock of each of these outputs
 abbrev pub order_of : Setting → List Written → List ℕ
 order_of setting outputs = map (λ output. main_of (clock_of setting output.node)) outputs
 
--- the file of an output, after so many ticks; and what it has before its last zero byte
+-- the whole file of an output, after so many ticks
 abbrev pub file_of : Setting → (ticks : ℕ) → Written → OutputFile
 file_of setting ticks output = record { name = output.name; bytes = file_bytes setting output.wide ticks output.node }
 
+-- the file of an output without the zero byte that may end it, after so many ticks
 abbrev pub body_of : Setting → (ticks : ℕ) → Written → OutputFile
 body_of setting ticks output = record { name = output.name; bytes = output_bytes setting output.wide ticks output.node }
 
--- what it holds at least and at most, where all ticks were made
+-- what an output's file holds at least and at most once all ticks were made: all but its last zero byte, and all
 abbrev pub end_of : Setting → (ticks : ℕ) → Written → OutputPart
 end_of setting ticks output = record {
   name = output.name;
@@ -55,7 +56,7 @@ end_of setting ticks output = record {
   most = file_bytes setting output.wide ticks output.node;
 }
 
--- what was written of it, where clock m made so many ticks and tried so many
+-- what an output's file holds at least and at most, where clock m made `made m` of the ticks and tried `tried m`
 abbrev pub front_file : Setting → (ticks : ℕ) → (made tried : ℕ → ℕ) → Written → OutputPart
 front_file setting ticks made tried output = record {
   name = output.name;
@@ -63,11 +64,11 @@ front_file setting ticks made tried output = record {
   most = front_bytes setting output.wide ticks (tried (main_clock setting output.node)) output.node;
 }
 
--- what an output owes, where so many bytes stand behind its header: as `OutputSinks` counts it
+-- what an output with so many bytes of samples owes, as `owed_by` counts it: 2 if they are odd, and otherwise 0
 abbrev pub debt_of : (size : ℕ) → ℕ
 debt_of size = 2 * (size % 2)
 
--- what is listed of an output of which all ticks were made, once it is closed
+-- what a shelf lists of an output that is closed once all ticks were made
 abbrev pub closing_of : Setting → (ticks : ℕ) → Written → Closing
 closing_of setting ticks output = record {
   name = output.name;
@@ -77,7 +78,7 @@ closing_of setting ticks output = record {
   faults = 0;
 }
 
--- the bytes of an output's file: 44 of its header, those of its samples, and a zero byte where these are odd
+-- how many bytes an output's file has: 44 of its header, those of its samples, and a zero byte where these are odd
 abbrev pub whole_size : (body : ℕ) → ℕ
 whole_size body = 44 + body + body % 2
 
@@ -95,7 +96,8 @@ pub record IsReady {O : Type 0} (told : O
     pub room : HasRoom (but_one_if sink.odd (told sink.sink).room) (body_size setting output.wide ticks output.node)
     pub owes : owed_by sink.odd (told sink.sink).room ≡ debt_of (body_size setting output.wide ticks output.node)
 
--- it holds the bytes of an output but for the byte that it owes, and got a piece for each tick behind the header
+-- the sink of an output holds all its bytes but for the one that it owes, and got a piece for the header and one for
+-- each tick
 pub record IsWhole {O : Type 0} (told : O
     → SinkTold) (shelf : ShelfTold) (setting : Setting) (ticks : ℕ) (output : Written) (sink : OutputSink O) : Type 0
   where
@@ -105,15 +107,16 @@ pub record IsWhole {O : Type 0} (told : O
         (told sink.sink))
     pub owes : owed_by sink.odd (told sink.sink).room ≡ debt_of (body_size setting output.wide ticks output.node)
 
--- or those of the ticks that its clock made, and a front of those of the ones that it tried
+-- the sink of an output holds the bytes of the ticks that its clock made, and a front of those of the ticks that it
+-- tried; or it failed with fewer
 pub record IsPart {O : Type 0} (told : O → SinkTold) (shelf : ShelfTold) (setting : Setting) (ticks : ℕ) (made tried : ℕ
     → ℕ) (output : Written) (sink : OutputSink O) : Type 0 where
   pub holds : TellsSinks shelf → HoldsFront (front_file setting ticks made tried output) (told sink.sink)
   pub measured : ForSome shelf.closed (λ before. AreTold 1 (told sink.sink))
 
--- the first outputs of a plan were created, and each sink holds its bytes of the ticks that its clock made in a run,
--- and a front of those of the ones that it tried, whatever answers follow: `answers` are then all those of the run; or
--- it failed. The shelf tells of these sinks that it made them
+-- The first outputs of a plan were created, as the shelf tells. Each sink holds its bytes of the ticks that its clock
+-- made in a run, and a front of those of the ticks that it tried, or it failed: whatever answers follow. `answers rest`
+-- are those of the run, and then `rest`.
 pub record AreBegun {O : Type 0} (told : O → SinkTold) (shelf : ShelfTold) (setting : Setting) (answers : (ℕ
     → List Answer) → ℕ → List Answer) (ticks : ℕ) (made tried : ℕ → ℕ)
     (order : List ℕ) (groups : List (List (OutputSink O))) (created_now : Option (List (List ℕ))) : Type 0 where
@@ -124,8 +127,8 @@ pub record AreBegun {O : Type 0} (told : O → SinkTold) (shelf : ShelfTold) (se
   pub parts : (rest : ℕ → List Answer)
       → AreCreated (IsPart told shelf (answered setting (answers rest)) ticks made tried) created order groups
 
--- a sink of this clock was created, and holds these bytes, its one piece; it has room for so many more, and for the
--- byte that it owes then
+-- a sink was created, and holds these bytes, its one piece; it has room for `body` bytes more, and for the byte that it
+-- owes then
 pub record IsOpened {O : Type 0} (told : O
     → SinkTold) (shelf : ShelfTold) (name bytes : List ℕ) (body : ℕ) (sink : OutputSink O) : Type 0 where
   pub holds : TellsSinks shelf → HoldsWhole (record { name = name; bytes = bytes }) (told sink.sink)
@@ -133,14 +136,14 @@ pub record IsOpened {O : Type 0} (told : O
   pub room : HasRoom (but_one_if sink.odd (told sink.sink).room) body
   pub owes : owed_by sink.odd (told sink.sink).room ≡ debt_of body
 
--- or a first part of these bytes alone, and it failed
+-- a sink was created and failed: it holds a front of these bytes
 pub record IsCutShort {O : Type 0} (told : O
     → SinkTold) (shelf : ShelfTold) (name bytes : List ℕ) (sink : OutputSink O) : Type 0 where
   pub holds : TellsSinks shelf → HoldsPart (record { name = name; bytes = bytes }) (told sink.sink)
   pub measured : ForSome shelf.closed (λ before. AreTold 1 (told sink.sink))
   pub failed : 0 < (told sink.sink).faults
 
--- such a sink of this clock and name was created
+-- a sink for which `Is` holds was created, with this name: it is the last one, and the last one of this clock
 pub record WasCreated {O : Type 0} (Is : OutputSink O
     → Type 0) (clock : ℕ) (name : List ℕ) (before after : Option (List (List ℕ))) (order_old order_new : List ℕ)
     (old new : List (List (OutputSink O))) : Type 0 where
@@ -150,7 +153,7 @@ pub record WasCreated {O : Type 0} (Is : OutputSink O
   pub made_is : after ≡ after_making (name ∷ []) before
   pub is : Is sink
 
--- or none was
+-- no sink was created
 pub record NoneCreated {O : Type 0} (before after : Option (List (List ℕ))) (order_old order_new : List ℕ)
     (old new : List (List (OutputSink O))) : Type 0 where
   pub order_is : order_new ≡ order_old

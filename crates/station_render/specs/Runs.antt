@@ -40,7 +40,7 @@ counts_of station run = counts_from run 0 station.plan.buffers
 abbrev pub name_in : Job → Option (List ℕ)
 name_in job = option_map (λ (name : Bor (List ℕ)). name.now) job.trace
 
--- what a job may rely on
+-- the plan, the library, the clocks and the ticks of a job fit together, which a rendering relies on
 abbrev pub IsFitting : Job → Type 0
 IsFitting job = IsFit job.plan job.ready.library job.ready.clocks job.ticks
 
@@ -61,25 +61,26 @@ station_in job way = record {
   cues = job.cues;
 }
 
--- the ticks of a window, where there are windows
+-- how many ticks a window has; `None` where the clocks run on one thread
 abbrev pub window_of : Way → Option ℕ
 window_of InRounds = None
 window_of (InWindows window) = Some window
 window_of (Again trace) = None
 
--- the file of the trace of a run in this way, which these logs are of, where it is to leave one
+-- the file of the trace of a run in this way, with these logs: one if threads made it and a name is given, and
+-- otherwise none
 abbrev pub traces_by : Way → (name : Option (List ℕ)) → (ticks : ℕ) → List (List Answers) → List OutputFile
 traces_by InRounds name ticks logs = []
 traces_by (InWindows window) name ticks logs = traced name (record { ticks = ticks; window = window; buffers = logs })
 traces_by (Again trace) name ticks logs = []
 
--- there is a record of a rendering in this way: a trace is one that is accepted
+-- there is a record of a rendering in this way: always, but for a trace that is not accepted
 abbrev pub HasRecord : Setting → (clocks ticks : ℕ) → Way → Type 0
 HasRecord setting clocks ticks InRounds = ⊤
 HasRecord setting clocks ticks (InWindows window) = ⊤
 HasRecord setting clocks ticks (Again trace) = IsAccepted setting clocks ticks trace
 
--- this is told of a run: the gaps of each output, in sink order; of each buffer its counts and which answers each
+-- what is told of a run: the gaps of each output, in sink order; of each buffer its counts and which answers each
 -- window had; and the marks of each output, where cue files are wanted
 pub record IsTold (station : Station) (run : Run) (rendered : Rendered) : Type 0 where
   pub gaps_are : rendered.gaps.items ≡ gaps_in_order station run
@@ -116,7 +117,7 @@ pub record RanWhole {O : Type 0} (told : O
   pub whole : AreCreated (IsWhole told shelf (setting_of_run station run) station.ticks) (written station.plan.sinks)
       order groups
 
--- a run of the station came so far, and each sink holds as much of its bytes
+-- a run of the station made some ticks, and each sink that was created holds its bytes of them
 pub record RanPart {O : Type 0} (told : O
     → SinkTold) (shelf : ShelfTold) (station : Station) (order : List ℕ) (groups : List (List (OutputSink O)))
     (created_now : Option (List (List ℕ))) : Type 0 where
@@ -125,7 +126,7 @@ pub record RanPart {O : Type 0} (told : O
   pub parts : AreBegun told shelf (bare station) (answers_with station.way run) station.ticks begun.made begun.tried
       order groups created_now
 
--- the lines of these counts, of which the first is that of this buffer
+-- the lines of a report on buffers with these counts; the first buffer has this number
 abbrev pub counted_lines : (buffer : ℕ) → List Counts → List ℕ
 counted_lines buffer [] = []
 counted_lines buffer (counts ∷ others) = answers_line buffer counts.accepted counts.full counts.got counts.empty

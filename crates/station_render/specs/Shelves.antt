@@ -11,7 +11,7 @@ abbrev pub TookAtOnce : List ℕ → (old new : SinkTold) → Type 0
 TookAtOnce [] old new = new ≡ old
 TookAtOnce (byte ∷ bytes) old new = TookPiece (byte ∷ bytes) old new
 
--- one file alone
+-- a list of one file
 abbrev pub one_file : (name bytes : List ℕ) → List OutputFile
 one_file name bytes = record { name = name; bytes = bytes } ∷ []
 
@@ -22,21 +22,21 @@ pub record WroteFiles (old new : ShelfTold) (names : List (List ℕ)) (outputs :
   pub closes : HaveClosed 0 names old.closed new.closed
   pub listed : HaveListed (map closing_at_once outputs) old.closed new.closed
 
--- whatever was answered, the first of them were, and of the next one a part; no count of faults fell
+-- the first of these files were written, and a part of the next one maybe; no count of faults fell
 pub record WroteUpto (old new : ShelfTold) (names : List (List ℕ)) (outputs : List OutputFile) : Type 0 where
   pub part : ForSome old.files (λ all. IsSomeAnd new.files (HoldsUpto all outputs))
   pub front : CreatedFront names old new
   pub reads_grew : old.reads ≤ new.reads
   pub writes_grew : old.writes ≤ new.writes
 
--- it creates sinks, and does no more
+-- a call on the shelf created sinks, and did no more
 pub record OnlyCreates (old new : ShelfTold) : Type 0 where
   pub files_kept : new.files ≡ old.files
   pub closed_kept : new.closed ≡ old.closed
   pub reads_grew : old.reads ≤ new.reads
   pub writes_grew : old.writes ≤ new.writes
 
--- it closes sinks, and does no more
+-- a call on the shelf created no sink, and no count of faults fell
 pub record OnlyCloses (old new : ShelfTold) : Type 0 where
   pub created_kept : new.created ≡ old.created
   pub reads_grew : old.reads ≤ new.reads

@@ -5,7 +5,7 @@ use Rattle.std.specs.declared.alloc.Global.{Global}
 use Rattle.liq_base.specs.Pieces.{IsPrefix, SinkTold}
 use Rattle.stations.specs.Outputs.{OutputFile, OutputPart}
 
--- of these items, one for each of these clocks, those of clock m
+-- the items of clock m, where the list of numbers has the clock of each item
 abbrev pub of_clock : {Y : Type 0} → (m : ℕ) → List ℕ → List Y → List Y
 of_clock m [] ys = []
 of_clock m (c ∷ cs) [] = []
@@ -20,18 +20,19 @@ count_of m (c ∷ cs) = if nat_eq c m then suc (count_of m cs) else count_of m c
 abbrev pub lists_of : {S : Type 0} → List (Vec S Global) → List (List S)
 lists_of groups = map (λ group. group.items) groups
 
--- each clock of a list is one of so many
+-- each number of a clock in the list is less than `clocks`
 abbrev pub AreBelow : (clocks : ℕ) → List ℕ → Type 0
 AreBelow clocks order = (k clock : ℕ) → slice_get order k ≡ Some clock → clock < clocks
 
--- for these items, one for each of these clocks, there are sinks: to those of a clock, in order, its sinks stand so
+-- each item has a sink among those of its clock, to which it stands in `So`; `order` has the clock of each item, and
+-- the sinks of a clock have the order of their items
 pub record AreCreated {Y S : Type 0} (So : Y → S
     → Type 0) (ys : List Y) (order : List ℕ) (groups : List (List S)) : Type 0 where
   pub size : length ys ≡ length order
   pub below : AreBelow (length groups) order
   pub each : (m : ℕ) (group : List S) → slice_get groups m ≡ Some group → AllZip So (of_clock m order ys) group
 
--- each clock has as many sinks as it stands in a list
+-- each clock has as many sinks as `order` has its number
 pub record HaveSizes {S : Type 0} (order : List ℕ) (groups : List (List S)) : Type 0 where
   pub below : AreBelow (length groups) order
   pub each : (m : ℕ) (group : List S) → slice_get groups m ≡ Some group → length group ≡ count_of m order
@@ -49,30 +50,32 @@ pub record AreEmpty {S : Type 0} (clocks : ℕ) (groups : List (List S)) : Type 
 pub record HasPlace {S : Type 0} (clock : ℕ) (groups : List (Vec S Global)) : Type 0 where
   pub room : (group : Vec S Global) → slice_get groups clock ≡ Some group → vec_len group + 1 ≤ vec_capacity group
 
--- this clock has a sink more, its last
+-- a clock got one sink more, as its last
 pub record WasAdded {S : Type 0} (clock : ℕ) (sink : S) (old new : List (List S)) : Type 0 where
   pub before : List S
   pub was : slice_get old clock ≡ Some before
   pub is : new ≡ slice_set old clock (before ++ sink ∷ [])
 
--- this clock has a sink less, its first
+-- the first sink of a clock was taken from it
 pub record WasTaken {S : Type 0} (clock : ℕ) (old : List (List S)) (sink : S) (new : List (List S)) : Type 0 where
   pub rest : List S
   pub was : slice_get old clock ≡ Some (sink ∷ rest)
   pub is : new ≡ slice_set old clock rest
 
--- the sink has the name of the output, and holds all its bytes, or a first part of them
+-- the sink has the name of this file, and holds all its bytes
 pub record HoldsWhole (output : OutputFile) (sink : SinkTold) : Type 0 where
   pub named : sink.name ≡ Some output.name
   pub holds : sink.held ≡ Some output.bytes
 
+-- the sink has the name of this file, and holds a front of its bytes
 pub record HoldsPart (output : OutputFile) (sink : SinkTold) : Type 0 where
   pub named : sink.name ≡ Some output.name
   pub part : List ℕ
   pub holds : sink.held ≡ Some part
   pub front : IsPrefix part output.bytes
 
--- the sink has the name of the output, and holds at least and at most its bytes; or a prefix of them, and it failed
+-- the sink has the name of the output, and holds a front of its bytes `most`, with all its bytes `least` in front
+-- unless the sink failed
 pub record HoldsFront (output : OutputPart) (sink : SinkTold) : Type 0 where
   pub named : sink.name ≡ Some output.name
   pub part : List ℕ
@@ -80,7 +83,7 @@ pub record HoldsFront (output : OutputPart) (sink : SinkTold) : Type 0 where
   pub most : IsPrefix part output.most
   pub least : IsPrefix output.least part ⊎ (0 < sink.faults)
 
--- the count of faults of a sink is above 0
+-- a sink has failed: its count of faults is above 0
 pub record HasFailed {S : Type 0} (told : S → SinkTold) (groups : List (List S)) : Type 0 where
   pub clock : ℕ
   pub place : ℕ

@@ -23,7 +23,7 @@ pub record AreReady {S : Type 0} (told : S → SinkTold) (job : Job) (engines : 
   pub at : AreAt (setting_by job) engines
   pub over : AreOver told job.plan job.ticks (setting_by job) engines
 
--- They made their ticks in this way: all of them, where the run is done, and else as many as they came to.
+-- The engines of a job made their ticks in this way: all of them if the run is done, and otherwise a part.
 pub record HaveTicked {S : Type 0} (told : S
     → SinkTold) (job : Job) (way : Way) (old new : List (ClockEngine S)) (run : RunEnd) : Type 0 where
   pub all : run.end ≡ Done
@@ -46,7 +46,7 @@ pub record OnlyOpened (job : Job) (old new : ShelfTold) : Type 0 where
   pub reads_grew : old.reads ≤ new.reads
   pub writes_grew : old.writes ≤ new.writes
 
--- they were opened by a shelf that told this, and then the engines made their ticks in this way
+-- the outputs of a job were opened by a shelf that told this, and then the engines made their ticks in this way
 pub record MayClose {O : Type 0} (told : O → SinkTold) (shelf : ShelfTold) (job : Job) (way : Way)
     (order : List ℕ) (groups : List (List (OutputSink O))) (engines : List (ClockEngine (OutputSink O)))
     (run : RunEnd) : Type 0 where

@@ -19,7 +19,8 @@ use crate::output_sink::{OutputSink, end_if};
 use crate::{RenderFault, Rendered};
 use liq_base::{Failed, Shelf};
 
-/// Closes all sinks in sink order, whatever was written, and answers what was told of it.
+/// Closes all sinks in sink order, whatever was written. Returns what was told of the run, its fault, or that of a
+/// closing. `order` has the clock of each sink, and `groups` the sinks of each clock.
 pub(crate) fn close_all<S: Shelf>(
     shelf: &mut S,
     order: &[u32],
@@ -53,7 +54,7 @@ pub(crate) fn close_all<S: Shelf>(
     Ok(rendered)
 }
 
-/// Closes what was created of the outputs after a fault, in sink order, and hands the fault on.
+/// Closes what was created of the outputs, in sink order, after a fault, and returns this fault.
 pub(crate) fn close_broken<S: Shelf>(
     shelf: &mut S,
     order: &[u32],
@@ -79,8 +80,8 @@ pub(crate) fn close_broken<S: Shelf>(
     fault
 }
 
-// Closes the sinks in sink order, also those behind one whose closing failed. As long as all went well, each gets the
-// byte that it owes before.
+// Closes the sinks in sink order, also those behind one whose closing failed. `well` says that all went well before; as
+// long as it does, each sink gets the byte that it owes before it is closed.
 fn close_each<S: Shelf>(
     shelf: &mut S,
     order: &[u32],
@@ -127,7 +128,7 @@ fn close_each<S: Shelf>(
     others
 }
 
-// Whether all still goes well.
+// Whether all still goes well, after the last byte and the closing of a sink.
 fn still_well(well: bool, ended: Result<(), Failed>, closed: Result<(), Failed>) -> bool
     ensures before { result ≡ true → well ≡ true }
     ensures unwell { well ≡ false → result ≡ false }

@@ -23,7 +23,8 @@ use plan_core::{Plan, SinkPlan};
 /// Bytes of a header.
 const HEADER_BYTES: u64 = 44;
 
-/// Creates the outputs of a plan in sink order, each with its header.
+/// Creates the outputs of a plan in sink order, each with its header. `order` gets the clock of each, and `groups` has
+/// the sinks of each clock.
 pub(crate) fn create_each<S: Shelf>(
     plan: &Plan,
     clocks: &ClockMap,
@@ -69,8 +70,8 @@ pub(crate) fn create_each<S: Shelf>(
     Ok(())
 }
 
-// Creates an output of this name, with its header as one piece. Its room is for exactly its bytes, with a last zero
-// byte behind an odd number of them.
+// Creates an output of this name, with its header as one piece. Its room is for exactly its bytes, with a zero byte at
+// the end if those of its samples are odd.
 fn create_one<S: Shelf>(
     shelf: &mut S,
     name: &str,

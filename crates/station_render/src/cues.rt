@@ -37,7 +37,7 @@ pub(crate) fn leave_wanted<S: Shelf>(
     leave_cues(alloc, &job.plan, &job.ready.library, marks, shelf)
 }
 
-// Leaves the cue file of each output.
+// Leaves the cue file of each output, in sink order. `marks` has those of each output.
 fn leave_cues<S: Shelf>(
     alloc: Global,
     plan: &Plan,
@@ -64,7 +64,7 @@ fn leave_cues<S: Shelf>(
     Ok(())
 }
 
-// The cue file of the output of this name.
+// Writes the cue file of the output of this name.
 fn leave_one<S: Shelf>(
     alloc: Global,
     library: &Library,
@@ -92,7 +92,7 @@ pub fn cue_file_name(alloc: Global, output: &str) -> Result<String, AllocError>
     Ok(file)
 }
 
-// A line for each mark.
+// The text of a cue file: a line for each mark.
 fn text_of(alloc: Global, library: &Library, marks: &[CueMark]) -> Result<String, AllocError>
     ensures { IfOk result (λ text. string_bytes text ≡ cue_text library.now (map cue_of marks.now)) }
 {
@@ -103,7 +103,7 @@ fn text_of(alloc: Global, library: &Library, marks: &[CueMark]) -> Result<String
     Ok(text)
 }
 
-// The line of a mark.
+// Appends the line of a mark.
 fn push_line(
     alloc: Global,
     text: &mut String,
@@ -117,7 +117,7 @@ fn push_line(
     text.push_str("\n")
 }
 
-// The name that a title stands for, behind a space.
+// Appends a space and the name of the file that this title stands for; nothing for a title without a file.
 fn push_title(text: &mut String, library: &Library, title: u32) -> Result<(), AllocError>
     ensures { OnOk result (string_bytes text.new ≡ string_bytes text.old ++ spaced (title_name library.now title)) }
 {

@@ -42,7 +42,7 @@ fn take_out<O>(alloc: Global, groups: &mut Vec<Vec<O>>, clock: usize) -> Vec<O>
     mem::replace(&mut groups[clock], Vec::new(alloc))
 }
 
-// The engine, which keeps its marks if they are wanted, and else is as it was: a new one keeps none.
+// The engine; if marks are wanted, it keeps them from now on.
 fn keep_if<'a, O: Sink>(wanted: bool, engine: ClockEngine<'a, O>) -> ClockEngine<'a, O>
     requires { EngineStands engine.parts 0 nothing }
     ensures setting { setting_of result.parts ≡ setting_of engine.entry.parts }
@@ -59,7 +59,7 @@ fn keep_if<'a, O: Sink>(wanted: bool, engine: ClockEngine<'a, O>) -> ClockEngine
     engine
 }
 
-// Makes the engine of a clock, which takes its sinks.
+// Makes the engine of a clock, which takes its sinks from `groups`; they go back there if memory is refused.
 fn make_engine<'a, O: Sink>(
     alloc: Global,
     job: &'a Job<'_>,
@@ -95,7 +95,7 @@ fn make_engine<'a, O: Sink>(
     }
 }
 
-// Takes the sinks of the engines back.
+// Takes the sinks of the engines back into `groups`.
 fn give_back<O: Sink>(engines: Vec<ClockEngine<'_, O>>, groups: &mut Vec<Vec<O>>)
     requires few { length engines.items ≤ length (lists_of groups.old.items) }
     requires empty { AreEmptyBelow (length engines.items) (lists_of groups.old.items) }
@@ -108,7 +108,7 @@ fn give_back<O: Sink>(engines: Vec<ClockEngine<'_, O>>, groups: &mut Vec<Vec<O>>
     engines.destroy_empty();
 }
 
-/// Makes the engines of all clocks, which take the sinks.
+/// Makes the engines of all clocks, which take the sinks from `groups`; they go back there if memory is refused.
 pub(crate) fn make_engines<'a, O: Sink>(
     alloc: Global,
     job: &'a Job<'_>,
@@ -138,7 +138,7 @@ pub(crate) fn make_engines<'a, O: Sink>(
     Ok(engines)
 }
 
-// The gaps of the outputs of a plan, in sink order, once the engines have made their ticks.
+// How many gaps each output of a plan has, in sink order, once the engines have made their ticks.
 fn gaps_of<O: Sink>(
     alloc: Global,
     plan: &Plan,
@@ -195,7 +195,7 @@ fn marks_of<O: Sink>(
     Ok(all)
 }
 
-// The same marks once more.
+// A copy of these marks.
 fn copied(alloc: Global, marks: &[CueMark]) -> Result<Vec<CueMark>, AllocError>
     ensures { IfOk result (λ own. own.items ≡ marks.now) }
 {
@@ -204,7 +204,7 @@ fn copied(alloc: Global, marks: &[CueMark]) -> Result<Vec<CueMark>, AllocError>
     Ok(own)
 }
 
-// The marks, where they are wanted.
+// The marks of each output, in sink order, if cue files are wanted, and otherwise none.
 fn marks_if<O: Sink>(
     alloc: Global,
     job: &Job<'_>,
@@ -225,7 +225,7 @@ fn marks_if<O: Sink>(
     marks_of(alloc, &job.plan, &job.ready.clocks, engines)
 }
 
-// What is told of a run that ended so.
+// What is told of a run, by its end and by the engines; a fault if it is not done.
 fn tell<O: Sink>(
     alloc: Global,
     job: &Job<'_>,
@@ -265,7 +265,8 @@ fn tell<O: Sink>(
     }
 }
 
-/// Takes the sinks of the engines back, after a run that ended so, and answers what is told of it.
+/// Takes the sinks of the engines back into `groups` after a run, and returns what is told of the run, or why it broke
+/// off.
 pub(crate) fn take_back<O: Sink>(
     alloc: Global,
     job: &Job<'_>,

@@ -20,11 +20,11 @@ pub(crate) struct Opening {
     /// The header of its file.
     pub header: [u8; 44],
 
-    /// The bytes behind the header.
+    /// How many bytes come after the header.
     pub body: u64,
 }
 
-// The number of a sink's clock.
+// The number of the main clock of a node, which is that of a sink.
 pub(crate) fn clock_of(clocks: &ClockMap, node: u32) -> u32
     requires { (m : ℕ) × (slice_get clocks.now.of node ≡ Some (NodeClock.Main m)) }
     ensures { slice_get clocks.now.of node ≡ Some (NodeClock.Main result) }
@@ -35,7 +35,8 @@ pub(crate) fn clock_of(clocks: &ClockMap, node: u32) -> u32
     }
 }
 
-/// What the output of a node is created with.
+/// What the output of a node is created with, for so many ticks. The samples are of 24 bits if it is `wide`, and
+/// otherwise of 16 bits.
 pub(crate) fn opening_of(
     plan: &Plan,
     clocks: &ClockMap,
@@ -71,7 +72,7 @@ fn kind_of(plan: &Plan, node: u32) -> Kind
     plan.nodes.as_slice()[node as usize].kind
 }
 
-// The bytes of one instant of an output of this kind.
+// How many bytes an output of this kind gets in one instant.
 fn block_len(wide: bool, kind: Kind) -> u64
     ensures { result ≡ block_length wide kind }
 {
@@ -79,7 +80,7 @@ fn block_len(wide: bool, kind: Kind) -> u64
     if wide { 3 * channels } else { 2 * channels }
 }
 
-// The header of an output of this kind.
+// The header of an output of this kind, for so many ticks.
 fn header_for(plan: &Plan, kind: Kind, wide: bool, ticks: u64) -> [u8; 44]
     requires plan { IsWellFormed plan.now }
     requires few { ticks ≤ 1000000000 }

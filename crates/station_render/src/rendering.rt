@@ -58,8 +58,8 @@ pub fn render<S: Shelf, G: Gate + Sync, R: Threads + Wait + Sync>(
     finish(alloc, job, Some(window), shelf, places, engines, run)
 }
 
-/// The same on one thread: between the creations and the closings every clock makes its ticks, in rounds. It leaves no
-/// trace.
+/// Renders a job on one thread, by the steps of `render`: between the creations and the closings every clock makes its
+/// ticks, in rounds. It leaves no trace.
 pub fn render_alone<S: Shelf>(
     alloc: Global,
     job: &Job<'_>,
@@ -73,9 +73,9 @@ pub fn render_alone<S: Shelf>(
     finish(alloc, job, None, shelf, places, engines, run)
 }
 
-/// The same again, as an accepted trace of this job tells, on one thread: between the creations and the closings the
-/// clocks make all their ticks, in turns, and their buffers answer as they did in the run that left the trace. The
-/// turns are all those of the trace's record. It leaves no trace. The rules stand in `docs/buffers.md`.
+/// Renders a job on one thread, by an accepted trace of it and by the steps of `render`: between the creations and the
+/// closings the clocks make all their ticks, in turns, and their buffers answer as they did in the run that left the
+/// trace. The turns are all those of the trace's record. It leaves no trace. The rules stand in `docs/buffers.md`.
 pub fn render_again<S: Shelf>(
     alloc: Global,
     job: &Job<'_>,
@@ -94,8 +94,8 @@ pub fn render_again<S: Shelf>(
     finish(alloc, job, None, shelf, places, engines, run)
 }
 
-// What is left of a rendering once the ticks are made, in windows of so many or in none: closes the outputs, and leaves
-// the cue files and the trace, where these are wanted.
+// What is left of a rendering once the ticks are made: closes the outputs, and leaves the cue files and the trace,
+// where these are wanted. `window` is how many ticks a window had; `None` on one thread.
 fn finish<S: Shelf>(
     alloc: Global,
     job: &Job<'_>,
@@ -120,8 +120,8 @@ fn finish<S: Shelf>(
     leave_trace(alloc, job, window, shelf, rendered)
 }
 
-// The last part of a rendering's outputs: takes the sinks of the engines back into their places, closes all in sink
-// order, whatever the run came to, and answers what is told of it.
+// Ends the outputs of a rendering: takes the sinks of the engines back into their places, closes all in sink order,
+// whatever the run came to, and returns what is told of it.
 fn close_outputs<S: Shelf>(
     alloc: Global,
     job: &Job<'_>,

@@ -6,7 +6,7 @@ ghost use Rattle.station_render.specs.Sinks.{AreEmpty, HasPlace, WasAdded, lists
 use liq_base::Memory;
 use std::alloc::{AllocError, Global};
 
-/// No sinks, of so many clocks.
+/// For each of so many clocks, a list without sinks.
 pub(crate) fn no_sinks<O>(alloc: Global, clocks: u32) -> Result<Vec<Vec<O>>, AllocError>
     ensures { IfOk result (λ groups. AreEmpty clocks (lists_of groups.items)) }
 {

@@ -19,7 +19,7 @@ use std::thread::Threads;
 use trace_log::Trace;
 use trace_replay::{RecordTurns, replay};
 
-/// Each clock makes its ticks on a thread of its own, in windows of so many.
+/// Each clock makes its ticks on a thread of its own, in windows of `window` ticks.
 pub(crate) fn tick_by_threads<'a, O: Sink + Send, G: Gate + Sync, R: Threads + Wait + Sync>(
     rt: &R,
     alloc: Global,
@@ -60,7 +60,7 @@ pub(crate) fn tick_in_rounds<'a, O: Sink>(
     (engines, run)
 }
 
-/// The clocks make their ticks in turns on one thread, as a trace tells, of whose record the turns are.
+/// The clocks make their ticks on one thread, in the turns of the trace's record.
 pub(crate) fn tick_again<'a, O: Sink>(
     alloc: Global,
     job: &'a Job<'_>,

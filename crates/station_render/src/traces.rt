@@ -13,8 +13,8 @@ use liq_base::Shelf;
 use std::alloc::Global;
 use trace_log::{Trace, print};
 
-/// Leaves the trace of a run of this job, where one is wanted and the ticks were made in windows of so many, and hands
-/// on what is told of the run.
+/// Leaves the trace of a run of this job if one is wanted and threads made the run, and hands on what is told of it.
+/// `window` is how many ticks a window had; `None` on one thread.
 pub(crate) fn leave_trace<S: Shelf>(
     alloc: Global,
     job: &Job<'_>,

@@ -19,12 +19,12 @@ names_in [] = []
 names_in (Output name node fallible wide ∷ sinks) = name ∷ names_in sinks
 names_in (Feed buffer node ∷ sinks) = names_in sinks
 
--- the name of a trace, where one is wanted
+-- the name of a trace, alone in a list, where one is wanted
 abbrev pub trace_names : Option (List ℕ) → List (List ℕ)
 trace_names None = []
 trace_names (Some name) = name ∷ []
 
--- the name of the trace, where a run by threads is to leave one
+-- the name of the trace, where a run by threads is to leave one; no other way leaves a trace
 abbrev pub trace_names_in : Way → (name : Option (List ℕ)) → List (List ℕ)
 trace_names_in InRounds name = []
 trace_names_in (InWindows window) name = trace_names name
@@ -35,12 +35,12 @@ abbrev pub names_of : Station → List (List ℕ)
 names_of station = names_in station.plan.sinks
     ++ (cue_names_if station.cues station.plan.sinks ++ trace_names_in station.way station.trace)
 
--- they are the names of the files that each run writes, in their order
+-- the names under which a rendering creates its files are those of the files that a run writes
 abbrev pub AreNamesOfFiles : Station → Run → Type 0
 AreNamesOfFiles station run = map (λ file. file.name) (files_of station run) ≡ names_of station
 
--- The first of these names were made, one after another, and no other, and each of them was closed, in the same order,
--- and no other: maybe none, and maybe all.
+-- Of these names the first ones alone were made, one after another, maybe none and maybe all; and each of them was
+-- closed, in that order, and no other.
 pub record CreatedFront (names : List (List ℕ)) (old new : ShelfTold) : Type 0 where
   pub made : List (List ℕ)
   pub others : List (List ℕ)
@@ -63,12 +63,12 @@ closings_in setting ticks (Output name node fallible wide ∷ sinks) =
     } ∷ closings_in setting ticks sinks
 closings_in setting ticks (Feed buffer node ∷ sinks) = closings_in setting ticks sinks
 
--- the pieces of a file that is written at once: one, or none if it is empty
+-- how many pieces a file has that is written at once: one, or none if it is empty
 abbrev pub pieces_of : (bytes : List ℕ) → ℕ
 pieces_of [] = 0
 pieces_of (byte ∷ bytes) = 1
 
--- what a shelf lists of a file that was written at once, for whose bytes alone it was created
+-- what a shelf lists of a file that was created for just its bytes and written at once
 abbrev pub closing_at_once : OutputFile → Closing
 closing_at_once file = record {
   name = file.name;
@@ -85,12 +85,13 @@ closings_of station run =
     closings_in (setting_of_run station run) station.ticks station.plan.sinks
     ++ map closing_at_once (later_files station run)
 
--- these closings came, one after another, and no other; how often their sinks had failed is left open
+-- after the closings `before`, these came, one after another, and no other; how often their sinks had failed is left
+-- open
 pub record AreListed (closings before : List Closing) (after : Option (List Closing)) : Type 0 where
   pub more : List Closing
   pub same : map without_faults more ≡ closings
   pub told : after ≡ Some (before ++ more)
 
--- if the shelf tells its closings, these were listed
+-- if the shelf tells its closings, these came, one after another, and no other
 abbrev pub HaveListed : List Closing → (before after : Option (List Closing)) → Type 0
 HaveListed closings before after = ForSome before (λ told. AreListed closings told after)

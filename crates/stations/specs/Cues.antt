@@ -10,16 +10,16 @@ use Rattle.run_records.specs.Records.{Run}
 use Rattle.stations.specs.Outputs.{OutputFile}
 use Rattle.stations.specs.Stations.{Station, setting_of_run}
 
--- the name that a title stands for, behind a space; nothing for no title
+-- a space and the name that a title stands for; nothing for no title
 abbrev pub spaced : Option (List ℕ) → List ℕ
 spaced None = []
 spaced (Some name) = codes " " ++ name
 
--- the line of a mark
+-- the line of a cue file for one mark: its sample, and the name of its title
 abbrev pub cue_line : Sounds → Cue → List ℕ
 cue_line library cue = decimal cue.at ++ spaced (title_name library cue.title) ++ codes "\n"
 
--- one line for each mark
+-- the text of a cue file: one line for each mark
 abbrev pub cue_text : Sounds → List Cue → List ℕ
 cue_text library marks = flat_map (cue_line library) marks
 
@@ -29,12 +29,12 @@ marks_in setting ticks [] = []
 marks_in setting ticks (Output name node fallible wide ∷ sinks) = cues setting node ticks ∷ marks_in setting ticks sinks
 marks_in setting ticks (Feed buffer node ∷ sinks) = marks_in setting ticks sinks
 
--- these marks if cue files are wanted, and none otherwise
+-- the marks of the outputs among these sinks if cue files are wanted, and none otherwise
 abbrev pub marks_if : (wanted : Bool) → Setting → (ticks : ℕ) → List SinkPlan → List (List Cue)
 marks_if false setting ticks sinks = []
 marks_if true setting ticks sinks = marks_in setting ticks sinks
 
--- the marks that are kept in a run of the station
+-- the marks that a run of the station keeps for its cue files
 abbrev pub marks_of : Station → Run → List (List Cue)
 marks_of station run = marks_if station.cues (setting_of_run station run) station.ticks station.plan.sinks
 
@@ -52,7 +52,7 @@ cues_in setting ticks (Output name node fallible wide ∷ sinks) =
     } ∷ cues_in setting ticks sinks
 cues_in setting ticks (Feed buffer node ∷ sinks) = cues_in setting ticks sinks
 
--- these cue files if they are wanted, and none otherwise
+-- the cue files of the outputs among these sinks if they are wanted, and none otherwise
 abbrev pub cues_if : (wanted : Bool) → Setting → (ticks : ℕ) → List SinkPlan → List OutputFile
 cues_if false setting ticks sinks = []
 cues_if true setting ticks sinks = cues_in setting ticks sinks
@@ -67,6 +67,7 @@ cue_names_in [] = []
 cue_names_in (Output name node fallible wide ∷ sinks) = cue_name name ∷ cue_names_in sinks
 cue_names_in (Feed buffer node ∷ sinks) = cue_names_in sinks
 
+-- the names of the cue files of the outputs among these sinks if they are wanted, and none otherwise
 abbrev pub cue_names_if : (wanted : Bool) → List SinkPlan → List (List ℕ)
 cue_names_if false sinks = []
 cue_names_if true sinks = cue_names_in sinks

@@ -32,7 +32,7 @@ abbrev pub sink_name : SinkPlan → List ℕ
 sink_name (Output name node fallible wide) = name
 sink_name (Feed buffer node) = []
 
--- the name of the first sink that is such
+-- the name of the first sink for which `such` holds
 abbrev pub first_name : (such : SinkPlan → Bool) → List SinkPlan → Option (List ℕ)
 first_name such [] = None
 first_name such (sink ∷ sinks) = if such sink then Some (sink_name sink) else first_name such sinks
@@ -41,7 +41,7 @@ first_name such (sink ∷ sinks) = if such sink then Some (sink_name sink) else 
 abbrev pub node_kind : Plan → (node : ℕ) → Kind
 node_kind plan node = option_map_or (λ node. node.kind) (slice_get plan.nodes node) Stereo
 
--- after so many ticks an output is too long for the header of its file
+-- whether an output is too long for the header of its file after so many ticks
 abbrev pub is_too_long : Plan → (ticks : ℕ) → SinkPlan → Bool
 is_too_long plan ticks (Output name node fallible wide) = is_none
     (header_at wide (node_kind plan node) plan.rate (ticks * plan.frame))
@@ -51,25 +51,26 @@ is_too_long plan ticks (Feed buffer node) = false
 abbrev pub IsLoaded : Files → Plan → (library : Sounds) → Type 0
 IsLoaded files plan library = load_of (rules_of plan) files plan.nodes ≡ Ok library
 
--- beside that, each output has a node that is infallible, or is written with `fallible=true`
+-- these are the audio files of the plan, and each output has a node that is infallible, or is written with
+-- `fallible=true`
 pub record IsSafe (files : Files) (plan : Plan) (library : Sounds) : Type 0 where
   pub loaded : IsLoaded files plan library
   pub mark : ℕ → Bool
   pub marking : IsMarking plan.nodes mark
   pub none : first_name (refuses mark) plan.sinks ≡ None
 
--- beside that, these are the clocks of the plan
+-- these are the audio files and the clocks of the plan, and no output needs an infallible node and has none
 pub record IsClocked (files : Files) (plan : Plan) (library : Sounds) (clocks : ClockMap) : Type 0 where
   pub safe : IsSafe files plan library
   pub map : IsClockMap plan clocks
 
--- the plan is rendered for so many ticks: no output is too long
+-- the plan is rendered for so many ticks, over these audio files and clocks: no output is too long
 pub record IsRenderable (files : Files) (plan : Plan) (ticks : ℕ) (library : Sounds) (clocks : ClockMap) : Type 0 where
   pub clocked : IsClocked files plan library clocks
   pub sounds : IsLibrary library
   pub none : first_name (is_too_long plan ticks) plan.sinks ≡ None
 
--- the audio files are not loaded, for this fault
+-- the audio files of the plan are not loaded, for this fault
 abbrev pub IsUnloaded : Files → Plan → LoadFault → Type 0
 IsUnloaded files plan fault = load_of (rules_of plan) files plan.nodes ≡ Err fault
 
@@ -95,7 +96,7 @@ pub record IsTooLong (files : Files) (plan : Plan) (ticks : ℕ) (name : List �
   pub clocked : IsClocked files plan library clocks
   pub first : first_name (is_too_long plan ticks) plan.sinks ≡ Some name
 
--- the faults of files; a read that failed and want of memory are none
+-- the plan has this fault of files; a read that failed and want of memory are no such fault
 abbrev pub IsFileFault : Files → Plan → LoadFault → Type 0
 IsFileFault files plan (Missing name) = IsUnloaded files plan (Missing name)
 IsFileFault files plan (BadAudio name fault) = IsUnloaded files plan (BadAudio name fault)
@@ -104,23 +105,24 @@ IsFileFault files plan AllTooLarge = IsUnloaded files plan AllTooLarge
 IsFileFault files plan (ReadFault name) = ⊥
 IsFileFault files plan Memory = ⊥
 
--- what each fault of a station means
+-- the plan, rendered for so many ticks, has this fault
 abbrev pub IsStationFault : Files → Plan → (ticks : ℕ) → StationFault → Type 0
 IsStationFault files plan ticks (StationFault.Files fault) = IsFileFault files plan fault
 IsStationFault files plan ticks (FallibleOutput name) = IsUnsafe files plan name
 IsStationFault files plan ticks (Clocks fault) = IsUnclocked files plan fault
 IsStationFault files plan ticks (OutputTooLong name) = IsTooLong files plan ticks name
 
--- what is found of a plan: its audio files and clocks, or its first fault
+-- what is found of a plan: that it fits, by its audio files and its clocks, or its first fault
 pub data Finding : Type 0 where
   Fits : Sounds → ClockMap → Finding
   Fails : StationFault → Finding
 
+-- this is found of the plan, to be rendered for so many ticks
 abbrev pub IsFinding : Files → Plan → (ticks : ℕ) → Finding → Type 0
 IsFinding files plan ticks (Fits library clocks) = IsRenderable files plan ticks library clocks
 IsFinding files plan ticks (Fails fault) = IsStationFault files plan ticks fault
 
--- this is found, and nothing else
+-- this is found of the plan, to be rendered for so many ticks, and nothing else
 pub record IsFound (files : Files) (plan : Plan) (ticks : ℕ) (finding : Finding) : Type 0 where
   pub holds : IsFinding files plan ticks finding
   pub only : (other : Finding) → IsFinding files plan ticks other → other ≡ finding

@@ -11,38 +11,39 @@ pub record OutputFile : Type 0 where
   pub name : List ℕ
   pub bytes : List ℕ
 
--- the files after these were written, in order
+-- the files of a shelf after these were written, in order
 abbrev pub with_outputs : Files → List OutputFile → Files
 with_outputs files [] = files
 with_outputs files (output ∷ outputs) = with_outputs (with_file files output.name output.bytes) outputs
 
--- a file of which a part was written: its name, and its first bytes, as many as it has at least and at most
+-- a file of which a part was written: its name, the bytes that it has at least, and those that it has at most
 pub record OutputPart : Type 0 where
   pub name : List ℕ
   pub least : List ℕ
   pub most : List ℕ
 
--- the name holds at least and at most these bytes; or, where its closing failed, a prefix of them or what it held;
--- nothing else changed
+-- the name holds at least and at most these bytes; or, where its closing failed, a prefix of them or what it held
+-- before; nothing else changed
 abbrev pub HoldsBetween : (failed : Type 0) → Files → OutputPart → Files → Type 0
 HoldsBetween failed files output after =
     ((part : List ℕ) × IsPrefix output.least part × IsPrefix part output.most
     × (after ≡ with_file files output.name part)) ⊎ (failed × HoldsPart files output.name output.most after)
 
--- So does each name in turn, while a count of failed writes rises from `count` to `last`: where one closing failed, it
--- rose.
+-- Each name in turn holds at least and at most its bytes, while the count of failed writes rises from `count` to
+-- `last`; where a closing failed, the count rose, and the name may hold a prefix or what it held before.
 abbrev pub HoldsParts : (count : ℕ) → Files → List OutputPart → Files → (last : ℕ) → Type 0
 HoldsParts count files [] after last = (after ≡ files) × (count ≤ last)
 HoldsParts count files (output ∷ outputs) after last =
     (midway : Files) × (next : ℕ) × (count ≤ next) × HoldsBetween (Rose count next) files output midway
     × HoldsParts next midway outputs after last
 
--- what a shelf tells of the sinks that it made, or of those that were closed, after these, one after another
+-- what a shelf tells of the sinks that it made, or of those that were closed, after these, one after another; None
+-- where it tells nothing
 abbrev pub after_making : {A : Type 0} → List A → Option (List A) → Option (List A)
 after_making more None = None
 after_making more (Some before) = Some (before ++ more)
 
--- Sinks of these names were closed, one after another, and no other, each of which had got so many pieces at least.
+-- Sinks of these names were closed, one after another, and no other, each of which had got `least` pieces or more.
 -- Where that is one or more, the first piece is a header, of 44 bytes: a sink that had not failed holds it whole.
 -- `before` and `after` is what the shelf tells of its closings.
 pub record AreClosed (least : ℕ) (names : List (List ℕ)) (before : List Closing) (after : Option (List Closing)) : Type
@@ -53,16 +54,14 @@ pub record AreClosed (least : ℕ) (names : List (List ℕ)) (before : List Clos
   pub headers_are : All (λ closing. 0 < least → closing.faults ≡ 0 → 44 ≤ closing.bytes) closings
   pub told : after ≡ Some (before ++ closings)
 
--- if the shelf tells its closings, sinks of these names were closed
+-- if the shelf tells its closings, sinks of these names were closed, each of which had got `least` pieces or more
 abbrev pub HaveClosed : (least : ℕ) → List (List ℕ) → (before after : Option (List Closing)) → Type 0
 HaveClosed least names before after = ForSome before (λ closings. AreClosed least names closings after)
 
--- So it is for the first of the outputs, which were created, as the shelf tells of the sinks that it made; the
--- others were not. Files do not tell which were created. Each of them had got a piece when it was closed, its
--- header, also where the creation of the next one failed; or a front of its header, and its own sink had failed.
--- `first` is where the count stood when their closings began. Where a device failed and not all were created, the
--- count rose before that, as a creation failed, which then excuses no file; or it rose at a closing, as a header
--- broke off. Where not all were created, no tick was made, which is `idle`.
+-- The first of the outputs were created and hold their parts, or what a failed closing leaves; the others were not, and
+-- then no tick was made, which is `idle`. Each had got its header when it was closed, or a front of it, and its sink
+-- had failed. `first` is the count of failed writes when the closings began: where a device failed and not all were
+-- created, it rose before that, at a creation, which excuses no file; or it rose at a closing, as a header broke off.
 pub record HoldsSome (idle : Type 0) (device : Bool) (files : Files) (outputs : List OutputPart) (after : Files)
     (old new : ShelfTold) : Type 0 where
   pub created : List OutputPart
@@ -76,18 +75,18 @@ pub record HoldsSome (idle : Type 0) (device : Bool) (files : Files) (outputs : 
   pub risen : device ≡ true → (others ≡ []) ⊎ Rose old.writes first ⊎ Rose first new.writes
   pub parts : HoldsParts first files created after new.writes
 
--- all bytes of an output that has its last ones, and what it holds without them
+-- the file of an output that has its last bytes
 abbrev pub whole_of : OutputPart → OutputFile
 whole_of output = record { name = output.name; bytes = output.most }
 
--- an output without its last zero byte
+-- a part of an output, without the last zero byte
 abbrev pub unended : OutputPart → OutputPart
 unended output = record { name = output.name; least = output.least; most = output.least }
 
--- Outputs that lack nothing but their last bytes were ended and closed, one after another, and a fault came, while a
+-- Outputs with all their bytes but the last were ended and closed, one after another, until a fault came, while the
 -- count of failed writes rose from `count` to `last`: those before the fault hold all their bytes; the one at which it
--- came holds a prefix of them, or what it held; those behind it hold theirs without the last ones, or, where the count
--- rose at their closing, a prefix of these or what they held.
+-- came holds a prefix of them, or what it held before; those after it lack their last bytes, or, where the count rose
+-- at their closing, hold a prefix or what they held before.
 pub record HoldsEnds (count : ℕ) (files : Files) (outputs : List OutputPart) (after : Files) (last : ℕ) : Type 0 where
   pub whole : List OutputPart
   pub broken : OutputPart
@@ -99,13 +98,13 @@ pub record HoldsEnds (count : ℕ) (files : Files) (outputs : List OutputPart) (
   pub part : HoldsPart (with_outputs files (map whole_of whole)) broken.name broken.most midway
   pub behind : HoldsParts next midway (map unended others) after last
 
--- the name of the first of these files, if there is one, holds a prefix of its bytes, or what it held; nothing else
--- changed
+-- the name of the first of these files, if there is one, holds a prefix of its bytes, or what it held before; nothing
+-- else changed
 abbrev pub HoldsNext : Files → List OutputFile → Files → Type 0
 HoldsNext files [] after = after ≡ files
 HoldsNext files (output ∷ outputs) after = HoldsPart files output.name output.bytes after
 
--- the first of these files were written whole, one after another, and then maybe a part of the next one
+-- the first of these files were written whole, one after another, and then maybe a part of the next one; no other
 pub record HoldsUpto (files : Files) (outputs : List OutputFile) (after : Files) : Type 0 where
   pub whole : List OutputFile
   pub others : List OutputFile

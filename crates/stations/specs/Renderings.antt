@@ -25,9 +25,9 @@ pub record StoppedInTicks (station : Station) (device : Bool) (files : Files) (o
       → IsSomeAnd new.files (λ now. HoldsSome ((m : ℕ) → begun.made m ≡ 0) device files
       (parts_with station run begun rest) now old new)
 
--- A run made all its ticks, and what came behind them broke off: a last zero byte or a closing of the outputs; or, once
--- all outputs were written, a file among the cue files and the trace. All outputs had been created, and of the files
--- behind them maybe some.
+-- A run made all its ticks, and what comes after them broke off: a last zero byte or a closing of the outputs; or, once
+-- all outputs were written, a file among the cue files and the trace. All outputs had been created, and of the later
+-- files maybe some.
 pub record StoppedBehindTicks (station : Station) (files : Files) (old new : ShelfTold) : Type 0 where
   pub run : Run
   pub lawful : IsLawful station run
@@ -36,7 +36,7 @@ pub record StoppedBehindTicks (station : Station) (files : Files) (old new : She
   pub more : List (List ℕ)
   pub created : new.created ≡ after_making (names_in station.plan.sinks ++ more) old.created
 
--- what a rendering leaves, whatever it ended with
+-- what a rendering leaves that broke off, in its ticks or after them
 abbrev pub WrotePart : Station → (device : Bool) → Files → (old new : ShelfTold) → Type 0
 WrotePart station device files old new = StoppedInTicks station device files old new
     ⊎ StoppedBehindTicks station files old new
@@ -51,7 +51,7 @@ pub record RendersAsOneThread (station : Station) (run : Run) : Type 0 where
   pub cues_are : cue_files station run ≡ cue_files station alone
   pub report_is : report_of station run ≡ report_of station alone
 
--- A run that was broken off begins these rounds: with some answers behind its own it has theirs. A replay has the
+-- A run that was broken off begins these rounds: with some answers after its own it has theirs. A replay has the
 -- answers of its whole record, and these are theirs.
 abbrev pub BeginsRoundsIn : Way → Setting → (run rounds : Run) → Type 0
 BeginsRoundsIn InRounds setting run rounds = BeginsRounds setting run rounds
@@ -59,23 +59,23 @@ BeginsRoundsIn (InWindows window) setting run rounds = BeginsRounds setting run 
 BeginsRoundsIn (Again trace) setting run rounds = setting_in setting run ≡ setting_in setting rounds
 
 -- A run of the station that was broken off begins what one thread renders: rounds of the station have one record, and
--- with some answers behind its own it has those of that record.
+-- with some answers after its own the run has those of that record.
 pub record BeginsAsOneThread (station : Station) (run : Run) : Type 0 where
   pub alone : Run
   pub rounds : IsRounds (bare station) station.clocks.running station.ticks alone
   pub one : (other : Run) → IsRounds (bare station) station.clocks.running station.ticks other → other ≡ alone
   pub begins : BeginsRoundsIn station.way (bare station) run alone
 
--- in rounds, or where no buffer joins two clocks
+-- the station is rendered in rounds, or no buffer joins two of its clocks
 abbrev pub IsDetermined : Station → Type 0
 IsDetermined station = (station.way ≡ InRounds) ⊎ HasNoJoin (bare station) station.clocks.running
 
--- rounds have one record, and so has the replay of a trace; threads may have several
+-- a rendering in this way has one record: rounds and the replay of a trace have; threads may have several
 abbrev pub IsOfOne : Way → Type 0
 IsOfOne InRounds = ⊤
 IsOfOne (InWindows window) = ⊥
 IsOfOne (Again trace) = ⊤
 
--- a station on one thread has one record
+-- if the station is rendered on one thread, this run is its only record
 abbrev pub HasOneRecord : (station : Station) (run : Run) → Type 0
 HasOneRecord station run = IsOfOne station.way → (other : Run) → IsLawful station other → other ≡ run

@@ -11,7 +11,7 @@ use Rattle.run_records.specs.Records.{Run, answers_of, puts_of}
 use Rattle.stations.specs.Stations.{Station, bare}
 use Rattle.stations.specs.Streams.{gaps_of}
 
--- the line of an output that was rendered, but for its end
+-- the line of an output that was rendered, without its line end
 abbrev pub counted_part : (name : List ℕ) (samples gaps : ℕ) → List ℕ
 counted_part name samples gaps = codes "output " ++ name ++ codes " samples " ++ decimal samples ++ codes " gaps "
     ++ decimal gaps
@@ -20,7 +20,7 @@ counted_part name samples gaps = codes "output " ++ name ++ codes " samples " ++
 abbrev pub rendered_line : (name : List ℕ) (samples gaps : ℕ) → List ℕ
 rendered_line name samples gaps = counted_part name samples gaps ++ codes "\n"
 
--- a line for each output of a rendering
+-- a line for each output among these sinks, as a run of the station rendered it
 abbrev pub rendered_lines : Station → Run → List SinkPlan → List ℕ
 rendered_lines station run [] = []
 rendered_lines station run (Output name node fallible wide ∷ sinks) =
@@ -41,7 +41,7 @@ answered_line run buffer = answers_line buffer
     (count_by is_some (puts_of run buffer)) (count_by is_none (puts_of run buffer))
     (count_by is_some (answers_of run buffer)) (count_by is_none (answers_of run buffer))
 
--- the lines of these buffers, of which the first has this number
+-- a line for each of these buffers after a rendering, of which the first has this number
 abbrev pub answered_lines : Run → (buffer : ℕ) → List BufferPlan → List ℕ
 answered_lines run buffer [] = []
 answered_lines run buffer (plan ∷ plans) = answered_line run buffer ++ answered_lines run (suc buffer) plans
@@ -50,7 +50,7 @@ answered_lines run buffer (plan ∷ plans) = answered_line run buffer ++ answere
 abbrev pub report_of : Station → Run → List ℕ
 report_of station run = rendered_lines station run station.plan.sinks ++ answered_lines run 0 station.plan.buffers
 
--- the name of a main clock; a sink's node lies in one
+-- the name of a main clock, by the names of all; a sub-clock has none
 abbrev pub main_name : List (List ℕ) → NodeClock → List ℕ
 main_name names (Main m) = slice_index_or names m []
 main_name names (Sub k) = []
@@ -59,7 +59,7 @@ main_name names (Sub k) = []
 abbrev pub clock_name : ClockMap → (node : ℕ) → List ℕ
 clock_name clocks node = main_name clocks.names (slice_index_or clocks.of node (Main 0))
 
--- the word by which a report calls a node infallible or fallible
+-- how a report calls a node that is infallible, or is not
 abbrev pub fallible_word : Bool → List ℕ
 fallible_word infallible = if infallible then codes "infallible" else codes "fallible"
 
@@ -69,27 +69,27 @@ checked_line clocks mark name node =
     codes "output " ++ name ++ codes " clock " ++ clock_name clocks node ++ codes " " ++ fallible_word (mark node)
     ++ codes "\n"
 
--- a line for each output of a check
+-- a line for each output among these sinks, as a check reports it
 abbrev pub checked_lines : ClockMap → (mark : ℕ → Bool) → List SinkPlan → List ℕ
 checked_lines clocks mark [] = []
 checked_lines clocks mark (Output name node fallible wide ∷ sinks) =
     checked_line clocks mark name node ++ checked_lines clocks mark sinks
 checked_lines clocks mark (Feed buffer node ∷ sinks) = checked_lines clocks mark sinks
 
--- the line of a buffer that was checked: the main clocks in which its feed and its reader lie, through sub-clocks, the
--- samples that it gathers before it plays, and the chunks that it may hold
+-- the line of a buffer that was checked: the main clocks in which its feed and its reader lie, the samples that it
+-- gathers before it plays, and the chunks that it may hold
 abbrev pub joining_line : (buffer : ℕ) (from to : List ℕ) → BufferPlan → List ℕ
 joining_line buffer from to plan =
     codes "buffer " ++ decimal buffer ++ codes " from " ++ from ++ codes " to " ++ to
     ++ codes " pre " ++ decimal plan.pre ++ codes " capacity " ++ decimal plan.capacity ++ codes "\n"
 
--- the line of a buffer after a check: the clocks that it joins
+-- the line of a buffer of the station after a check
 abbrev pub buffer_line : Station → (buffer : ℕ) → BufferPlan → List ℕ
 buffer_line station buffer plan =
     joining_line buffer (slice_index_or station.clocks.names (feeder (bare station) buffer) [])
     (slice_index_or station.clocks.names (reader (bare station) buffer) []) plan
 
--- a line for each buffer of a check
+-- a line for each of these buffers after a check, of which the first has this number
 abbrev pub buffer_lines : Station → (buffer : ℕ) → List BufferPlan → List ℕ
 buffer_lines station buffer [] = []
 buffer_lines station buffer (plan ∷ plans) = buffer_line station buffer plan ++ buffer_lines station (suc buffer) plans

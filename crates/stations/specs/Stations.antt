@@ -16,9 +16,9 @@ pub data Way : Type 0 where
   InWindows : (window : ℕ) → Way
   Again : (trace : TraceValue) → Way
 
--- a plan with its audio files and its clocks, the second of the week at which it begins, how many ticks are rendered,
--- and in which way; the name of the file that gets the trace, if one is wanted, which threads alone leave; and whether
--- cue files are wanted. A `check` is that of no tick from second 0 on, in rounds, without a trace
+-- What an accepted script renders: a plan with its audio files and its clocks, the second of the week at which it
+-- begins, how many ticks, and in which way; the name of the file for the trace, if one is wanted, which threads alone
+-- leave; and whether cue files are wanted. A `check` renders no tick, from second 0 on, in rounds, without a trace.
 pub record Station : Type 0 where
   pub plan : Plan
   pub library : Sounds
@@ -33,11 +33,12 @@ pub record Station : Type 0 where
 abbrev pub bare : Station → Setting
 bare station = base_of station.plan station.library station.clocks station.start
 
--- what they rest on in a run
+-- what the streams of a station rest on in a run: also the answers of its buffers
 abbrev pub setting_of_run : Station → Run → Setting
 setting_of_run station run = setting_in (bare station) run
 
--- the answers of a run that was broken off, and then others; those of a replay are the whole record's, and none follow
+-- the answers of a run that was broken off, and then those of `rest`; a replay has those of its whole record, and none
+-- follow
 abbrev pub answers_with : Way → Run → (rest : ℕ → List Answer) → ℕ → List Answer
 answers_with InRounds run rest = λ buffer. answers_of run buffer ++ rest buffer
 answers_with (InWindows window) run rest = λ buffer. answers_of run buffer ++ rest buffer
@@ -59,40 +60,40 @@ IsLawfulIn setting clocks ticks InRounds run = IsRounds setting clocks ticks run
 IsLawfulIn setting clocks ticks (InWindows window) run = AreWindows setting clocks window ticks run
 IsLawfulIn setting clocks ticks (Again trace) run = IsReplay setting clocks ticks trace run
 
--- rounds came to the turn of one clock: each clock made and tried so many ticks
+-- rounds came to the turn of one clock: clock m made `made m` ticks and tried `tried m`
 pub record AreRoundsAt (setting : Setting) (clocks ticks : ℕ) (run : Run) (made tried : ℕ → ℕ) : Type 0 where
   pub rounds : AreRoundsBegun setting clocks ticks run
   pub made_are : (m : ℕ) → made m ≡ ticks_by ticks rounds.round rounds.clock m
   pub tried_are : (m : ℕ) → tried m ≡ ticks_by ticks rounds.round (rounds.clock + 1) m
 
--- windows came so far
+-- a run in windows came so far: clock m made `made m` ticks and tried `tried m`
 pub record AreWindowsAt (setting : Setting) (clocks ticks window : ℕ) (run : Run) (made tried : ℕ → ℕ) : Type 0 where
   pub windows : AreWindowsBegun setting clocks window ticks run
   pub made_are : (m : ℕ) → made m ≡ windows.made m
   pub tried_are : (m : ℕ) → tried m ≡ windows.tried m
 
--- one thread stopped in a tick of one clock, if in any
+-- one clock at most stopped in a tick
 abbrev pub IsOfOneTick : (made tried : ℕ → ℕ) → Type 0
 IsOfOneTick made tried = (m n : ℕ) → tried m ≡ suc (made m) → tried n ≡ suc (made n) → m ≡ n
 
--- the record of a run in which each clock made and tried so many ticks; that of a replay is whole, in whatever order
--- its clocks make theirs
+-- the record of a run in which clock m made `made m` ticks and tried `tried m`; that of a replay is whole, in whatever
+-- order its clocks make theirs
 abbrev pub CameTo : Setting → (clocks ticks : ℕ) → Way → Run → (made tried : ℕ → ℕ) → Type 0
 CameTo setting clocks ticks InRounds run made tried = AreRoundsAt setting clocks ticks run made tried
 CameTo setting clocks ticks (InWindows window) run made tried = AreWindowsAt setting clocks ticks window run made tried
 CameTo setting clocks ticks (Again trace) run made tried = IsReplay setting clocks ticks trace run × IsOfOneTick made tried
 
--- Or they came so far: each made so many of their ticks, and tried no more, or the one in which it stopped.
+-- A run came so far: clock m made `made m` of its ticks, and tried no more, or the one in which it stopped.
 pub record IsBegunIn (setting : Setting) (clocks ticks : ℕ) (way : Way) (run : Run) : Type 0 where
   pub made : ℕ → ℕ
   pub tried : ℕ → ℕ
   pub within : (m : ℕ) → IsWithin 0 ticks (made m) (tried m)
   pub came : CameTo setting clocks ticks way run made tried
 
--- the run is one of this station: to its end, or as far as it came
+-- the run is one of this station, to its end
 abbrev pub IsLawful : Station → Run → Type 0
 IsLawful station run = IsLawfulIn (bare station) station.clocks.running station.ticks station.way run
 
--- the run is a lawful one that may have broken off
+-- the run is one of this station that may have broken off
 abbrev pub IsBegun : Station → Run → Type 0
 IsBegun station run = IsBegunIn (bare station) station.clocks.running station.ticks station.way run

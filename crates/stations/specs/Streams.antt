@@ -13,7 +13,7 @@ use Rattle.run_records.specs.Buffers.{main_of}
 use Rattle.run_records.specs.Records.{Run}
 use Rattle.stations.specs.Stations.{IsBegun, Station, setting_of_run, setting_with}
 
--- the header before so many samples of 16 or 24 bits
+-- the header before so many samples of 16 bits, or of 24 where it is wide
 abbrev pub header_bytes_at : (wide : Bool) → Kind → (rate samples : ℕ) → List ℕ
 header_bytes_at false kind rate samples = header_bytes kind rate samples
 header_bytes_at true kind rate samples = wide_header_bytes kind rate samples
@@ -23,23 +23,24 @@ abbrev pub header_for : Setting → (wide : Bool) → (ticks node : ℕ) → Lis
 header_for setting wide ticks node = header_bytes_at wide (kind_of setting node) setting.plan.rate
     (ticks * setting.plan.frame)
 
--- its header, and tick by tick what the node offers
+-- what is written of an output of a node in so many ticks: its header, and tick by tick what the node offers
 abbrev pub output_bytes : Setting → (wide : Bool) → (ticks node : ℕ) → List ℕ
 output_bytes setting wide ticks node = header_for setting wide ticks node ++ ticks_bytes setting wide node ticks
 
--- the first of these bytes: its header, and what the node offers in the first ticks, as many as were made
+-- what is written of an output of a node when `made` of its ticks are made: its header, which counts all ticks, and
+-- what the node offers in these
 abbrev pub front_bytes : Setting → (wide : Bool) → (ticks made node : ℕ) → List ℕ
 front_bytes setting wide ticks made node = header_for setting wide ticks node ++ ticks_bytes setting wide node made
 
--- how many bytes of samples stand behind the header
+-- how many bytes of samples an output of a node has after its header
 abbrev pub body_size : Setting → (wide : Bool) → (ticks node : ℕ) → ℕ
 body_size setting wide ticks node = ticks * (setting.plan.frame * block_length wide (kind_of setting node))
 
--- one zero byte behind samples of so many bytes, where that is odd
+-- one zero byte after samples of so many bytes, where that is odd
 abbrev pub zeros_after : (size : ℕ) → List ℕ
 zeros_after size = replicate (size % 2) 0
 
--- all bytes of the file of an output
+-- all bytes of the file of an output of a node
 abbrev pub file_bytes : Setting → (wide : Bool) → (ticks node : ℕ) → List ℕ
 file_bytes setting wide ticks node = output_bytes setting wide ticks node
     ++ zeros_after (body_size setting wide ticks node)
@@ -51,7 +52,7 @@ outputs_in setting ticks (Output name node fallible wide ∷ sinks) =
     record { name = name; bytes = file_bytes setting wide ticks node } ∷ outputs_in setting ticks sinks
 outputs_in setting ticks (Feed buffer node ∷ sinks) = outputs_in setting ticks sinks
 
--- what was written of them, where clock m made so many ticks and tried so many
+-- what was written of the outputs among these sinks, where clock m made `made m` ticks and tried `tried m`
 abbrev pub parts_in : Setting → (ticks : ℕ) → (made tried : ℕ → ℕ) → List SinkPlan → List OutputPart
 parts_in setting ticks made tried [] = []
 parts_in setting ticks made tried (Output name node fallible wide ∷ sinks) =
@@ -63,7 +64,7 @@ parts_in setting ticks made tried (Output name node fallible wide ∷ sinks) =
     ∷ parts_in setting ticks made tried sinks
 parts_in setting ticks made tried (Feed buffer node ∷ sinks) = parts_in setting ticks made tried sinks
 
--- what they hold at least and at most, where all ticks were made
+-- what the outputs among these sinks hold at least and at most, where all ticks were made
 abbrev pub ends_in : Setting → (ticks : ℕ) → List SinkPlan → List OutputPart
 ends_in setting ticks [] = []
 ends_in setting ticks (Output name node fallible wide ∷ sinks) =
@@ -89,20 +90,21 @@ bytes_of station run wide node = file_bytes (setting_of_run station run) wide st
 abbrev pub gaps_of : Station → Run → (node : ℕ) → ℕ
 gaps_of station run node = gaps (setting_of_run station run) node station.ticks
 
--- the files of the outputs that a run writes, and their gaps, in sink order
+-- the files of the outputs that a run writes, in sink order
 abbrev pub output_files : Station → Run → List OutputFile
 output_files station run = outputs_in (setting_of_run station run) station.ticks station.plan.sinks
 
--- what a run which was broken off has written of its outputs, if these answers had followed
+-- what a run which was broken off has written of its outputs, if the answers of `rest` had followed
 abbrev pub parts_with : (station : Station) (run : Run) → IsBegun station run → (rest : ℕ → List Answer)
     → List OutputPart
 parts_with station run begun rest = parts_in (setting_with station run rest) station.ticks begun.made begun.tried
     station.plan.sinks
 
--- what the outputs hold of a run that ended well, before they are closed
+-- what the outputs of a run hold at least and at most once all its ticks are made
 abbrev pub ends_of : Station → Run → List OutputPart
 ends_of station run = ends_in (setting_of_run station run) station.ticks station.plan.sinks
 
+-- the gaps of the outputs of a run, in sink order
 abbrev pub gaps_in_order : Station → Run → List ℕ
 gaps_in_order station run = counts_in (setting_of_run station run) station.ticks station.plan.sinks
 

@@ -3,8 +3,7 @@ use clock_infer::ClockFault;
 use liq_base::Text;
 use track_library::LoadFault;
 
-/// Why a plan is not rendered, in the order in which the faults are looked for. The line of each stands in
-/// `docs/faults.md`.
+/// Why a plan is not rendered, in the order in which the faults are looked for. `docs/faults.md` has the line of each.
 #[derive(Debug, Drop)]
 pub enum StationFault {
     /// The audio files are not loaded.

@@ -21,8 +21,8 @@ pub fn infallible_outputs_have_no_gaps()
     stream_meaning::laws::infallible_nodes_offer();
 }
 
-/// Where no buffer joins two clocks, a lawful run renders what one thread renders, whatever the length of its windows:
-/// also a replay.
+/// Where no buffer joins two clocks, a lawful run renders what one thread renders in rounds, whatever the length of its
+/// windows; so does a replay.
 pub fn threads_render_as_one_thread()
     ensures { (files : Files) (station : Station) (run : Run) → IsWellFormed station.plan
         → IsRenderable files station.plan station.ticks station.library station.clocks → station.start < 604800
@@ -32,7 +32,7 @@ pub fn threads_render_as_one_thread()
     run_records::laws::rounds_are_one();
 }
 
-/// A rendering on one thread has one record, so it always writes and tells the same: rounds, and the replay of a trace.
+/// A rendering on one thread has one record, whether by rounds or by a trace, so it always writes and tells the same.
 pub fn one_thread_has_one_record()
     ensures { (files : Files) (station : Station) (run : Run) → IsWellFormed station.plan
         → IsRenderable files station.plan station.ticks station.library station.clocks → station.start < 604800

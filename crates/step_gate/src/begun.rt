@@ -7,7 +7,7 @@ use std::sync::Wait;
 use std::sync::atomic::{AtomicU64, Ordering};
 use std::time::Duration;
 
-/// So many clocks run at most.
+/// How many clocks run at most.
 const CLOCKS: usize = MAX_CLOCKS as usize;
 
 /// What is known of the clocks. Two are near each other where a buffer joins them.
@@ -27,6 +27,7 @@ pub(crate) struct Begun {
 }
 
 impl Begun {
+    /// What is known before any clock has begun a tick, or is joined to another.
     pub(crate) fn new() -> Begun {
         Begun {
             ticks: array::from_fn(|_| AtomicU64::new(0)),
@@ -36,7 +37,7 @@ impl Begun {
         }
     }
 
-    // A buffer joins one clock to another.
+    // Notes that a buffer joins one clock to another.
     pub(crate) fn join(&self, clock: u32, other: u32)
         requires { (clock < 64) × (other < 64) }
     {
@@ -44,7 +45,7 @@ impl Begun {
         self.near[other as usize].fetch_or(1 << clock, Ordering::SeqCst);
     }
 
-    // A clock has begun so many ticks; those that waited for this go on.
+    // Notes that a clock has begun `ticks` ticks; those that waited for this go on.
     pub(crate) fn set(&self, clock: u32, ticks: u64)
         requires { clock < 64 }
     {
@@ -60,7 +61,7 @@ impl Begun {
         }
     }
 
-    // Whether each clock near this one has begun so many ticks, or was given up and has begun none since.
+    // Whether each clock near this one has begun `ticks` ticks, or was given up and has begun none since.
     pub(crate) fn are_near(&self, clock: usize, ticks: u64) -> bool
         requires { clock < 64 }
     {
@@ -76,7 +77,7 @@ impl Begun {
         true
     }
 
-    // Whether a clock has not begun so many ticks, and was not given up since it began the last one.
+    // Whether a clock has not begun `ticks` ticks, and was not given up since it began the last one.
     fn is_awaited(&self, clock: usize, ticks: u64) -> bool
         requires { clock < 64 }
     {
@@ -84,7 +85,7 @@ impl Begun {
         begun < ticks && begun != self.given_up[clock].load(Ordering::SeqCst)
     }
 
-    // Whether each clock that has one near it has begun so many ticks.
+    // Whether each clock that has one near it has begun `ticks` ticks.
     pub(crate) fn have_all(&self, ticks: u64) -> bool {
         for k in 0..CLOCKS {
             let is_joined = self.near[k].load(Ordering::SeqCst) > 0;
@@ -95,7 +96,7 @@ impl Begun {
         true
     }
 
-    // The clocks near this one that have not begun so many ticks are given up; those that waited for them go on.
+    // Gives up the clocks near this one that have not begun `ticks` ticks; the clocks that waited for them go on.
     pub(crate) fn give_up(&self, clock: usize, ticks: u64)
         requires { clock < 64 }
     {
@@ -111,7 +112,7 @@ impl Begun {
         }
     }
 
-    // Wakes a clock that has not to wait any longer.
+    // Wakes a clock, if it waits and has not to any longer.
     fn wake(&self, clock: usize)
         requires { clock < 64 }
     {
@@ -122,8 +123,8 @@ impl Begun {
         }
     }
 
-    // Waits for so many ticks of the clocks near this one; whether they came, within so many sleeps of so many
-    // milliseconds.
+    // Waits until the clocks near this one have begun `ticks` ticks, in at most `sleeps` sleeps of `millis`
+    // milliseconds each; answers whether they have.
     pub(crate) fn wait<R: Wait>(
         &self,
         rt: &R,

@@ -8,16 +8,16 @@ use liq_base::limits::MAX_CLOCKS;
 use std::sync::Wait;
 use std::sync::atomic::{AtomicU64, Ordering};
 
-/// The longest sleep between two looks, in milliseconds.
+/// The longest sleep between two looks at the other clocks, in milliseconds.
 const SLEEP: u64 = 10;
 
-/// So often a clock sleeps in a wait, where the last wait was not in vain.
+/// How often a clock sleeps in a wait, where the last wait was not in vain.
 const SLEEPS: u64 = 100;
 
 /// The least number of ticks that have to go well before a wait is long again.
 const CALM: u64 = 1024;
 
-// So often a clock sleeps in a wait after so many in vain.
+// How often a clock sleeps in a wait after `vain` waits in vain.
 fn sleeps_after(vain: u64) -> u64
     ensures { result ≤ 100 }
 {
@@ -43,8 +43,9 @@ pub struct StepGate<'a, R> {
     rt: &'a R,
     begun: Begun,
 
-    /// How many waits were in vain since they were long, and for how many ticks the last of these waited.
+    /// How many waits were in vain since waits were long.
     vain: AtomicU64,
+    /// For how many ticks of other clocks a wait was in vain; of several the most.
     vain_ticks: AtomicU64,
 }
 
@@ -59,19 +60,19 @@ impl<'a, R> StepGate<'a, R> {
         }
     }
 
-    // A wait for so many ticks was in vain.
+    // Notes that a wait for `ticks` ticks was in vain, before which `vain` were.
     fn tell_vain(&self, vain: u64, ticks: u64) {
         self.vain_ticks.fetch_max(ticks, Ordering::SeqCst);
         self.count_from(vain, vain.saturating_add(1));
     }
 
-    // Whether all has gone well for long, where a wait for so many ticks was not in vain. That it was not says little:
+    // Whether all has gone well for long, where a wait for `ticks` ticks was not in vain. That it was not says little:
     // where some clocks run behind others, the last of each window find that all have come.
     fn is_calm(&self, ticks: u64) -> bool {
         ticks / 2 >= self.vain_ticks.load(Ordering::SeqCst).max(CALM) && self.begun.have_all(ticks)
     }
 
-    // The count of waits in vain goes on, unless it did since it was read.
+    // Sets the count of waits in vain to `next`, unless it changed since it was read as `vain`.
     fn count_from(&self, vain: u64, next: u64) {
         let _ = self
             .vain
@@ -80,7 +81,7 @@ impl<'a, R> StepGate<'a, R> {
 }
 
 impl<R: Wait> StepGate<'_, R> {
-    // Waits for so many ticks of the clocks near this one, perhaps in vain.
+    // Waits for the clocks near this one to begin `ticks` ticks, perhaps in vain.
     fn wait(&self, clock: usize, ticks: u64)
         requires { clock < 64 }
     {

@@ -4,22 +4,22 @@ use Rattle.frame_core.specs.declared.cell.Cell.{Cell}
 use Rattle.frame_core.specs.Slots.{Slot}
 use Rattle.sample_kernels.specs.Samples.{clamped, half_of, mean_of, scaled}
 
--- the cells of those that offer
+-- the cells that these slots offer, in their order
 abbrev pub cells_of : List Slot → List Cell
 cells_of [] = []
 cells_of (None ∷ slots) = cells_of slots
 cells_of (Some cell ∷ slots) = cell ∷ cells_of slots
 
--- the sum of one sample of each cell
+-- the sum over these cells of one sample of each: `sample` says which
 abbrev pub total_by : (Cell → ℤ) → List Cell → ℤ
 total_by sample [] = pos 0
 total_by sample (cell ∷ cells) = sample cell +ℤ total_by sample cells
 
--- the sum of so many samples: their mean, or the sum cut to the range of a sample
+-- the sum of so many samples, made one sample: their mean, or the sum cut to the range of a sample
 abbrev pub levelled : Bool → ℕ → ℤ → ℤ
 levelled normalize parts sum = if normalize then mean_of sum parts else clamped sum
 
--- over the children that offer; the flag and the title are those of the first of them
+-- the sum or the mean of these cells; the flag and the title are those of the first of them
 abbrev pub summed_slot : Bool → List Cell → Slot
 summed_slot normalize [] = None
 summed_slot normalize (cell ∷ cells) = Some (record {
@@ -29,7 +29,7 @@ summed_slot normalize (cell ∷ cells) = Some (record {
   title = cell.title;
 })
 
--- each sample times so many millionths
+-- a cell, each of whose samples is multiplied by so many millionths
 abbrev pub amplified : ℤ → Cell → Cell
 amplified millionths cell =
     record {
@@ -39,15 +39,16 @@ amplified millionths cell =
       title = cell.title;
     }
 
--- half the sum of both sides, in mono
+-- the mono cell of a stereo one: half the sum of its two samples
 abbrev pub halved : Cell → Cell
 halved cell = record { left = half_of cell.left cell.right; right = pos 0; first = cell.first; title = cell.title }
 
--- the sample of a mono cell on both sides
+-- the stereo cell of a mono one: its sample on both sides
 abbrev pub doubled : Cell → Cell
 doubled cell = record { left = cell.left; right = cell.left; first = cell.first; title = cell.title }
 
--- what a node makes of the slots of its children
+-- how a node makes one cell of its children's: it adds them, to their mean or to a sum that is cut; it scales one by
+-- millionths; it makes one mono, or stereo; or it passes it on
 pub data Mixing : Type 0 where
   Adds : Bool → Mixing
   Scales : ℤ → Mixing
@@ -55,7 +56,7 @@ pub data Mixing : Type 0 where
   Doubles : Mixing
   Passes : Mixing
 
--- what a node makes of the one cell that it gets
+-- what a node makes of the one cell that it gets; an adding node has it as it is
 abbrev pub changed : Mixing → Cell → Cell
 changed (Adds normalize) cell = cell
 changed (Scales millionths) cell = amplified millionths cell
@@ -63,12 +64,12 @@ changed Halves cell = halved cell
 changed Doubles cell = doubled cell
 changed Passes cell = cell
 
--- that of the first child, changed
+-- the first of these cells, changed; nothing where there is none
 abbrev pub changed_slot : Mixing → List Cell → Slot
 changed_slot mixing [] = None
 changed_slot mixing (cell ∷ cells) = Some (changed mixing cell)
 
--- what a node makes of the slots of its children
+-- what a node makes of the slots of its children, by those that offer
 abbrev pub mix_slot : Mixing → List Slot → Slot
 mix_slot (Adds normalize) slots = summed_slot normalize (cells_of slots)
 mix_slot (Scales millionths) slots = changed_slot (Scales millionths) (cells_of slots)

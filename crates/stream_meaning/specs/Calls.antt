@@ -15,29 +15,30 @@ use Rattle.stream_meaning.specs.Operators.{Work, Plays, Picks, Mixes, Fades, Rea
 use Rattle.stream_meaning.specs.Instants.{Setting, Moment, clock_of, lies_in, position, next_answers, reading_after, work_at, first_instants, sub_of}
 use Rattle.stream_meaning.specs.Sinks.{feed_cells}
 
--- the calls of 0 to n - 1, one after another
+-- the lists `calls 0` to `calls (n - 1)`, joined
 abbrev pub joined_upto : (ℕ → List Call) → ℕ → List Call
 joined_upto calls zero = []
 joined_upto calls (suc n) = joined_upto calls n ++ calls n
 
--- those of `from` to `to - 1`
+-- the lists `calls from` to `calls (to - 1)`, joined
 abbrev pub joined_between : (ℕ → List Call) → (from to : ℕ) → List Call
 joined_between calls from to = joined_upto (λ j. calls (from + j)) (to - from)
 
--- what a reader takes where its clock begins a tick after these instants
+-- the takes of node i, of this work, at the start of a tick that its clock begins after these instants; none where it
+-- reads no buffer
 abbrev pub takes_by : Setting → List Moment → ℕ → Work → List Call
 takes_by setting past i (Reads buffer) =
     let reading = reading_after setting i buffer past in
     map (Took buffer) (reader_takes (next_answers (setting.answers buffer) reading) reading.reader)
 takes_by setting past i _ = []
 
--- the takes of node i, if it lies in this clock
+-- the takes of node i at the start of a tick, if it lies in the clock and there is such a node
 abbrev pub takes_in : Setting → Bool → List Moment → ℕ → Option Node → List Call
 takes_in setting inside past i None = []
 takes_in setting false past i (Some node) = []
 takes_in setting true past i (Some node) = takes_by setting past i (work_at setting i node)
 
--- the takes of a clock's readers before the instant after these, in node order
+-- the takes of a clock's readers before the instant after these, in node order; none where no tick begins there
 abbrev pub takes_at : Setting → NodeClock → List Moment → List Call
 takes_at setting clock past =
     if nat_eq (length past % setting.plan.frame) 0
@@ -50,14 +51,14 @@ abbrev pub ran_by : (sub : ℕ → ℕ → List Slot) → (k overlap : ℕ) → 
 ran_by sub k overlap [] = 0
 ran_by sub k overlap (moment ∷ past) = run_of overlap (sub k) (position past k)
 
--- the calls of the instants that a crossfade's sub-clock makes at the instant after these; `below k m` are those of its
--- instant m
+-- the calls of the instants that node k's sub-clock makes at the instant after these, if its work is a crossfade;
+-- `below k m` are those of instant m of the sub-clock
 abbrev pub fades_by : (sub : ℕ → ℕ → List Slot) → (below : ℕ → ℕ → List Call) → List Moment → ℕ → Work → List Call
 fades_by sub below past k (Fades overlap) = joined_between (below k) (ran_by sub k overlap past)
     (run_of overlap (sub k) (position past k))
 fades_by sub below past k _ = []
 
--- the calls that crossfade k makes of its sub-clock, if it lies in this clock
+-- the calls of the instants that the sub-clock of node k makes, if it is a crossfade in this clock
 abbrev pub fades_in : Setting → (sub : ℕ → ℕ → List Slot) → (below : ℕ → ℕ → List Call) → Bool → List Moment → ℕ
     → Option Node → List Call
 fades_in setting sub below inside past k None = []
@@ -74,58 +75,60 @@ calls_at setting sub (suc depth) clock past =
     (λ j m. calls_at setting sub depth (Sub j) (first_instants setting sub (Sub j) m))
     (lies_in setting clock k) past k (slice_get setting.plan.nodes k)) (length setting.plan.nodes)
 
--- the calls of the instant of a clock after these: sub-clocks nest no deeper than there are nodes
+-- the calls of the instant of a clock after these, its sub-clocks' with them, which nest no deeper than there are nodes
 abbrev pub calls_of : Setting → (sub : ℕ → ℕ → List Slot) → NodeClock → List Moment → List Call
 calls_of setting sub clock past = calls_at setting sub (suc (length setting.plan.nodes)) clock past
 
--- the call by which cells are given to a buffer; no cell, no call
+-- the call by which cells are put to a buffer, with its answer; no cell, no call
 abbrev pub given : (buffer : ℕ) → List Cell → Bool → List Call
 given buffer [] accepted = []
 given buffer (cell ∷ cells) accepted = Given buffer (cell ∷ cells) accepted ∷ []
 
--- what a sink gives at the end of tick t of main clock m, where `accepted b` is the answer of buffer b
+-- the put that a sink makes at the end of tick t of main clock m, if it is a feed in this clock and has cells;
+-- `accepted b` is the answer of buffer b
 abbrev pub give_by : Setting → (accepted : ℕ → Bool) → (m t : ℕ) → SinkPlan → List Call
 give_by setting accepted m t (Output name node fallible wide) = []
 give_by setting accepted m t (Feed buffer node) =
     if lies_in setting (Main m) node then given buffer (feed_cells setting node t) (accepted buffer) else []
 
--- the calls by which main clock m feeds its buffers at the end of tick t
+-- the puts of main clock m at the end of tick t; `accepted b` is the answer of buffer b
 abbrev pub gives_of_tick : Setting → (accepted : ℕ → Bool) → (m t : ℕ) → List Call
 gives_of_tick setting accepted m t = flat_map (give_by setting accepted m t) setting.plan.sinks
 
--- the calls by which main clock m reads buffers during tick t
+-- the takes of main clock m during tick t, its sub-clocks' with them
 abbrev pub takes_of_tick : Setting → (m t : ℕ) → List Call
 takes_of_tick setting m t = joined_upto
     (λ j. calls_of setting (sub_of setting) (Main m)
     (first_instants setting (sub_of setting) (Main m) (t * setting.plan.frame + j)))
     setting.plan.frame
 
--- the calls of tick t of main clock m
+-- the calls of tick t of main clock m: its takes and then its puts, where `accepted b` is the answer of buffer b
 abbrev pub calls_of_tick : Setting → (accepted : ℕ → Bool) → (m t : ℕ) → List Call
 calls_of_tick setting accepted m t = takes_of_tick setting m t ++ gives_of_tick setting accepted m t
 
--- the answers that were got for a buffer in these calls
+-- the answers that the takes of a buffer got in these calls
 abbrev pub answers_in : ℕ → List Call → List Answer
 answers_in buffer [] = []
 answers_in buffer (Took other answer ∷ calls) = if nat_eq other buffer then answer ∷ answers_in buffer calls
     else answers_in buffer calls
 answers_in buffer (Given other cells accepted ∷ calls) = answers_in buffer calls
 
--- answers, and behind them those of these calls
+-- the answers for a buffer, and behind them those that these calls got
 abbrev pub after_calls : (ℕ → List Answer) → List Call → ℕ → List Answer
 after_calls answers calls buffer = answers buffer ++ answers_in buffer calls
 
--- a setting gives these answers, and behind them any others
+-- the answers of a setting begin with these, for each buffer
 pub record HasAnswers (setting : Setting) (answers : ℕ → List Answer) : Type 0 where
   pub rest : ℕ → List Answer
   pub are : (buffer : ℕ) → setting.answers buffer ≡ answers buffer ++ rest buffer
 
--- these calls are the first ones of others
+-- the calls `made` are the first ones of `calls`
 pub record IsBegin (made calls : List Call) : Type 0 where
   pub rest : List Call
   pub are : calls ≡ made ++ rest
 
--- the calls of each instant of each clock go by those of the sub-clocks' instants
+-- the calls of each instant of each clock are its readers' takes and then those of the instants that its sub-clocks
+-- make
 pub record GoDown (setting : Setting) (sub : ℕ → ℕ → List Slot) : Type 0 where
   pub each : (clock : NodeClock) (past : List Moment) → calls_of setting sub clock past
       ≡ takes_at setting clock past
@@ -138,7 +141,7 @@ abbrev pub IsBelow : Setting → NodeClock → (rank i : ℕ) → Type 0
 IsBelow setting clock zero i = clock_of setting i ≡ clock
 IsBelow setting clock (suc rank) i = (k : ℕ) × (clock_of setting i ≡ Sub k) × IsBelow setting clock rank k
 
--- no node in a clock or below it reads this buffer
+-- no node in a clock, nor in a sub-clock below it, reads this buffer
 pub record IsUnread (setting : Setting) (clock : NodeClock) (buffer : ℕ) : Type 0 where
   pub none : (rank i : ℕ) (node : Node) → slice_get setting.plan.nodes i ≡ Some node
       → work_at setting i node ≡ Reads buffer → IsBelow setting clock rank i → ⊥

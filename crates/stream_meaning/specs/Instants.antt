@@ -20,8 +20,8 @@ use Rattle.stream_meaning.specs.declared.part.Part.{Part}
 use Rattle.stream_meaning.specs.Arithmetic.{mix_slot}
 use Rattle.stream_meaning.specs.Operators.{Work, Plays, Picks, Mixes, Fades, Reads, child_used, work_of, marks_at}
 
--- what is the same at all instants: the plan, its audio files, the clock of each node, the start second, and the
--- answers that are given for each buffer
+-- what holds at all instants: the plan, its audio files, the clock of each node, the second of the week at which the
+-- clocks start, and the answers that the takes of each buffer get
 pub record Setting : Type 0 where
   pub plan : Plan
   pub library : Sounds
@@ -29,7 +29,7 @@ pub record Setting : Type 0 where
   pub start : ℕ
   pub answers : ℕ → List Answer
 
--- this setting, with other answers
+-- a setting, with other answers
 abbrev pub answered : Setting → (ℕ → List Answer) → Setting
 answered setting answers = record {
   plan = setting.plan;
@@ -39,7 +39,7 @@ answered setting answers = record {
   answers = answers;
 }
 
--- the setting with these answers, and behind them any others
+-- a setting with these answers, and behind them any others
 abbrev pub with_rest : Setting → (answers rest : ℕ → List Answer) → Setting
 with_rest setting answers rest = answered setting (λ buffer. answers buffer ++ rest buffer)
 
@@ -47,22 +47,22 @@ with_rest setting answers rest = answered setting (λ buffer. answers buffer ++ 
 abbrev pub clock_of : Setting → ℕ → NodeClock
 clock_of setting i = slice_index_or setting.clocks i (Main 0)
 
--- the clocks are the same
+-- whether two clocks are one
 abbrev pub same_clock : NodeClock → NodeClock → Bool
 same_clock (Main m) (Main n) = nat_eq m n
 same_clock (Main m) (Sub k) = false
 same_clock (Sub j) (Main m) = false
 same_clock (Sub j) (Sub k) = nat_eq j k
 
--- node i lies in this clock
+-- whether node i lies in this clock
 abbrev pub lies_in : Setting → NodeClock → ℕ → Bool
 lies_in setting clock i = same_clock (clock_of setting i) clock
 
--- the second of the week of an instant
+-- the second of the week in which instant n lies
 abbrev pub second_at : Setting → ℕ → ℕ
 second_at setting n = (setting.start + n / setting.plan.rate) % 604800
 
--- how many samples a buffer holds before its reader plays
+-- how many samples a buffer collects before its reader plays, as the plan has it
 abbrev pub prefill : Setting → ℕ → ℕ
 prefill setting buffer = option_map_or (λ plan. plan.pre) (slice_get setting.plan.buffers buffer) 0
 
@@ -76,23 +76,23 @@ pub record Moment : Type 0 where
   pub parts : List Part
   pub demands : List Bool
 
--- a node that offers nothing and uses no child
+-- what a node does that offers nothing and uses no child
 abbrev pub silent : Part
 silent = record { slot = None; pick = None }
 
--- what node i did at this instant
+-- what node i did at the instant with these parts; outside of them nothing
 abbrev pub part_at : List Part → ℕ → Part
 part_at parts i = slice_index_or parts i silent
 
--- what node i offers at an instant
+-- what node i offered at an instant
 abbrev pub offer : Moment → ℕ → Slot
 offer moment i = (part_at moment.parts i).slot
 
--- a sink, a crossfade or a demanded parent uses node i
+-- whether node i was demanded at an instant: by a sink, a crossfade or a demanded parent
 abbrev pub demanded : Moment → ℕ → Bool
 demanded moment i = slice_index_or moment.demands i false
 
--- it is demanded and offers a cell
+-- whether node i gave at an instant: it was demanded and offered a cell
 abbrev pub gives : Moment → ℕ → Bool
 gives moment i = demanded moment i && is_some (offer moment i)
 
@@ -101,7 +101,7 @@ abbrev pub gives_before : List Moment → ℕ → ℕ
 gives_before [] i = 0
 gives_before (moment ∷ past) i = if gives moment i then suc (gives_before past i) else gives_before past i
 
--- the child that a node used when it last gave
+-- the child that node i used when it last gave; None where it never gave
 abbrev pub last_pick : List Moment → ℕ → Option ℕ
 last_pick [] i = None
 last_pick (moment ∷ past) i = if gives moment i then (part_at moment.parts i).pick else last_pick past i
@@ -112,59 +112,60 @@ abbrev pub choices : List Moment → ℕ → ℕ
 choices [] i = 0
 choices (moment ∷ past) i = if gives moment i && is_first (offer moment i) then suc (choices past i) else choices past i
 
--- the item of crossfade i: it has gone on where it gave, and where its item was empty
+-- how many items crossfade i has gone on by: one at each instant at which it gave or offered nothing
 abbrev pub position : List Moment → ℕ → ℕ
 position [] i = 0
 position (moment ∷ past) i = if gives moment i || not (is_some (offer moment i)) then suc (position past i)
     else position past i
 
--- a reader before the first instant of its clock
+-- the reader of a buffer before the first instant of its clock
 abbrev pub new_reading : Setting → (buffer : ℕ) → Reading
 new_reading setting buffer = record {
   reader = record { cells = []; playing = false; prefill = max 1 (prefill setting buffer); frame = setting.plan.frame };
   taken = 0;
 }
 
--- the answers that are its next ones
+-- the answers for a buffer which its reader has not taken
 abbrev pub next_answers : List Answer → Reading → List Answer
 next_answers answers reading = drop reading.taken answers
 
--- a reader at the start of a tick
+-- a reader at the start of a tick, with the chunks that it takes there
 abbrev pub started : List Answer → Reading → Reading
 started answers reading = record {
   reader = at_start (next_answers answers reading) reading.reader;
   taken = reading.taken + length (reader_takes (next_answers answers reading) reading.reader);
 }
 
--- a reader at an instant, where `before` is the reader that the instant before left
+-- the reader of a buffer at this instant, where `before` is the reader that the instant before left
 abbrev pub reading_at : Setting → (buffer instant : ℕ) → Reading → Reading
 reading_at setting buffer instant before =
     if nat_eq (instant % setting.plan.frame) 0 then started (setting.answers buffer) before else before
 
--- a reader behind an instant at which it gave, or did not
+-- a reader after an instant, at which it gave a cell or did not
 abbrev pub read_on : Bool → Reading → Reading
 read_on gave reading = if gave then record reading { reader = after_cell reading.reader } else reading
 
--- a reader after these instants
+-- node i, the reader of a buffer, after these instants
 abbrev pub reading_after : Setting → (i buffer : ℕ) → List Moment → Reading
 reading_after setting i buffer [] = new_reading setting buffer
 reading_after setting i buffer (moment ∷ past) =
     read_on (gives moment i) (reading_at setting buffer (length past) (reading_after setting i buffer past))
 
--- what the children offered at this instant
+-- what these children offered at the instant with these parts
 abbrev pub slots_at : List Part → List ℕ → List Slot
 slots_at parts children = map (λ child. (part_at parts child).slot) children
 
--- a node that offers this and chooses no child
+-- what a node does that offers this slot and uses no child
 abbrev pub unpicked : Slot → Part
 unpicked slot = record { slot = slot; pick = None }
 
--- the cell that was picked, and its child
+-- what a node does that offers the cell which was picked, and uses its child; nothing where none was picked
 abbrev pub picked_part : Option Picked → Part
 picked_part None = silent
 picked_part (Some picked) = record { slot = Some picked.cell; pick = Some picked.child }
 
--- what node i offers and picks, over its children's slots; `sub k m` are the first m slots of crossfade k's child
+-- what node i offers and picks at the instant after these, by its work and its children's slots; `sub k m` are the
+-- first m slots of crossfade k's child
 abbrev pub part_by : Setting → (sub : ℕ → ℕ → List Slot) → List Moment → ℕ → Work → List Slot → Part
 part_by setting sub past i (Plays leaf) slots = unpicked (leaf_slot setting.library leaf (gives_before past i))
 part_by setting sub past i (Picks choice eligible) slots =
@@ -176,69 +177,71 @@ part_by setting sub past i (Fades overlap) slots = unpicked (item_of overlap (su
 part_by setting sub past i (Reads buffer) slots =
     unpicked (reader_slot (reading_at setting buffer (length past) (reading_after setting i buffer past)).reader)
 
--- what node i does
+-- what node i of a setting does
 abbrev pub work_at : Setting → ℕ → Node → Work
 work_at setting i node = work_of setting.plan.rate i node.kind node.op
 
--- the part of node i, over those of the nodes before it; a node outside the clock offers nothing
+-- what node i offers and picks, by the parts of the nodes before it; one that is not in the clock (`inside`) or not in
+-- the plan offers nothing
 abbrev pub part_in : Setting → (sub : ℕ → ℕ → List Slot) → Bool → List Moment → ℕ → Option Node → List Part → Part
 part_in setting sub inside past i None before = silent
 part_in setting sub false past i (Some node) before = silent
 part_in setting sub true past i (Some node) before = part_by setting sub past i (work_at setting i node)
     (slots_at before node.children)
 
--- the parts of the first n nodes
+-- the parts of the first n nodes at the instant of a clock after these
 abbrev pub parts_upto : Setting → (sub : ℕ → ℕ → List Slot) → NodeClock → List Moment → ℕ → List Part
 parts_upto setting sub clock past zero = []
 parts_upto setting sub clock past (suc i) =
     let before = parts_upto setting sub clock past i in
     before ++ part_in setting sub (lies_in setting clock i) past i (slice_get setting.plan.nodes i) before ∷ []
 
--- the child at a place
+-- the child at a place, alone in a list; none without a place
 abbrev pub child_at : List ℕ → Option ℕ → List ℕ
 child_at children None = []
 child_at children (Some place) = option_map_or (λ child. child ∷ []) (slice_get children place) []
 
--- the children that offer
+-- those of these children that offer a cell
 abbrev pub offering : List Part → List ℕ → List ℕ
 offering parts [] = []
 offering parts (child ∷ children) =
     if is_some (part_at parts child).slot then child ∷ offering parts children else offering parts children
 
--- the children that a node uses
+-- the children that a node of this work uses: the one that it picked, or each that offers where it mixes
 abbrev pub uses_by : List Part → Work → List ℕ → (pick : Option ℕ) → List ℕ
 uses_by parts (Picks choice eligible) children pick = child_at children pick
 uses_by parts (Mixes mixing) children pick = offering parts children
 uses_by parts _ children pick = []
 
--- what each of these nodes uses, from node i on
+-- what each of these nodes uses, the first of which is node i
 abbrev pub uses_from : Setting → List Part → ℕ → List Node → List (List ℕ)
 uses_from setting parts i [] = []
 uses_from setting parts i (node ∷ nodes) =
     uses_by parts (work_at setting i node) node.children (part_at parts i).pick ∷ uses_from setting parts (suc i) nodes
 
--- one of these nodes is demanded and uses node i
+-- whether one of these nodes is demanded and uses node i, by the demand and the uses of each
 abbrev pub is_used : List Bool → List (List ℕ) → ℕ → Bool
 is_used [] uses i = false
 is_used (demand ∷ demands) [] i = false
 is_used (demand ∷ demands) (used ∷ uses) i = (demand && list_any (nat_eq i) used) || is_used demands uses i
 
--- of these nodes, from node i on, those that are demanded: the roots, and what a later one that is demanded uses
+-- for each of these nodes, the first of which is node i, whether it is demanded: it is a root, or a later one that is
+-- demanded uses it
 abbrev pub demands_from : (ℕ → Bool) → ℕ → List (List ℕ) → List Bool
 demands_from roots i [] = []
 demands_from roots i (used ∷ uses) =
     let later = demands_from roots (suc i) uses in (roots i || is_used later uses i) ∷ later
 
--- the child of a crossfade
+-- the child of crossfade k
 abbrev pub crossfaded : List Node → ℕ → ℕ
 crossfaded nodes k = option_map_or (λ node. slice_index_or node.children 0 0) (slice_get nodes k) 0
 
--- demanded of itself: in a main clock the node of a sink, in a sub-clock the crossfade's child
+-- whether node i is demanded of itself: a main clock's sink plays it, or it is the child of the sub-clock's crossfade
 abbrev pub is_root : Setting → NodeClock → ℕ → Bool
 is_root setting (Main m) i = list_any (λ sink. nat_eq (sink_node sink) i) setting.plan.sinks
 is_root setting (Sub k) i = nat_eq (crossfaded setting.plan.nodes k) i
 
--- an instant of a clock: what its nodes offered, and which were demanded
+-- the moment of a clock whose nodes have these parts: what they offer, and which are demanded
 abbrev pub moment_of : Setting → NodeClock → List Part → Moment
 moment_of setting clock parts = record {
   parts = parts;
@@ -246,12 +249,12 @@ moment_of setting clock parts = record {
       && is_root setting clock i) 0 (uses_from setting parts 0 setting.plan.nodes);
 }
 
--- the instant of a clock after these
+-- the moment of a clock at the instant after these
 abbrev pub moment_after : Setting → (sub : ℕ → ℕ → List Slot) → NodeClock → List Moment → Moment
 moment_after setting sub clock past = moment_of setting clock
     (parts_upto setting sub clock past (length setting.plan.nodes))
 
--- the first n instants of a clock, the latest first
+-- the moments of the first n instants of a clock, the latest first
 abbrev pub first_instants : Setting → (sub : ℕ → ℕ → List Slot) → NodeClock → ℕ → List Moment
 first_instants setting sub clock zero = []
 first_instants setting sub clock (suc n) =
@@ -267,13 +270,13 @@ abbrev pub IsMeaning : Setting → (sub : ℕ → ℕ → List Slot) → Type 0
 IsMeaning setting sub = (k m : ℕ) → sub k m
     ≡ slots_of (first_instants setting sub (Sub k) m) (crossfaded setting.plan.nodes k)
 
--- these slots, for sub-clocks that nest no deeper than this
+-- the first m slots of the child of crossfade k in its sub-clock, where sub-clocks nest no deeper than this
 abbrev pub sub_within : Setting → (depth : ℕ) → ℕ → ℕ → List Slot
 sub_within setting zero k m = []
 sub_within setting (suc depth) k m = slots_of (first_instants setting (sub_within setting depth) (Sub k) m)
     (crossfaded setting.plan.nodes k)
 
--- the slots of the sub-clocks: they nest no deeper than there are nodes
+-- the first m slots of the child of crossfade k in its sub-clock; sub-clocks nest no deeper than there are nodes
 abbrev pub sub_of : Setting → ℕ → ℕ → List Slot
 sub_of setting = sub_within setting (suc (length setting.plan.nodes))
 

@@ -15,12 +15,12 @@ use Rattle.op_turn.specs.declared.turn.Turn.{Turn}
 use Rattle.op_turn.specs.Turns.{used_child}
 use Rattle.stream_meaning.specs.Arithmetic.{Mixing, Adds, Scales, Halves, Doubles, Passes}
 
--- which children are eligible: every one, or those whose predicates hold
+-- which children of a node may be chosen: every one, or those whose predicates hold
 pub data Eligible : Type 0 where
   Every : Eligible
   Where : List Predicate → Eligible
 
--- which children may be chosen in this second of the week
+-- for each child of a node, of which it has so many, whether it may be chosen in this second of the week
 abbrev pub marks_at : Eligible → (second children : ℕ) → List Bool
 marks_at Every second children = replicate children true
 marks_at (Where preds) second children = map (λ pred. holds pred second) preds
@@ -30,8 +30,8 @@ pub data Choice : Type 0 where
   Selects : Rule → Choice
   TakesTurns : Turn → Choice
 
--- the child that is used, over the children's slots and which are eligible, by the child that was used last and the
--- number of choices that gave
+-- the child that a node uses, by its children's slots and which are eligible, the child that it used last, and how
+-- often it has chosen; None where it uses none
 abbrev pub child_used : Choice → List Slot → List Bool → (last : Option ℕ) → (choices : ℕ) → Option ℕ
 child_used (Selects rule) slots eligible last choices = pick_of rule slots eligible last
 child_used (TakesTurns turn) slots eligible last choices = used_child turn (record {
@@ -39,7 +39,8 @@ child_used (TakesTurns turn) slots eligible last choices = used_child turn (reco
   choices = choices;
 }) slots
 
--- what a node does: it plays, picks a child, mixes its children, fades from track to track, or reads a buffer
+-- what a node does: it plays, picks a child, mixes its children, fades from track to track with an overlap of so many
+-- cells, or reads the buffer of this number
 pub data Work : Type 0 where
   Plays : Leaf → Work
   Picks : Choice → Eligible → Work
@@ -47,7 +48,7 @@ pub data Work : Type 0 where
   Fades : ℕ → Work
   Reads : ℕ → Work
 
--- the work of node i, in a plan of this rate
+-- the work of node i, in a plan of so many samples a second
 abbrev pub work_of : (rate i : ℕ) → Kind → Op → Work
 work_of rate i kind (Single file) = Plays (Files i true kind)
 work_of rate i kind (Playlist file again) = Plays (Files i again kind)

@@ -10,7 +10,7 @@ use Rattle.clock_infer.specs.declared.clock_map.ClockMap.{ClockMap}
 use Rattle.clock_infer.specs.Answers.{IsClockMap}
 use Rattle.stream_meaning.specs.Instants.{Setting}
 
--- a well-formed plan with its clocks and its audio files: each `single` has one file
+-- a well-formed plan with its clocks and its audio files, of which each `single` has one, from a second of the week on
 pub record IsSetting (setting : Setting) (clocks : ClockMap) : Type 0 where
   pub plan : IsWellFormed setting.plan
   pub map : IsClockMap setting.plan clocks

@@ -20,7 +20,7 @@ abbrev pub sample_block : (wide : Bool) → Kind → (left right : ℤ) → List
 sample_block true kind left right = wide_block_of kind left right
 sample_block false kind left right = block_of kind left right
 
--- how many bytes that are
+-- how many bytes the block of an instant has: three a channel where it is wide, and else two
 abbrev pub block_length : (wide : Bool) → Kind → ℕ
 block_length true kind = 3 * channels_of kind
 block_length false kind = 2 * channels_of kind
@@ -30,11 +30,12 @@ abbrev pub slot_block : (wide : Bool) → Kind → Slot → List ℕ
 slot_block wide kind None = sample_block wide kind (pos 0) (pos 0)
 slot_block wide kind (Some cell) = sample_block wide kind cell.left cell.right
 
--- whether a sink is a wide output
+-- whether a sink is an output with samples of three bytes
 abbrev pub wide_sink : SinkPlan → Bool
 wide_sink (Output name node fallible wide) = wide
 wide_sink (Feed buffer node) = false
 
+-- whether the sink of this number is an output with samples of three bytes
 abbrev pub is_wide : Setting → (sink : ℕ) → Bool
 is_wide setting sink = option_map_or wide_sink (slice_get setting.plan.sinks sink) false
 
@@ -42,56 +43,56 @@ is_wide setting sink = option_map_or wide_sink (slice_get setting.plan.sinks sin
 abbrev pub kind_of : Setting → ℕ → Kind
 kind_of setting i = option_map_or (λ node. node.kind) (slice_get setting.plan.nodes i) Stereo
 
--- the slots of node i in tick t
+-- the slots of node i at the instants of tick t
 abbrev pub tick_slots : Setting → (i t : ℕ) → List Slot
 tick_slots setting i t = map (stream_of setting i) (range_with_len (t * setting.plan.frame) setting.plan.frame)
 
--- the bytes of tick t of an output of node i
+-- the bytes that an output of node i gets in tick t
 abbrev pub tick_bytes : Setting → (wide : Bool) → (i t : ℕ) → List ℕ
 tick_bytes setting wide i t = flat_map (slot_block wide (kind_of setting i)) (tick_slots setting i t)
 
--- the bytes of the first so many ticks, behind the header
+-- the bytes that an output of node i gets in so many ticks, after the header
 abbrev pub ticks_bytes : Setting → (wide : Bool) → (i ticks : ℕ) → List ℕ
 ticks_bytes setting wide i zero = []
 ticks_bytes setting wide i (suc ticks) = ticks_bytes setting wide i ticks ++ tick_bytes setting wide i ticks
 
--- how many of these slots are nothing
+-- how many of these slots are empty
 abbrev pub missing : List Slot → ℕ
 missing [] = 0
 missing (None ∷ slots) = suc (missing slots)
 missing (Some cell ∷ slots) = missing slots
 
--- the gaps of the first so many ticks of an output of node i
+-- the gaps in the first so many ticks of an output of node i
 abbrev pub gaps : Setting → (i ticks : ℕ) → ℕ
 gaps setting i zero = 0
 gaps setting i (suc ticks) = gaps setting i ticks + missing (tick_slots setting i ticks)
 
--- the cells that a feed of node i has at the end of tick t: no cells are no chunk
+-- the cells that a feed of node i has at the end of tick t; where there is none, it makes no chunk
 abbrev pub feed_cells : Setting → (i t : ℕ) → List Cell
 feed_cells setting i t = cells_of (tick_slots setting i t)
 
--- a mark of a track's beginning: its instant and its title
+-- where a track begins in an output: its instant, counted from the output's first, and its title
 pub record Cue : Type 0 where
   pub at : ℕ
   pub title : ℕ
 
--- the marks among these slots, the first of which is that of instant `at`
+-- where tracks begin among these slots, the first of which is that of instant `at`
 abbrev pub cues_from : (at : ℕ) → List Slot → List Cue
 cues_from at [] = []
 cues_from at (None ∷ slots) = cues_from (suc at) slots
 cues_from at (Some cell ∷ slots) =
     if cell.first then record { at = at; title = cell.title } ∷ cues_from (suc at) slots else cues_from (suc at) slots
 
--- the marks of node i in tick t
+-- where tracks of node i begin in tick t
 abbrev pub tick_cues : Setting → (i t : ℕ) → List Cue
 tick_cues setting i t = cues_from (t * setting.plan.frame) (tick_slots setting i t)
 
--- the marks of the first so many ticks of an output of node i
+-- where tracks of node i begin in the first so many ticks
 abbrev pub cues : Setting → (i ticks : ℕ) → List Cue
 cues setting i zero = []
 cues setting i (suc ticks) = cues setting i ticks ++ tick_cues setting i ticks
 
--- an output of main clock m
+-- sink number `sink` is an output of this node, which lies in main clock m
 pub record IsOutput (setting : Setting) (m sink node : ℕ) : Type 0 where
   pub name : List ℕ
   pub fallible : Bool

@@ -22,13 +22,13 @@ ghost use Rattle.stream_meaning.specs.Calls.{calls_of, calls_of_tick, fades_in, 
 ghost use Rattle.stream_meaning.specs.Settings.{IsSetting, HasNoBuffers};
 ghost use Rattle.stream_meaning.specs.Sinks.{gaps};
 
-/// The slots of the sub-clocks are there, however deep they nest.
+/// The sub-clocks of each setting have slots, however deep they nest: `sub_of` is what their instants make.
 pub fn sub_clocks_have_slots()
     ensures { (setting : Setting) (clocks : Map) → IsSetting setting clocks → IsMeaning setting (sub_of setting) }
 {}
 
-/// Whatever answers are given, an infallible node offers a cell at every instant of its clock, so an output of it has
-/// no gap.
+/// Whatever answers the buffers give, an infallible node offers a cell at every instant of its clock, so an output of
+/// it has no gap.
 pub fn infallible_nodes_offer()
     ensures cells { (setting : Setting) (clocks : Map) (mark : ℕ → Bool) (i n : ℕ) → IsSetting setting clocks
         → IsMarking setting.plan.nodes mark → i < length setting.plan.nodes → mark i ≡ true
@@ -52,7 +52,7 @@ pub fn leaves_stand_alone()
         → (name : List ℕ) × ((op ≡ ASingle name) ⊎ (op ≡ APlaylist name again)) }
 {}
 
-/// What a rotate or a random goes by at an instant is the past behind the instants at which it gave: the child that it
+/// What a rotate or a random goes by at an instant is the past after the instants at which it gave: the child that it
 /// used last, and the number of its choices.
 pub fn turns_go_by_choices()
     ensures { (setting : Setting) (sub : ℕ → ℕ

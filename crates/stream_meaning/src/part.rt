@@ -7,6 +7,6 @@ pub struct Part {
     /// A cell or nothing.
     pub slot: Option<Cell>,
 
-    /// A place among the children, from 0; `None` where it names none.
+    /// A place among the children, from 0; `None` where the node uses none or does not select.
     pub pick: Option<u32>,
 }

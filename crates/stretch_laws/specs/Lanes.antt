@@ -8,7 +8,7 @@ use Rattle.stream_meaning.specs.Operators.{Work}
 use Rattle.stream_meaning.specs.Instants.{Setting, Moment, gives, moment_after, work_at}
 use Rattle.stretch_laws.specs.Stretches.{IsNode, IsStretch, lane}
 
--- the node i, over so many instants behind a past
+-- node i of a clock, over a stretch of so many instants after a past
 pub record NodeOver : Type 0 where
   pub setting : Setting
   pub sub : ℕ → ℕ → List Slot
@@ -21,18 +21,18 @@ pub record NodeOver : Type 0 where
   pub stretch : IsStretch setting sub clock past instants
   pub there : IsNode setting clock i node
 
--- the first of these instants
+-- the first instant of a node's stretch
 abbrev pub first_over : NodeOver → Moment
 first_over over = moment_after over.setting over.sub over.clock over.past
 
--- whether the node gives there
+-- whether the node gives at the first instant of its stretch
 abbrev pub gives_over : NodeOver → Bool
 gives_over over = gives (first_over over) over.i
 
--- what the node does
+-- what the node of a stretch does
 abbrev pub work_over : NodeOver → Work
 work_over over = work_at over.setting over.i over.node
 
--- what any node of the plan offers j instants behind the first one
+-- what any node of the plan offers j instants after the first one of a node's stretch
 abbrev pub lane_over : NodeOver → (j : ℕ) → ℕ → Slot
 lane_over over j = lane over.setting over.sub over.clock over.past j

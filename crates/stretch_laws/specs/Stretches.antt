@@ -15,13 +15,13 @@ use Rattle.stream_meaning.specs.Instants.{Setting, Moment, choices, gives_before
 use Rattle.stream_meaning.specs.Calls.{calls_of}
 use Rattle.stretch_laws.specs.Steady.{Follows, IsFree}
 
--- the next j instants of a clock, on top of these
+-- the next j instants of a clock, and these before them
 abbrev pub going_on : Setting → (sub : ℕ → ℕ → List Slot) → NodeClock → ℕ → List Moment → List Moment
 going_on setting sub clock zero past = past
 going_on setting sub clock (suc j) past =
     let later = going_on setting sub clock j past in moment_after setting sub clock later ∷ later
 
--- a node of this clock
+-- node i of the plan is this one and lies in this clock
 pub record IsNode (setting : Setting) (clock : NodeClock) (i : ℕ) (node : Node) : Type 0 where
   pub there : slice_get setting.plan.nodes i ≡ Some node
   pub inside : lies_in setting clock i ≡ true
@@ -34,7 +34,7 @@ pub record IsLike (first later : Moment) : Type 0 where
   pub picks : (i : ℕ) → demanded first i ≡ true → (part_at later.parts i).pick ≡ (part_at first.parts i).pick
   pub inner : (i : ℕ) → gives first i ≡ true → is_inner (offer later i) ≡ true
 
--- what a node that makes its own cells gives j instants behind the first one has this title
+-- what a node that makes its own cells offers j instants after the first one of a stretch has this title
 abbrev pub KeepsTitle : Setting → (sub : ℕ → ℕ → List Slot) → List Moment → (i : ℕ) → Work → (j title : ℕ) → Type 0
 KeepsTitle setting sub past i (Plays leaf) j title = title_of (leaf_slot setting.library leaf (gives_before past i + j))
     ≡ title
@@ -45,7 +45,7 @@ KeepsTitle setting sub past i (Reads buffer) j title =
     title_of (reader_slot (read_by j
     (reading_at setting buffer (length past) (reading_after setting i buffer past)).reader)) ≡ title
 
--- so many instants of a clock behind these, of which the first one decides
+-- so many instants of a clock after these are a stretch: the first one decides the others
 pub record IsStretch (setting : Setting) (sub : ℕ → ℕ
     → List Slot) (clock : NodeClock) (past : List Moment) (instants : ℕ) : Type 0 where
   -- leaves that give go on with their track
@@ -88,7 +88,7 @@ pub record IsStretch (setting : Setting) (sub : ℕ → ℕ
       → KeepsTitle setting sub past i (work_at setting i node) j
       (title_of (offer (moment_after setting sub clock past) i))
 
--- the past of an instant that comes j instants behind the first one
+-- what the nodes go by at an instant that comes j instants after the first one of a stretch
 pub record IsOn (setting : Setting) (sub : ℕ → ℕ
     → List Slot) (clock : NodeClock) (past : List Moment) (j : ℕ) (later : List Moment) : Type 0 where
   pub long : length later ≡ length past + j
@@ -115,8 +115,7 @@ pub record IsOn (setting : Setting) (sub : ℕ → ℕ
       → (reading_after setting i buffer later).reader
       ≡ (reading_at setting buffer (length past) (reading_after setting i buffer past)).reader
 
--- the slots that a crossfade is filled over some instants of a stretch of its sub-clock: cells of this title that begin
--- no track
+-- from slot n on, a crossfade k is filled so many cells of this title that begin no track
 pub record AreFilled (setting : Setting) (sub : ℕ → ℕ → List Slot) (k n count title : ℕ) : Type 0 where
   pub cells : List Cell
   pub inner : AllInner cells
@@ -124,12 +123,12 @@ pub record AreFilled (setting : Setting) (sub : ℕ → ℕ → List Slot) (k n 
   pub long : length cells ≡ count
   pub filled : (m : ℕ) → m ≤ count → sub k (n + m) ≡ sub k n ++ map Some (take m cells)
 
--- what a node offers j instants behind the first one
+-- what node i offers j instants after the first one that follows a past
 abbrev pub lane : Setting → (sub : ℕ → ℕ → List Slot) → NodeClock → List Moment → (j i : ℕ) → Slot
 lane setting sub clock past j i = offer (moment_after setting sub clock (going_on setting sub clock j past)) i
 
--- how far one node goes on behind an instant, by its work: `begins` tells whether the child used last begins a track
--- there
+-- node i goes on for `rest` instants after the instant `moment`, by its work: `begins` tells whether the child that it
+-- used last begins a track there
 abbrev pub NodeGoes : Setting → (sub : ℕ → ℕ → List Slot) → List Moment → Moment → (i : ℕ) → Work → (begins : Bool)
     → (rest : ℕ) → Type 0
 NodeGoes setting sub past moment i (Plays leaf) begins rest =
@@ -148,7 +147,7 @@ NodeGoes setting sub past moment i (Reads buffer) begins rest =
     → is_inner (reader_slot (read_by (suc j)
     (reading_at setting buffer (length past) (reading_after setting i buffer past)).reader)) ≡ true
 
--- which title it keeps: that of what it offered
+-- what node i offers for `rest` instants after the instant `moment` has the title that it had there
 abbrev pub NodeKeeps : Setting → (sub : ℕ → ℕ → List Slot) → List Moment → Moment → (i : ℕ) → Work → (rest : ℕ) → Type 0
 NodeKeeps setting sub past moment i (Plays leaf) rest =
     gives moment i ≡ true → (j : ℕ) → j < rest
@@ -163,7 +162,7 @@ NodeKeeps setting sub past moment i (Reads buffer) rest =
     → title_of (reader_slot (read_by (suc j)
     (reading_at setting buffer (length past) (reading_after setting i buffer past)).reader)) ≡ title_of (offer moment i)
 
--- the instants that sub-clocks make for a stretch, behind its first instant, make no calls
+-- the instants that sub-clocks make for a stretch, after its first instant, make no calls
 pub record AreQuiet (setting : Setting) (sub : ℕ → ℕ
     → List Slot) (clock : NodeClock) (past : List Moment) (instants : ℕ) : Type 0 where
   pub each : (k : ℕ) (node : Node) (overlap i m : ℕ) → IsNode setting clock k node

@@ -18,8 +18,8 @@ ghost use Rattle.stream_meaning.specs.Instants.{reading_at};
 ghost use Rattle.stretch_laws.specs.Lanes.{NodeOver, first_over, gives_over, lane_over, work_over};
 ghost use Rattle.stretch_laws.specs.Stretches.{AreFilled, AreQuiet, IsLike, IsOn, IsStretch, going_on, lane};
 
-/// Over a stretch demands, picks of demanded nodes and who offers are those of its first instant, and none that gives
-/// begins a track behind that. What a node knows of the past counts on.
+/// Over a stretch the demands, the picks of demanded nodes and who offers are those of its first instant, and no node
+/// that gives begins a track after that. What a node goes by of the past counts on.
 pub fn stretches_stay_alike()
     ensures like { (setting : Setting) (sub : ℕ → ℕ
         → List TheSlot) (clock : NodeClock) (past : List Moment) (instants j : ℕ)
@@ -62,8 +62,7 @@ pub fn stretches_keep_titles()
         → title_of (lane setting sub clock past j i) ≡ title_of (offer (moment_after setting sub clock past) i) }
 {}
 
-/// Over a stretch of a sub-clock, behind its first instant, its crossfade is filled cells of one track and of one
-/// title.
+/// Over a stretch of a sub-clock, after its first instant, its crossfade is filled cells of one track and of one title.
 pub fn sub_clocks_give_cells()
     ensures { (setting : Setting) (sub : ℕ → ℕ → List TheSlot) (k first instants n many : ℕ)
         → AreNodes setting.plan.nodes → IsMeaning setting sub
@@ -77,8 +76,8 @@ pub fn sub_clocks_give_cells()
         (crossfaded setting.plan.nodes k))) }
 {}
 
-/// Where cells pass through a crossfade, each of its next items takes one slot more, and begins no track. They have
-/// the titles of the cells that are held, and behind these of those that are filled.
+/// Where cells pass through a crossfade, each of its next items takes one slot more, and begins no track. They have the
+/// titles of the cells that are held, and after these of those that are filled.
 pub fn cells_pass_through()
     ensures run { (setting : Setting) (sub : ℕ → ℕ → List TheSlot) (k n many p j below : ℕ) (state : Crossing)
         → ((m : ℕ) → length (sub k m) ≡ m)
@@ -102,8 +101,8 @@ pub fn cells_pass_through()
         → j < rest → title_of (item_of state.overlap (sub k) (p + j)) ≡ title }
 {}
 
-/// Behind the first instant of a stretch no reader takes; and where the instants that its sub-clocks make for it make
-/// no calls, it makes none.
+/// After the first instant of a stretch no reader takes; and where the instants that its sub-clocks make for it make no
+/// calls, it makes none.
 pub fn stretches_make_no_calls()
     ensures takes { (setting : Setting) (sub : ℕ → ℕ
         → List TheSlot) (clock : NodeClock) (past : List Moment) (instants i : ℕ)

@@ -3,7 +3,7 @@ use fixed_text::{read_decimal, read_start, read_u64, write_i64, write_u64};
 use std::process::Abort;
 use std::test::Fail;
 
-// What each reader makes of a text: a decimal in millionths, a whole number, a second of the week.
+// Each row: a text, and what each reader makes of it: a decimal in millionths, a whole number, a second of the week.
 const DECIMALS: &[(&str, Option<i64>, Option<u64>, Option<u32>)] = &[
     ("0.000001", Some(1), None, None),
     ("0.04", Some(40_000), None, None),
@@ -23,6 +23,7 @@ const DECIMALS: &[(&str, Option<i64>, Option<u64>, Option<u32>)] = &[
     ("1.5h", None, None, None),
 ];
 
+// Each row: a text, and what each reader makes of it: a decimal in millionths, a whole number, a second of the week.
 const WHOLE_NUMBERS_AND_STARTS: &[(&str, Option<i64>, Option<u64>, Option<u32>)] = &[
     ("0", None, Some(0), None),
     ("7", None, Some(7), None),
@@ -46,6 +47,7 @@ const WHOLE_NUMBERS_AND_STARTS: &[(&str, Option<i64>, Option<u64>, Option<u32>)]
     ("1-00-00-00", None, None, None),
 ];
 
+// A text has these answers of the readers.
 fn check_row(
     rt: &impl Abort,
     text: &str,
@@ -62,6 +64,7 @@ fn check_row(
     assert!(rt; read_start(bytes).map(|at| at.second) == start, "{text}");
 }
 
+// Each row has its answers.
 fn check(rt: &impl Abort, rows: &[(&str, Option<i64>, Option<u64>, Option<u32>)]) {
     for row in rows {
         let (text, decimal, whole, start) = *row;

@@ -18,6 +18,7 @@ const PIECES: &[(&str, Result<(), Failed>, &str)] = &[
     ("f", Err(Failed), "abcde"),
 ];
 
+// A piece has this answer, and this is what the sink holds after it.
 fn check_piece(
     rt: &impl Abort,
     sink: &mut MemSink,
@@ -36,6 +37,7 @@ fn check_pieces(rt: &impl Abort, sink: &mut MemSink, rows: &[(&str, Result<(), F
     }
 }
 
+// A sink with room for 5 bytes, whose appends 1 and 3, counted from 0, stop after so many bytes.
 fn failing_sink(alloc: Global) -> Result<MemSink, Memory> {
     let fails = vec![in alloc; (1, 1), (3, 9), (3, 0)]?;
     MemSink::new(alloc, 5, fails)
@@ -57,7 +59,7 @@ const READS: &[(&str, u64, Result<Fetched, ShelfFault>, usize)] = &[
     ("b", 3, Ok(Fetched::Found), 6),
 ];
 
-// What is answered, and how many bytes were read by then.
+// What a read answers, and how many bytes were read by then.
 fn read_one(
     shelf: &mut MemShelf,
     into: &mut Vec<u8>,
@@ -83,6 +85,7 @@ fn check_reads(
     }
 }
 
+// A shelf with the file `b`, whose read 1, counted from 0, fails.
 fn shelf(alloc: Global) -> Result<MemShelf, Memory> {
     let mut shelf = MemShelf::new(alloc, shelf_files(alloc)?);
     shelf.fail_read(1)?;
@@ -105,7 +108,7 @@ const LOOKS: &[(&str, u64, Result<Looked, ShelfFault>, usize)] = &[
     ("b", 3, Ok(Looked::Found(3)), 6),
 ];
 
-// What is answered, and how many bytes were read by then.
+// What a look at the first byte answers, and how many bytes were read by then.
 fn look_once(
     shelf: &mut MemShelf,
     into: &mut Vec<u8>,
@@ -145,10 +148,12 @@ fn shelf_files(alloc: Global) -> Result<Vec<(String, Vec<u8>)>, AllocError> {
     Ok(vec![in alloc; (name, bytes)]?)
 }
 
+// The printed texts of want of memory and of a device that failed.
 fn device_faults(alloc: Global) -> Result<String, AllocError> {
     format!(in alloc; "{Memory}, {Failed}")
 }
 
+// The printed texts of both faults of a shelf.
 fn shelf_faults(alloc: Global) -> Result<String, AllocError> {
     let (memory, failed) = (ShelfFault::Memory, ShelfFault::Failed);
     format!(in alloc; "{memory}, {failed}")

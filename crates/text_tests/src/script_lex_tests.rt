@@ -8,6 +8,7 @@ use std::fmt::Write;
 use std::process::Abort;
 use std::test::Fail;
 
+// Appends a part of a time mark, or `-` where it is not written, and a text after it.
 fn push_part(text: &mut String, value: Option<u8>, behind: &str) -> Result<(), AllocError> {
     match value {
         Some(value) => write!(text, "{value}{behind}")?,
@@ -16,6 +17,7 @@ fn push_part(text: &mut String, value: Option<u8>, behind: &str) -> Result<(), A
     Ok(())
 }
 
+// A time mark as text: its day, hour, minute and second.
 fn time(alloc: Global, mark: TimeMark) -> Result<String, AllocError> {
     let mut text = String::from_str(alloc, "Time(")?;
     push_part(&mut text, mark.day, ",")?;
@@ -25,6 +27,7 @@ fn time(alloc: Global, mark: TimeMark) -> Result<String, AllocError> {
     Ok(text)
 }
 
+// The kind of a token as text.
 fn kind(alloc: Global, kind: &TokenKind) -> Result<String, AllocError> {
     match kind {
         TokenKind::Name(name) => {
@@ -51,7 +54,7 @@ fn kind(alloc: Global, kind: &TokenKind) -> Result<String, AllocError> {
     }
 }
 
-// Each token as its kind and its place; nothing of a text that has none.
+// The tokens of a text, each as its kind and its place in bytes.
 fn lexed(alloc: Global, source: &str) -> Result<String, AllocError> {
     match lex(alloc, source.as_bytes()) {
         Ok(tokens) => shown(alloc, &tokens),
@@ -59,6 +62,7 @@ fn lexed(alloc: Global, source: &str) -> Result<String, AllocError> {
     }
 }
 
+// Tokens as text, each as its kind and its place in bytes.
 fn shown(alloc: Global, tokens: &[Token]) -> Result<String, AllocError> {
     let mut text = String::new(alloc);
     for token in tokens {
@@ -67,6 +71,7 @@ fn shown(alloc: Global, tokens: &[Token]) -> Result<String, AllocError> {
     Ok(text)
 }
 
+// Appends a token: its kind, and its place in bytes.
 fn push_token(alloc: Global, text: &mut String, token: &Token) -> Result<(), AllocError> {
     let kind = kind(alloc, &token.kind)?;
     let Token { start, end, .. } = token;
@@ -74,7 +79,7 @@ fn push_token(alloc: Global, text: &mut String, token: &Token) -> Result<(), All
     Ok(())
 }
 
-// Each text has these tokens.
+// Each row: a text, and its tokens as text.
 fn check(rt: &impl Abort, alloc: Global, rows: &[(&str, &str)]) -> Result<(), Fail> {
     for row in rows {
         let (source, want) = *row;

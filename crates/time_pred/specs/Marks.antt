@@ -28,14 +28,14 @@ abbrev pub is_at : TimeMark → ℕ → Bool
 is_at m at = nat_lt (unsigned_abs (int_rem_euclid (pos (at % period_of m) -ℤ pos (value_of m)) (pos (period_of m))))
     (finest_of m)
 
--- from a to b, without b, or from a around the end of the period to b
+-- x lies from a to b, without b; where b comes before a, from a around the end of the period to b
 abbrev pub is_in_interval : ℕ → ℕ → ℕ → Bool
 is_in_interval a b x = if nat_le a b then nat_le a x && nat_lt x b else nat_le a x || nat_lt x b
 
--- an interval has the period of the coarser of its marks
+-- an interval of two marks holds at a second of the week, by the period of the coarser of its marks
 abbrev pub is_between : TimeMark → TimeMark → ℕ → Bool
 is_between from to at = is_in_interval (value_of from) (value_of to) (at % max (period_of from) (period_of to))
 
--- from a second on, what is told of a second stays for so many
+-- from second `at` of the week on, the test keeps its answer for so many seconds
 abbrev pub Stays : (ℕ → Bool) → (at seconds : ℕ) → Type 0
 Stays test at seconds = (j : ℕ) → j < seconds → test ((at + j) % 604800) ≡ test at

@@ -5,32 +5,39 @@ use Rattle.std.proofs.Common.{sym, ap, ◌∙◌}
 use Rattle.fixed_text.specs.declared.time_mark.TimeMark.{TimeMark}
 use Rattle.time_pred.specs.Predicates.{PredicateTree, OnePredicate, PredicateParts, Predicate, Always, Never, At, Between, Negated, All, Any, no_parts, first_part}
 
+-- a part of a time mark as a code: nothing or a number
 abbrev part_code : Option ℕ → Gv
 part_code None = gnil
 part_code (Some n) = gnum n
 
+-- the part of a time mark that has this code
 abbrev part_back : Gv → Option ℕ
 part_back gnil = None
 part_back (gnum n) = Some n
 part_back (gcons a b) = None
 
+-- a part comes back from its code
 pub part_same : (o : Option ℕ) → part_back (part_code o) ≡ o
 part_same None = refl
 part_same (Some n) = refl
 
+-- the first of a pair; of any other code nothing
 abbrev first : Gv → Gv
 first gnil = gnil
 first (gnum n) = gnil
 first (gcons a b) = a
 
+-- the second of a pair; of any other code nothing
 abbrev rest : Gv → Gv
 rest gnil = gnil
 rest (gnum n) = gnil
 rest (gcons a b) = b
 
+-- a time mark as a code: its four parts as pairs
 abbrev mark_code : TimeMark → Gv
 mark_code m = gcons (part_code m.day) (gcons (part_code m.hour) (gcons (part_code m.minute) (part_code m.second)))
 
+-- the time mark that has this code
 abbrev mark_back : Gv → TimeMark
 mark_back g = record {
   day = part_back (first g);
@@ -39,6 +46,7 @@ mark_back g = record {
   second = part_back (rest (rest (rest g)));
 }
 
+-- a time mark comes back from its code
 pub mark_same : (m : TimeMark) → mark_back (mark_code m) ≡ m
 mark_same m = λ i. record {
   day = part_same m.day i;
@@ -61,6 +69,7 @@ abbrev mutual
   codes no_parts = gnil
   codes (first_part p ps) = gcons (code p) (codes ps)
 
+-- the predicate of this form: forms are numbered, g has the code of its marks, and p and ps are its parts
 abbrev by_tag : ℕ → Gv → PredicateTree OnePredicate → PredicateTree PredicateParts → PredicateTree OnePredicate
 by_tag zero g p ps = Always
 by_tag (suc zero) g p ps = Never
@@ -70,6 +79,7 @@ by_tag (suc (suc (suc (suc zero)))) g p ps = Negated p
 by_tag (suc (suc (suc (suc (suc zero))))) g p ps = All ps
 by_tag (suc (suc (suc (suc (suc (suc n)))))) g p ps = Any ps
 
+-- the predicate that has this code, and the parts that have it
 abbrev back : Gv → PredicateTree OnePredicate × PredicateTree PredicateParts
 back gnil = (Never, no_parts)
 back (gnum n) = (Never, no_parts)
@@ -89,6 +99,7 @@ mutual
   backs_same no_parts = refl
   backs_same (first_part p ps) = λ i. first_part (back_same p i) (backs_same ps i)
 
+-- predicates have codes, and no two have one code
 abbrev pub predicate_code : Coded Predicate
 predicate_code = record {
   code = code;

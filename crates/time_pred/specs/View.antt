@@ -18,6 +18,6 @@ abbrev mutual
   view_parts pred.end_of-Pred = no_parts
   view_parts (pred.more_of-Pred p rest) = first_part (view_pred p) (view_parts rest)
 
--- the same of a predicate that is held in several places
+-- the plain tree of a predicate that is held in several places
 abbrev pub view_shared : SharedPred → PredicateTree OnePredicate
 view_shared shared = view_pred (arc_value shared.pred)

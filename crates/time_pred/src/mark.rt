@@ -5,12 +5,14 @@ ghost use Rattle.time_pred.specs.Marks.{Stays, value_of, period_of, finest_of, i
 
 use fixed_text::{TimeMark, WeekSecond};
 
+// Seconds of a minute, of an hour and of a day.
 const MINUTE: u32 = 60;
 
 const HOUR: u32 = 3600;
 
 const DAY: u32 = 86_400;
 
+/// Seconds of a week.
 pub const WEEK: u32 = 604_800;
 
 // Whether a mark alone holds at a second of the week.
@@ -35,7 +37,7 @@ pub fn is_between(from: TimeMark, to: TimeMark, at: WeekSecond) -> bool
     }
 }
 
-// For how many seconds a mark alone holds on, or does not.
+// For how many seconds from this one on, at least 1 and at most a week, it stays whether a mark alone holds.
 pub fn steady_at(mark: TimeMark, at: WeekSecond) -> u32
     ensures stays { Stays (is_at mark) at.second result }
     ensures some { 0 < result }
@@ -52,7 +54,7 @@ pub fn steady_at(mark: TimeMark, at: WeekSecond) -> u32
     }
 }
 
-// How many seconds have gone by since a mark's value, around its period.
+// How many seconds have gone by since a mark's value, around its period; fewer than the period has.
 fn phase(mark: TimeMark, at: WeekSecond) -> u32
     ensures is { result ≡ unsigned_abs
         (int_rem_euclid (pos (at.second % period_of mark) -ℤ pos (value_of mark)) (pos (period_of mark))) }
@@ -63,7 +65,8 @@ fn phase(mark: TimeMark, at: WeekSecond) -> u32
     since.rem_euclid(i64::from(period)) as u32
 }
 
-// For how many seconds the interval from one mark to another holds on, or does not.
+// For how many seconds from this one on, at least 1 and at most a week, it stays whether the interval from one mark to
+// another holds.
 pub fn steady_between(from: TimeMark, to: TimeMark, at: WeekSecond) -> u32
     ensures stays { Stays (is_between from to) at.second result }
     ensures some { 0 < result }
@@ -75,7 +78,8 @@ pub fn steady_between(from: TimeMark, to: TimeMark, at: WeekSecond) -> u32
     until(since, value(to), left)
 }
 
-// The least of both: how far ahead a time is, and this.
+// The seconds from `since` to `time`, at most `most`; `most` where `time` is not ahead. Both are counted from the
+// beginning of a period.
 fn until(since: u32, time: u32, most: u32) -> u32
     requires { 0 < most }
     ensures some { 0 < result }

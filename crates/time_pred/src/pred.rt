@@ -96,6 +96,7 @@ impl Pred {
     }
 }
 
+// Copies of these predicates, in their order.
 #[cycle(copy)]
 fn copies(alloc: Global, parts: &[Pred]) -> Result<Vec<Pred>, Memory>
     ensures { IfOk result (λ copies. map view_pred copies.items ≡ map view_pred parts.now) }
@@ -107,6 +108,7 @@ fn copies(alloc: Global, parts: &[Pred]) -> Result<Vec<Pred>, Memory>
     Ok(copies)
 }
 
+// For how many seconds from this one on, at least 1 and at most a week, each of these predicates keeps its answer.
 #[cycle(steady)]
 fn steady_all(parts: &[Pred], at: WeekSecond) -> u32
     ensures all { Stays (λ second. list_all (λ p. holds (view_pred p) second) parts.now) at.second result }
@@ -121,6 +123,7 @@ fn steady_all(parts: &[Pred], at: WeekSecond) -> u32
     least
 }
 
+// Whether all of these predicates hold at a second of the week.
 #[cycle(holds)]
 fn all_hold(parts: &[Pred], at: WeekSecond) -> bool
     ensures { result ≡ list_all (λ p. holds (view_pred p) at.second) parts.now }
@@ -133,6 +136,7 @@ fn all_hold(parts: &[Pred], at: WeekSecond) -> bool
     true
 }
 
+// Whether one of these predicates holds at a second of the week.
 #[cycle(holds)]
 fn some_holds(parts: &[Pred], at: WeekSecond) -> bool
     ensures { result ≡ list_any (λ p. holds (view_pred p) at.second) parts.now }
@@ -145,6 +149,7 @@ fn some_holds(parts: &[Pred], at: WeekSecond) -> bool
     false
 }
 
+// Whether a predicate is always true by its form.
 #[cycle(form)]
 fn is_always(pred: &Pred) -> bool
     ensures { result ≡ is_always (view_pred pred.now) }
@@ -158,6 +163,7 @@ fn is_always(pred: &Pred) -> bool
     }
 }
 
+// Whether a predicate is never true by its form.
 #[cycle(form)]
 fn is_never(pred: &Pred) -> bool
     ensures { result ≡ is_never (view_pred pred.now) }
@@ -171,6 +177,7 @@ fn is_never(pred: &Pred) -> bool
     }
 }
 
+// Whether all of these predicates are always true by their form.
 #[cycle(form)]
 fn all_always(parts: &[Pred]) -> bool
     ensures { result ≡ list_all (λ p. is_always (view_pred p)) parts.now }
@@ -183,6 +190,7 @@ fn all_always(parts: &[Pred]) -> bool
     true
 }
 
+// Whether one of these predicates is always true by its form.
 #[cycle(form)]
 fn some_always(parts: &[Pred]) -> bool
     ensures { result ≡ list_any (λ p. is_always (view_pred p)) parts.now }
@@ -195,6 +203,7 @@ fn some_always(parts: &[Pred]) -> bool
     false
 }
 
+// Whether all of these predicates are never true by their form.
 #[cycle(form)]
 fn all_never(parts: &[Pred]) -> bool
     ensures { result ≡ list_all (λ p. is_never (view_pred p)) parts.now }
@@ -207,6 +216,7 @@ fn all_never(parts: &[Pred]) -> bool
     true
 }
 
+// Whether one of these predicates is never true by its form.
 #[cycle(form)]
 fn some_never(parts: &[Pred]) -> bool
     ensures { result ≡ list_any (λ p. is_never (view_pred p)) parts.now }

@@ -18,7 +18,7 @@ pub struct SharedPred {
 }
 
 impl SharedPred {
-    /// A predicate that nothing else holds so far.
+    /// The predicate, held in one place alone.
     pub fn new(alloc: Global, pred: Pred) -> Result<SharedPred, Memory>
         ensures { IfOk result (λ made. view_shared made ≡ view_pred pred) }
     {
@@ -27,7 +27,7 @@ impl SharedPred {
         })
     }
 
-    /// The same predicate, to be held in one more place. It copies no term.
+    /// The predicate, held in one more place. It copies no term.
     pub fn share(&self) -> Result<SharedPred, Memory>
         ensures { IfOk result (λ other. view_shared other ≡ view_shared self.now) }
     {
@@ -43,14 +43,15 @@ impl SharedPred {
         &self.pred
     }
 
-    /// As `Pred::holds`.
+    /// Whether the predicate holds at this second of the week. It takes no memory.
     pub fn holds(&self, at: WeekSecond) -> bool
         ensures { result ≡ holds (view_shared self.now) at.second }
     {
         self.pred.holds(at)
     }
 
-    /// As `Pred::steady`.
+    /// A number of seconds from this one on, at least 1 and at most a week, for which the answer of `holds` stays. It
+    /// takes no memory.
     pub fn steady(&self, at: WeekSecond) -> u32
         ensures stays { Stays (holds (view_shared self.now)) at.second result }
         ensures some { 0 < result }
@@ -59,7 +60,7 @@ impl SharedPred {
         self.pred.steady(at)
     }
 
-    /// As `Pred::always`.
+    /// Whether the predicate is always true by its form. It takes no memory.
     pub fn always(&self) -> bool
         ensures by_form { result ≡ is_always (view_shared self.now) }
         ensures sound { IsTrue result → (at : ℕ) → holds (view_shared self.now) at ≡ true }

@@ -2,21 +2,22 @@
 use Rattle.std.specs.List.{list_all}
 use Rattle.std.specs.Prelude.{Bool, false, ◌==◌, ◌||◌, ◌≢◌, ℕ, List, [], ◌∷◌, map, if◌then◌else◌}
 
+-- a text has no byte that is `stop`
 abbrev pub Lacks : ℕ → List ℕ → Type 0
 Lacks stop [] = Unit {0}
 Lacks stop (b ∷ more) = (b ≢ stop) × Lacks stop more
 
--- a byte is one of the two letters
+-- whether a byte is one of the two letters
 abbrev pub is_letter : ℕ → ℕ → ℕ → Bool
 is_letter one other b = b == one || b == other
 
--- a text is that of some answers
+-- whether a text is the letters of some answers, `one` for true and `other` for false, or the stroke for none
 abbrev pub are_letters : ℕ → ℕ → List ℕ → Bool
 are_letters one other [] = false
 are_letters one other (b ∷ []) = b == 45 || is_letter one other b
 are_letters one other (b ∷ c ∷ bs) = list_all (is_letter one other) (b ∷ c ∷ bs)
 
--- the answers that letters tell, of which the one stands for true
+-- the answers that letters tell; the letter `one` stands for true
 abbrev pub told_by : ℕ → List ℕ → List Bool
 told_by one [] = []
 told_by one (b ∷ []) = if b == 45 then [] else (b == one) ∷ []

@@ -3,21 +3,22 @@ use Rattle.std.specs.Prelude.{◌≡◌, ◌<◌, ◌*◌, ◌/◌, ◌%◌, ℕ
 use Rattle.buffer_ends.specs.Local.{Answers}
 use Rattle.trace_log.specs.Texts.{header, line, window_count, InBounds}
 
--- the first k lines behind line 0, whose logs are the items of a list
+-- a text is the first k lines after line 0 of a trace of `many` buffers, whatever their answers
 pub data Lines (many : ℕ) : ℕ → List ℕ → Type 0 where
   no_lines : Lines many zero []
   one_line_more : (k : ℕ) (text : List ℕ) (log : Answers) → Lines many k text
       → Lines many (suc k) (text ++ line (k / many) (k % many) log)
 
--- a line of this window and this buffer begins the text
+-- the text begins with a line of this window and this buffer
 abbrev pub HasLine : ℕ → ℕ → List ℕ → Type 0
 HasLine window buffer text = (log : Answers) × (rest : List ℕ) × (text ≡ line window buffer log ++ rest)
 
--- no line of place k begins the text
+-- the text does not begin with a line for place k, where there are `many` buffers
 abbrev pub NoLine : ℕ → ℕ → List ℕ → Type 0
 NoLine many k text = (log : Answers) (rest : List ℕ) → text ≡ line (k / many) (k % many) log ++ rest → ⊥
 
--- Line `at` is the first that is outside: line 0, or one in the place of a line, or anything behind the last line.
+-- Line `at` is the first that is outside the form: line 0, or one in the place of a line, or anything after the last
+-- line.
 pub data StopsAt (text : List ℕ) : ℕ → Type 0 where
   first : ((n w b : ℕ) (rest : List ℕ) → InBounds n w b → text ≡ header n w b ++ rest → ⊥) → StopsAt text zero
   inside : (n w b k : ℕ) (front rest : List ℕ) → InBounds n w b → Lines b k front → text ≡ header n w b ++ front ++ rest
@@ -26,7 +27,7 @@ pub data StopsAt (text : List ℕ) : ℕ → Type 0 where
       → text ≡ header n w b ++ front ++ rest
       → (rest ≡ [] → ⊥) → StopsAt text (suc (window_count n w * b))
 
--- the text of some logs, within the bounds
+-- a text has the form of a trace within the bounds
 pub record IsText (text : List ℕ) : Type 0 where
   pub ticks : ℕ
   pub window : ℕ
@@ -36,7 +37,7 @@ pub record IsText (text : List ℕ) : Type 0 where
   pub form : Lines buffers (window_count ticks window * buffers) lines
   pub is : text ≡ header ticks window buffers ++ lines
 
--- the first lines stand, and this is what follows
+-- the first k lines of a text after line 0 have the form, and `rest` follows them
 pub record Stands (text : List ℕ) (ticks window buffers k : ℕ) (rest : List ℕ) : Type 0 where
   pub lines : List ℕ
   pub form : Lines buffers k lines

@@ -3,12 +3,13 @@ use Rattle.std.specs.Prelude.{ℕ, List, refl}
 use Rattle.std.specs.Coded.{Coded, code_by, coded×, coded_ℕ, coded_list}
 use Rattle.buffer_ends.specs.Local.{Answers, answers_coded}
 
--- the ticks of a run, the ticks of a window, and the windows of each buffer
+-- a trace: the ticks of a run, the ticks of a window, and what each window of each buffer answered
 pub record TraceValue : Type 0 where
   pub ticks : ℕ
   pub window : ℕ
   pub buffers : List (List Answers)
 
+-- a trace as nested pairs, which code to numbers
 abbrev pub trace_coded : Coded TraceValue
 trace_coded = code_by (ℕ
     × (ℕ × List (List Answers))) (coded× coded_ℕ (coded× coded_ℕ (coded_list (coded_list answers_coded))))

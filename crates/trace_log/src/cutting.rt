@@ -8,7 +8,8 @@ ghost use Rattle.buffer_ends.specs.Local.{Answers};
 
 use fixed_text::read_u64;
 
-// The numbers of line 0, and what stands behind it. `None` exactly where line 0 has not its form.
+// The numbers of line 0, which are the ticks, the ticks of a window and the buffers, and the text after it. `None`
+// exactly where line 0 has not its form.
 pub(crate) fn cut_header(text: &[u8]) -> Option<(u64, u64, u64, &[u8])>
     ensures found { IfSome result (λ p. InBounds p.0 p.1 p.2 × (text.now ≡ header p.0 p.1 p.2 ++ p.3.now)) }
     ensures only { (n w b : ℕ) (f : List ℕ) → InBounds n w b → text.now ≡ header n w b ++ f
@@ -24,7 +25,7 @@ pub(crate) fn cut_header(text: &[u8]) -> Option<(u64, u64, u64, &[u8])>
     Some((ticks, window, many, rest))
 }
 
-// The letters of the puts and of the takes of a line, and what stands behind it. `None` exactly where the text does not
+// The letters of the puts and of the takes of a line, and the text after it. `None` exactly where the text does not
 // begin with a line of this window and this buffer.
 pub(crate) fn cut_line(text: &[u8], window: u64, buffer: u64) -> Option<(&[u8], &[u8], &[u8])>
     ensures found { IfSome result (λ p. (log : Answers) × (p.0.now ≡ letters 65 70 log.puts)
@@ -40,7 +41,7 @@ pub(crate) fn cut_line(text: &[u8], window: u64, buffer: u64) -> Option<(&[u8], 
     Some((puts, takes, rest))
 }
 
-// What stands behind a word, this number and a space.
+// The text after a word, this number and a space, if it begins with them.
 fn cut_counted<'a>(text: &'a [u8], word: &[u8], number: u64) -> Option<&'a [u8]>
     ensures found { IfSome result (λ r. text.now ≡ word.now ++ (decimal number ++ 32 ∷ r.now)) }
     ensures only { (f : List ℕ) → text.now ≡ word.now ++ (decimal number ++ 32 ∷ f)
@@ -54,14 +55,14 @@ fn cut_counted<'a>(text: &'a [u8], word: &[u8], number: u64) -> Option<&'a [u8]>
     Some(rest)
 }
 
-// Where a byte first stands.
+// The place of the first byte that is `stop`.
 fn first_mark(text: &[u8], stop: u8) -> Option<usize>
     ensures { result ≡ position (λ b. b == stop) text.now }
 {
     text.iter().position(|byte| *byte == stop)
 }
 
-// What stands before and behind the first such byte.
+// The text before and after the first byte that is `stop`.
 fn cut_at(text: &[u8], stop: u8) -> Option<(&[u8], &[u8])>
     ensures found { IfSome result (λ p. text.now ≡ p.0.now ++ stop ∷ p.1.now) }
     ensures only { (w f : List ℕ) → Lacks stop w → text.now ≡ w ++ stop ∷ f
@@ -71,7 +72,7 @@ fn cut_at(text: &[u8], stop: u8) -> Option<(&[u8], &[u8])>
     Some((&text[..mark], &text[mark + 1..]))
 }
 
-// The number before the first such byte, and what stands behind it.
+// The number before the first byte that is `stop`, and the text after it.
 fn cut_number(text: &[u8], stop: u8) -> Option<(u64, &[u8])>
     requires { stop < 48 }
     ensures found { IfSome result (λ p. text.now ≡ decimal p.0 ++ stop ∷ p.1.now) }
@@ -83,7 +84,7 @@ fn cut_number(text: &[u8], stop: u8) -> Option<(u64, &[u8])>
     Some((number, rest))
 }
 
-// What stands behind a word.
+// The text after a word, if it begins with that.
 fn cut_word<'a>(text: &'a [u8], word: &[u8]) -> Option<&'a [u8]>
     ensures found { IfSome result (λ r. text.now ≡ word.now ++ r.now) }
     ensures only { (f : List ℕ) → text.now ≡ word.now ++ f → IsSomeAnd result (λ r. r.now ≡ f) }
@@ -91,7 +92,7 @@ fn cut_word<'a>(text: &'a [u8], word: &[u8]) -> Option<&'a [u8]>
     text.strip_prefix(word)
 }
 
-// Whether a text is that of some answers.
+// Whether a text is the letters of some answers, `one` for true and `other` for false, or the stroke for none.
 fn are_letters(text: &[u8], one: u8, other: u8) -> bool
     ensures { result ≡ are_letters one other text.now }
 {
@@ -102,14 +103,15 @@ fn are_letters(text: &[u8], one: u8, other: u8) -> bool
     }
 }
 
-// Whether each byte is one of the two letters.
+// Whether each byte of a text is one of the two letters.
 fn all_letters(text: &[u8], one: u8, other: u8) -> bool
     ensures { result ≡ list_all (is_letter one other) text.now }
 {
     text.iter().all(|b| *b == one || *b == other)
 }
 
-// The letters of answers between a word and such a byte, and what stands behind it.
+// The letters of answers between a word and the first byte that is `stop`, and the text after it; `one` is the letter
+// for true, `other` for false.
 fn cut_letters<'a>(
     text: &'a [u8],
     word: &[u8],

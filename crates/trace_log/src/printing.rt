@@ -23,7 +23,7 @@ pub fn print(trace: &Trace, into: &mut Vec<u8>) -> Result<(), Memory>
     done
 }
 
-// Appends the text, or a front of it.
+// Appends the text of a trace; where memory is refused, a prefix of it.
 fn append_trace(trace: &Trace, into: &mut Vec<u8>) -> Result<(), Memory>
     requires { IsTrace trace.now }
     ensures ok { OnOk result (into.new.items ≡ into.old.items ++ trace_text trace.now) }
@@ -38,7 +38,7 @@ fn append_trace(trace: &Trace, into: &mut Vec<u8>) -> Result<(), Memory>
     Ok(())
 }
 
-// Appends the line of a place, or a front of it.
+// Appends line `place`, counted from the one after line 0; where memory is refused, a prefix of it.
 #[tactic(auto, using(crate::proofs::Joins::window_inside, crate::proofs::Joins::buffer_inside, crate::proofs::Joins::some_inside))]
 fn append_place(trace: &Trace, into: &mut Vec<u8>, place: u64) -> Result<(), Memory>
     requires trace { IsTrace trace.now }
@@ -66,7 +66,7 @@ fn log_of(trace: &Trace, buffer: u64, window: u64) -> &WindowLog
     window_at(&log.windows, window)
 }
 
-// The answers of a window.
+// The answers of the window of this number.
 fn window_at(windows: &[WindowLog], window: u64) -> &WindowLog
     requires { window < length windows.now }
     ensures { result.now ≡ slice_index_or windows.now window no_answers }
@@ -74,7 +74,7 @@ fn window_at(windows: &[WindowLog], window: u64) -> &WindowLog
     &windows[window as usize]
 }
 
-// Appends line 0, or a front of it.
+// Appends line 0 for so many ticks, ticks of a window, and buffers; where memory is refused, a prefix of it.
 fn append_header(into: &mut Vec<u8>, ticks: u64, window: u64, many: u64) -> Result<(), Memory>
     ensures ok { OnOk result (into.new.items ≡ into.old.items ++ header ticks window many) }
     ensures kept { take (length into.old.items) into.new.items ≡ into.old.items }
@@ -86,7 +86,7 @@ fn append_header(into: &mut Vec<u8>, ticks: u64, window: u64, many: u64) -> Resu
     Ok(())
 }
 
-// Appends the line of a window of a buffer, or a front of it.
+// Appends the line of a window of a buffer; where memory is refused, a prefix of it.
 fn append_line(into: &mut Vec<u8>, window: u64, buffer: u64, log: &WindowLog) -> Result<(), Memory>
     ensures ok { OnOk result (into.new.items ≡ into.old.items ++ line window buffer log.now) }
     ensures kept { take (length into.old.items) into.new.items ≡ into.old.items }
@@ -99,7 +99,7 @@ fn append_line(into: &mut Vec<u8>, window: u64, buffer: u64, log: &WindowLog) ->
     Ok(())
 }
 
-// Appends a text and a number, or a front of both.
+// Appends a text and a number; where memory is refused, a prefix of both.
 fn append_number(into: &mut Vec<u8>, text: &[u8], number: u64) -> Result<(), Memory>
     ensures ok { OnOk result (into.new.items ≡ into.old.items ++ text.now ++ decimal number) }
     ensures kept { take (length into.old.items) into.new.items ≡ into.old.items }
@@ -109,7 +109,8 @@ fn append_number(into: &mut Vec<u8>, text: &[u8], number: u64) -> Result<(), Mem
     Ok(())
 }
 
-// Appends a text and the letters of answers, or a front of both.
+// Appends a text and the letters of answers, `one` for true and `other` for false; where memory is refused, a prefix of
+// both.
 fn append_letters(
     into: &mut Vec<u8>,
     text: &[u8],
@@ -129,7 +130,7 @@ fn append_letters(
     Ok(())
 }
 
-// Appends the letter of each answer, or of the first ones.
+// Appends the letter of each answer; where memory is refused, those of the first ones.
 fn append_each(into: &mut Vec<u8>, answers: &[bool], one: u8, other: u8) -> Result<(), Memory>
     ensures ok { OnOk result (into.new.items ≡ into.old.items ++ map (letter one other) answers.now) }
     ensures kept { take (length into.old.items) into.new.items ≡ into.old.items }

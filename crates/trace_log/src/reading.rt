@@ -46,7 +46,7 @@ fn read_whole(alloc: Global, text: &[u8]) -> Result<Trace, Memory>
     })
 }
 
-// A log for each buffer, without windows, but with room for all of them.
+// A log for each of `many` buffers, before its first window, with room for so many windows.
 fn empty_logs(alloc: Global, many: u64, windows: u64) -> Result<Vec<BufferLog>, Memory>
     ensures { IfOk result (λ logs. logs.items ≡ replicate many []) }
 {
@@ -58,7 +58,7 @@ fn empty_logs(alloc: Global, many: u64, windows: u64) -> Result<Vec<BufferLog>, 
     Ok(logs)
 }
 
-// Puts the answers of each line behind line 0 to its buffer.
+// Adds the answers of each line after line 0 to the log of its buffer.
 fn read_lines(
     alloc: Global,
     text: &[u8],
@@ -84,7 +84,7 @@ fn read_lines(
     Ok(())
 }
 
-// Puts the answers of a window to a buffer.
+// Adds the answers of a window to the log of a buffer.
 fn add_log(buffers: &mut Vec<BufferLog>, buffer: u64, log: WindowLog) -> Result<(), Memory>
     requires { buffer < length buffers.old.items }
     ensures { OnOk result (buffers.new.items
@@ -94,7 +94,7 @@ fn add_log(buffers: &mut Vec<BufferLog>, buffer: u64, log: WindowLog) -> Result<
     Ok(())
 }
 
-// The answers of a line, and what stands behind it.
+// The answers of the line of this window and buffer with which a text begins, and the text after it.
 fn read_line(
     alloc: Global,
     text: &[u8],
@@ -110,7 +110,7 @@ fn read_line(
     Ok((WindowLog { puts, takes }, rest))
 }
 
-// The answers that letters tell, of which the one stands for true.
+// The answers that letters tell; the letter `one` stands for true.
 fn answers_of(alloc: Global, letters: &[u8], one: u8) -> Result<Vec<bool>, Memory>
     ensures { IfOk result (λ answers. answers.items ≡ told_by one letters.now) }
 {

@@ -14,74 +14,79 @@ use Rattle.run_records.specs.Records.{capacity_of, start}
 abbrev pub Log : Type 0
 Log = List (List Bool × List Bool)
 
+-- which puts of a buffer were accepted, window after window
 abbrev pub puts_in : Log → List Bool
 puts_in log = flat_map (λ (window : List Bool × List Bool). window.0) log
 
+-- which takes of a buffer got a chunk, window after window
 abbrev pub takes_in : Log → List Bool
 takes_in log = flat_map (λ (window : List Bool × List Bool). window.1) log
 
--- a list begins another one
+-- the list `front` is a prefix of `whole`
 pub record IsFront {A : Type 0} (front whole : List A) : Type 0 where
   pub rest : List A
   pub are : whole ≡ front ++ rest
 
--- one of two lists begins the other
+-- one of two lists is a prefix of the other
 abbrev pub Agree : {A : Type 0} → List A → List A → Type 0
 Agree one other = IsFront one other ⊎ IsFront other one
 
--- a buffer joins two clocks
+-- buffer b joins two clocks
 abbrev pub Joins : Setting → ℕ → Type 0
 Joins base b = feeder base b ≡ reader base b → ⊥
 
--- These calls are answered as the text tells, from its first answers on; what was got of the buffers that join two
--- clocks are the first of these chunks.
+-- These calls are answered as the text tells, from its first answers on; what they got of a buffer b that joins two
+-- clocks are the first of `chunks b`, those that were put into it.
 pub record AreAnswered (base : Setting) (text : ℕ → Log) (chunks : ℕ
     → List (List Cell)) (calls : List Call) : Type 0 where
   pub puts : (b : ℕ) → b < length base.plan.buffers → IsFront (map is_some (puts_to b calls)) (puts_in (text b))
   pub takes : (b : ℕ) → b < length base.plan.buffers → IsFront (map is_some (takes_of b calls)) (takes_in (text b))
   pub got : (b : ℕ) → b < length base.plan.buffers → Joins base b → IsFront (somes (takes_of b calls)) (chunks b)
 
--- how many chunks of a buffer these calls put, and how many they got
+-- how many chunks these calls put into buffer b, accepted ones alone
 abbrev pub put_by : ℕ → List Call → ℕ
 put_by b calls = length (somes (puts_to b calls))
 
+-- how many chunks of buffer b these calls got
 abbrev pub got_in : ℕ → List Call → ℕ
 got_in b calls = length (somes (takes_of b calls))
 
--- what a list of at most so many chunks answers, to which these chunks were put and of which so many were got
+-- a call is answered by a list of at most `capacity` chunks, to which these were put and of which `got` were got
 abbrev pub Suits : (capacity : ℕ) → (put : List (List Cell)) → (got : ℕ) → Call → Type 0
 Suits capacity put got (Took b None) = length put ≡ got
 Suits capacity put got (Took b (Some chunk)) = slice_get put got ≡ Some chunk
 Suits capacity put got (Given b chunk true) = length put < capacity + got
 Suits capacity put got (Given b chunk false) = length put ≡ capacity + got
 
+-- the buffer of a call
 abbrev pub buffer_of : Call → ℕ
 buffer_of (Took b answer) = b
 buffer_of (Given b chunk accepted) = b
 
--- the calls on the buffers with both ends in one clock stand in an order in which their lists answer so
+-- the calls on a buffer with both ends in one clock come in an order in which a list answers so
 pub record AreInOrder (base : Setting) (calls : List Call) : Type 0 where
   pub each : (front behind : List Call) (call : Call) → calls ≡ front ++ call ∷ behind
       → buffer_of call < length base.plan.buffers → feeder base (buffer_of call) ≡ reader base (buffer_of call)
       → Suits (capacity_of base (buffer_of call)) (somes (puts_to (buffer_of call) front))
       (got_in (buffer_of call) front) call
 
--- by the end of each whole window of so many ticks the text's answers are used up, as far as the clock has this end of
--- the buffer
+-- at the end of each whole window the calls of clock m have used up the text's answers of its windows, at the clock's
+-- ends of the buffers; `calls t` are those of its first t ticks
 pub record AreWhole (base : Setting) (text : ℕ → Log) (W N m n : ℕ) (calls : ℕ → List Call) : Type 0 where
   pub puts : (j b : ℕ) → start W N j ≤ n → j ≤ length (text b) → b < length base.plan.buffers → feeder base b ≡ m
       → length (puts_to b (calls (start W N j))) ≡ length (puts_in (take j (text b)))
   pub takes : (j b : ℕ) → start W N j ≤ n → j ≤ length (text b) → b < length base.plan.buffers → reader base b ≡ m
       → length (takes_of b (calls (start W N j))) ≡ length (takes_in (take j (text b)))
 
--- Clock m has made its first n ticks, with some answers, which are those of the text
+-- Clock m has made its first n ticks, where its takes got `given` and its puts `accepted`, and these answers are those
+-- of the text.
 pub record HasReplayed (base : Setting) (text : ℕ → Log) (W N m n : ℕ) (chunks : ℕ → List (List Cell)) (given : ℕ
     → List Answer) (accepted : ℕ → ℕ → Bool) : Type 0 where
   pub answered_so : AreAnswered base text chunks (first_calls (answered base given) accepted m n)
   pub in_order : AreInOrder base (first_calls (answered base given) accepted m n)
   pub whole : AreWhole base text W N m n (λ t. first_calls (answered base given) accepted m t)
 
--- this call, with its answer, can come behind these
+-- this call, with its answer, can come after those of `front`, by the text
 pub record CanCome (base : Setting) (text : ℕ → Log) (front : List Call) (call : Call) : Type 0 where
   pub puts : (b : ℕ) → b < length base.plan.buffers
       → IsFront (map is_some (puts_to b (front ++ call ∷ []))) (puts_in (text b))
@@ -91,11 +96,11 @@ pub record CanCome (base : Setting) (text : ℕ → Log) (front : List Call) (ca
       → Suits (capacity_of base (buffer_of call)) (somes (puts_to (buffer_of call) front))
       (got_in (buffer_of call) front) call
 
--- whatever its answer, it cannot
+-- whatever its answer, this call cannot come after those of `front`, by the text
 abbrev pub NeverComes : (base : Setting) (text : ℕ → Log) (front : List Call) → Call → Type 0
 NeverComes base text front call = (other : Call) → IsSameCall call other → CanCome base text front other → ⊥
 
--- it is a take that is to get a chunk of another clock, which is not there yet
+-- this call is a take that is to get a chunk of another clock, which is not there yet
 pub record Waits (base : Setting) (text : ℕ → Log) (chunks : ℕ
     → List (List Cell)) (front : List Call) (call : Call) : Type 0 where
   pub buffer : ℕ

@@ -4,12 +4,12 @@ use Rattle.stream_meaning.specs.Instants.{Setting}
 use Rattle.run_records.specs.Buffers.{feeder, reader}
 use Rattle.trace_records.specs.Clocks.{Joins}
 
--- how often a clock stands in a list
+-- how often clock m stands in a list
 abbrev pub seen : ℕ → List ℕ → ℕ
 seen m [] = 0
 seen m (k ∷ ks) = if nat_eq k m then suc (seen m ks) else seen m ks
 
--- Each clock that runs stands in the list once, and each buffer that joins two clocks leads from a clock to a later
+-- Each clock that runs stands in the listing once, and each buffer that joins two clocks leads from a clock to a later
 -- one.
 pub record LeadOnward (base : Setting) (clocks : ℕ) (listing : List ℕ) : Type 0 where
   pub all : (m : ℕ) → m < clocks → seen m listing ≡ 1

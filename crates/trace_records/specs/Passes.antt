@@ -12,7 +12,7 @@ use Rattle.run_records.specs.Records.{AreWindows, Run, answers_of, capacity_of, 
 use Rattle.trace_records.specs.Clocks.{AreAnswered, AreInOrder, HasReplayed, Log, Waits, got_in, put_by, takes_in}
 use Rattle.trace_records.specs.Told.{are_legal}
 
--- this is what a text tells of a run
+-- the text is what a trace tells of this run
 abbrev pub IsTold : Setting → (text : ℕ → Log) → Run → Type 0
 IsTold base text run = (b : ℕ) → b < length base.plan.buffers → map text_of_window (windows_of run b) ≡ text b
 
@@ -23,20 +23,21 @@ pub record IsOrderedText (base : Setting) (clocks W N : ℕ) (text : ℕ → Log
   pub told : IsTold base text run
   pub ordered : IsOrdered (setting_in base run) clocks lawful.accepted N
 
--- no answers
+-- no answers for any buffer
 abbrev pub nothing : ℕ → List Answer
 nothing b = []
 
--- the answers that these calls got, and others behind them
+-- the answers that these calls got, and then those of `rest`
 abbrev pub got_then : List Call → (rest : ℕ → List Answer) → ℕ → List Answer
 got_then calls rest b = answers_in b calls ++ rest b
 
--- these are the calls of the first n ticks of clock m, given the answers that they got, whatever answers follow
+-- these are the calls of the first n ticks of clock m, if its takes get the answers that these calls got, whatever
+-- answers follow
 abbrev pub IsMadeBy : Setting → (m n : ℕ) → (accepted : ℕ → ℕ → Bool) → List Call → Type 0
 IsMadeBy base m n accepted calls = (rest : ℕ → List Answer)
     → calls ≡ first_calls (answered base (got_then calls rest)) accepted m n
 
--- the first t ticks among these calls of clock m
+-- the calls of the first t ticks of clock m, whose answers are those that these calls got
 abbrev pub ticks_in : Setting → (accepted : ℕ → ℕ → Bool) → List Call → (m t : ℕ) → List Call
 ticks_in base accepted calls m t = first_calls (answered base (got_then calls nothing)) accepted m t
 
@@ -50,8 +51,8 @@ pub record ClockIsAt (base : Setting) (clocks W N : ℕ) (text : ℕ → Log) (c
   pub forced : (run : Run) (lawful : AreWindows base clocks W N run) → IsTold base text run
       → calls ≡ first_calls (answered base (answers_of run)) (lawful.accepted m) m n
 
--- Ticks in an order in which each chunk that a tick got was put in an earlier one; `ticks m t` are the calls of the
--- first t ticks of clock m, of which so many are in the order
+-- The ticks of all clocks are in this order, so many of each, and each chunk that a tick got was put in an earlier one;
+-- `ticks m t` are the calls of the first t ticks of clock m.
 pub record AreOrdered (base : Setting) (clocks : ℕ) (ticks : ℕ → ℕ → List Call) (made : ℕ
     → ℕ) (order : List (ℕ × ℕ)) : Type 0 where
   pub all : (m : ℕ) → m < clocks → counted m order ≡ made m
@@ -61,7 +62,7 @@ pub record AreOrdered (base : Setting) (clocks : ℕ) (ticks : ℕ → ℕ → L
       → b < length base.plan.buffers → reader base b ≡ m
       → got_in b (ticks m (suc t)) ≤ put_by b (ticks (feeder base b) (counted (feeder base b) before))
 
--- The clocks have made so many ticks, in some order, and these are the chunks that they put.
+-- Clock m has made `made m` ticks, for each m, all in some order, and these are the chunks that they put.
 pub record AreAt (base : Setting) (clocks W N : ℕ) (text : ℕ → Log) (made : ℕ → ℕ) (chunks : ℕ
     → List (List Cell)) : Type 0 where
   pub calls : ℕ → List Call
@@ -71,7 +72,7 @@ pub record AreAt (base : Setting) (clocks W N : ℕ) (text : ℕ → Log) (made 
   pub order : List (ℕ × ℕ)
   pub ordered : AreOrdered base clocks (λ m t. ticks_in base (accepted m) (calls m) m t) made order
 
--- tick n of clock m cannot be made before more chunks are there
+-- tick n of clock m cannot be made before more chunks are put into a buffer that joins it to another clock
 pub record IsHalted (base : Setting) (text : ℕ → Log) (chunks : ℕ → List (List Cell)) (m n : ℕ) : Type 0 where
   pub given : ℕ → List Answer
   pub accepted : ℕ → ℕ → Bool
@@ -83,8 +84,8 @@ pub record IsHalted (base : Setting) (text : ℕ → Log) (chunks : ℕ → List
   pub order_front : AreInOrder base front
   pub waits : Waits base text chunks front call
 
--- Clock m has come to its first n ticks, with the chunks that were there. The chunks that it put are those of its
--- buffers now.
+-- Clock m has come to its first n ticks, with the chunks that were there. Of the buffers that it feeds `others` has the
+-- chunks that it put, and of each other one those that were there.
 pub record HasCome (base : Setting) (W N : ℕ) (text : ℕ → Log) (m n : ℕ) (chunks others : ℕ
     → List (List Cell)) : Type 0 where
   pub calls : List Call
@@ -95,28 +96,28 @@ pub record HasCome (base : Setting) (W N : ℕ) (text : ℕ → Log) (m n : ℕ)
   pub fed : (b : ℕ) → b < length base.plan.buffers → feeder base b ≡ m → others b ≡ somes (puts_to b calls)
   pub kept : (b : ℕ) → b < length base.plan.buffers → (feeder base b ≡ m → ⊥) → others b ≡ chunks b
 
--- Clock m was run from its first tick on, with the chunks that were there, and made n ticks: all, or up to one that
--- waits.
+-- Clock m was run from its first tick on, with the chunks that were there, and made n ticks: all, or those before one
+-- that waits. `others` are the chunks of each buffer after that.
 pub record HasTurned (base : Setting) (W N : ℕ) (text : ℕ → Log) (m n : ℕ) (chunks others : ℕ
     → List (List Cell)) : Type 0 where
   pub come : HasCome base W N text m n chunks others
   pub halted : n < N → IsHalted base text chunks m n
 
--- no clock makes tick n of clock m so that the text tells it, where the chunks got are these or begin with these
+-- clock m cannot make its N ticks as the text tells them, whatever is put into the buffers after these chunks
 pub record IsRefused (base : Setting) (W N : ℕ) (text : ℕ → Log) (chunks : ℕ → List (List Cell)) (m : ℕ) : Type 0 where
   pub none : (others : ℕ → List (List Cell)) (given : ℕ → List Answer) (accepted : ℕ → ℕ → Bool)
       → ((b : ℕ) → b < length base.plan.buffers → (rest : List (List Cell)) × (others b ≡ chunks b ++ rest))
       → HasReplayed base text W N m N others given accepted → ⊥
 
--- so many windows of W ticks have N ticks, the last one maybe fewer, and the text has as many of each buffer
+-- the text has as many windows of each buffer as N ticks have in windows of W ticks, the last one maybe shorter
 pub record IsFormed (buffers W N : ℕ) (text : ℕ → Log) : Type 0 where
   pub count : ℕ
   pub whole : start W N count ≡ N
   pub tight : (j : ℕ) → j < count → start W N j < N
   pub many : (b : ℕ) → b < buffers → length (text b) ≡ count
 
--- by itself the text is legal: each window of each buffer is, and none is taken of a buffer whose reader's clock does
--- not run
+-- the text is legal by itself: each window of each buffer is, and nothing is taken from a buffer whose reader's clock
+-- does not run
 pub record IsLegalText (base : Setting) (clocks : ℕ) (text : ℕ → Log) : Type 0 where
   pub windows : (b : ℕ) → b < length base.plan.buffers → are_legal (capacity_of base b) 0 (text b) ≡ true
   pub unread : (b : ℕ) → b < length base.plan.buffers → clocks ≤ reader base b → takes_in (text b) ≡ []

@@ -3,8 +3,8 @@ use Rattle.std.specs.Prelude.{◌≡◌, ◌≤◌, ◌+◌, ◌-◌, ◌&&◌, 
 use Rattle.std.specs.List.{list_all}
 use Rattle.frame_core.specs.Legal.{Legal}
 
--- Some window that opens with so many chunks, of a queue of so many, is legal and has these answers: of its puts, true
--- for an accepted chunk, and of its takes, true for a chunk that was got.
+-- Some window of a queue of at most `capacity` chunks, which opens with `opening`, is legal and has these answers: of
+-- its puts, true for an accepted chunk, and of its takes, true for a chunk that was got.
 pub record IsToldLegal (X : Type 0) (capacity opening : ℕ) (puts takes : List Bool) : Type 0 where
   pub queue : List X
   pub rest : List X
@@ -21,13 +21,13 @@ yes [] = 0
 yes (true ∷ answers) = suc (yes answers)
 yes (false ∷ answers) = yes answers
 
--- this holds at each false answer, of the number of true ones before it
+-- P holds at each false answer, of the number of true ones before it
 abbrev pub AtNo : List Bool → (ℕ → Type 0) → Type 0
 AtNo answers P = (before after : List Bool) → answers ≡ before ++ false ∷ after → P (yes before)
 
--- The conditions that these answers meet: so many chunks are left as a queue may hold; a refused put has before it,
--- with the opening, as many chunks as the queue holds, and an empty take those of the opening; and of a refused put and
--- an empty take one comes long before the other: the queue is emptied or filled between them.
+-- What the answers of a legal window meet: no more chunks are got than were there or put, and no more are left than the
+-- queue may hold; a refused put has as many chunks before it as fill the queue, and an empty take those of the opening;
+-- and of a refused put and an empty take one comes long before the other: the queue is emptied or filled between them.
 pub record Fits (capacity opening : ℕ) (puts takes : List Bool) : Type 0 where
   pub least : yes takes ≤ opening + yes puts
   pub most : opening + yes puts ≤ capacity + yes takes
@@ -35,15 +35,15 @@ pub record Fits (capacity opening : ℕ) (puts takes : List Bool) : Type 0 where
   pub empties : AtNo takes (λ got. opening ≤ got)
   pub apart : AtNo puts (λ put. AtNo takes (λ got. (opening + put ≤ got) ⊎ (got + capacity ≤ opening + put)))
 
--- The takes behind some of them: how many got a chunk, how many chunks a refused put must have before it, and the takes
--- themselves.
+-- A place among the takes: how many got a chunk before it, how many chunks a refused put must have before it, and the
+-- takes from the place on.
 pub record Passed : Type 0 where
   pub got : ℕ
   pub floor : ℕ
   pub left : List Bool
 
--- The takes that come before a put behind `count` chunks, if it is refused: those before the first empty one that has
--- as many chunks before it. An empty one with fewer leaves the queue to be filled again.
+-- The place among the takes up to which they come before a refused put that has `count` chunks before it: that of the
+-- first empty take with as many before it. An empty take with fewer leaves the queue to be filled again.
 abbrev pub passed : (capacity count got floor : ℕ) → List Bool → Passed
 passed capacity count got floor [] = record { got = got; floor = floor; left = [] }
 passed capacity count got floor (true ∷ takes) = passed capacity count (suc got) floor takes
@@ -54,7 +54,8 @@ passed capacity count got floor (false ∷ takes) =
       left = false ∷ takes;
     }
 
--- each refused put has enough chunks before it
+-- whether each refused put has enough chunks before it, from a place among the takes and a put with `count` chunks
+-- before it on
 abbrev pub refusals_fit : (capacity count got floor : ℕ) → (puts takes : List Bool) → Bool
 refusals_fit capacity count got floor [] takes = true
 refusals_fit capacity count got floor (true ∷ puts) takes = refusals_fit capacity (suc count) got floor puts takes
@@ -63,17 +64,17 @@ refusals_fit capacity count got floor (false ∷ puts) takes =
     && refusals_fit capacity count (passed capacity count got floor takes).got
     (passed capacity count got floor takes).floor puts (passed capacity count got floor takes).left
 
--- the first so many answers are true, as far as there are so many
+-- whether the first `count` answers are true, or all where there are fewer
 abbrev pub begins_true : ℕ → List Bool → Bool
 begins_true count answers = list_all (λ answer. answer) (take count answers)
 
--- whether a legal window has these answers
+-- whether some legal window of a queue of at most `capacity` chunks, which opens with `opening`, has these answers
 abbrev pub is_legal : (capacity opening : ℕ) → (puts takes : List Bool) → Bool
 is_legal capacity opening puts takes =
     nat_le (yes takes) (opening + yes puts) && (nat_le (opening + yes puts) (capacity + yes takes)
     && (begins_true opening takes && refusals_fit capacity opening 0 capacity puts takes))
 
--- windows one after another, told by their answers: from so many chunks, each of them is legal
+-- whether windows of a buffer, one after another, are legal by their answers, from one that opens with `opening` chunks
 abbrev pub are_legal : (capacity opening : ℕ) → List (List Bool × List Bool) → Bool
 are_legal capacity opening [] = true
 are_legal capacity opening (window ∷ windows) = is_legal capacity opening window.0 window.1

@@ -12,7 +12,7 @@ use Rattle.trace_log.specs.Values.{TraceValue}
 use Rattle.trace_records.specs.Clocks.{Log}
 use Rattle.trace_records.specs.Passes.{IsOrderedText}
 
--- a plan with its clocks, its files and its start second, and no answers
+-- a plan with its files, its clocks and its start second, as the streams rest on them, without answers
 abbrev pub base_of : Plan → Sounds → ClockMap → (start : ℕ) → Setting
 base_of plan library clocks start = record {
   plan = plan;
@@ -22,15 +22,16 @@ base_of plan library clocks start = record {
   answers = λ buffer. [];
 }
 
--- the answers of a window
+-- the answers of a window, as a pair
 abbrev pub pair_of : Answers → List Bool × List Bool
 pair_of answers = (answers.puts, answers.takes)
 
--- what is told of each buffer
+-- what a trace tells of buffer b: the answers of each window
 abbrev pub text_of : List (List Answers) → ℕ → Log
 text_of logs b = map pair_of (slice_index_or logs b [])
 
--- A trace of a run of N ticks of these clocks: its text is that of a lawful record whose ticks can be ordered.
+-- A trace of a run of N ticks of these clocks is accepted: its text is that of a lawful record whose ticks can be
+-- ordered.
 pub record IsAccepted (base : Setting) (clocks N : ℕ) (trace : TraceValue) : Type 0 where
   pub ticks : trace.ticks ≡ N
   pub buffers : length trace.buffers ≡ length base.plan.buffers

@@ -7,9 +7,9 @@ ghost use Rattle.trace_records.specs.Told.{IsToldLegal, are_legal, begins_true, 
 
 use buffer_ends::WindowLog;
 
-/// Whether some window of a buffer of so many chunks, which opens with so many, is legal and has these answers: of its
-/// puts, true for a chunk that was accepted, and of its takes, true for a chunk that was got. It takes a time that is
-/// linear in their number.
+/// Whether some window of a buffer of at most `capacity` chunks, which opens with `opening`, is legal and has these
+/// answers: of its puts, true for a chunk that was accepted, and of its takes, true for a chunk that was got. It takes
+/// a time that is linear in their number.
 pub fn is_legal(capacity: u32, opening: u32, puts: &[bool], takes: &[bool]) -> bool
     requires some { 1 ≤ capacity }
     requires fits { opening ≤ capacity }
@@ -19,7 +19,8 @@ pub fn is_legal(capacity: u32, opening: u32, puts: &[bool], takes: &[bool]) -> b
     passes(capacity, opening, puts, takes)
 }
 
-/// How many chunks a window leaves that opens with so many, where it is legal.
+/// How many chunks are left by a window of a buffer of at most `capacity`, which opens with `opening` and has these
+/// answers. `None` exactly where no legal window has them.
 pub fn next_opening(capacity: u32, opening: u32, puts: &[bool], takes: &[bool]) -> Option<u32>
     requires some { 1 ≤ capacity }
     requires fits { opening ≤ capacity }
@@ -34,7 +35,8 @@ pub fn next_opening(capacity: u32, opening: u32, puts: &[bool], takes: &[bool]) 
     Some((held - count_true(takes)) as u32)
 }
 
-/// Whether windows one after another, from none on, are legal, by their answers alone.
+/// Whether windows of a buffer of at most `capacity` chunks, one after another from an empty buffer on, are legal, by
+/// their answers alone.
 pub fn are_legal(capacity: u32, windows: &[WindowLog]) -> bool
     requires some { 1 ≤ capacity }
     ensures { result ≡ are_legal capacity 0 (map pair_of windows.now) }
@@ -49,7 +51,7 @@ pub fn are_legal(capacity: u32, windows: &[WindowLog]) -> bool
     true
 }
 
-// The same, by the test.
+// Whether the answers of a window pass the test of `is_legal`.
 fn passes(capacity: u32, opening: u32, puts: &[bool], takes: &[bool]) -> bool
     ensures { result ≡ is_legal capacity opening puts.now takes.now }
 {
@@ -75,7 +77,7 @@ fn count_true(answers: &[bool]) -> u64
     count
 }
 
-// Whether the first so many answers are true, as far as there are so many.
+// Whether the first `count` answers are true, or all where there are fewer.
 fn begins_true(count: u32, answers: &[bool]) -> bool
     ensures { result ≡ begins_true count answers.now }
 {
@@ -90,18 +92,18 @@ fn all_true(answers: &[bool]) -> bool
     answers.iter().all(|answer| *answer)
 }
 
-// Where one stands among the takes of a window.
+// A place among the takes of a window.
 #[derive(Clone, Copy)]
 struct Place {
-    // How many of them come before.
+    // How many takes come before.
     at: usize,
-    // How many of these got a chunk.
+    // How many of the takes before it got a chunk.
     got: u64,
-    // How many chunks a refused put must have before it.
+    // How many chunks, opening and accepted puts, a refused put must have before it.
     floor: u64,
 }
 
-// Whether each refused put has enough chunks before it.
+// Whether each refused put of a window has enough chunks before it, by the takes that come before it.
 fn refusals_fit(capacity: u32, opening: u32, puts: &[bool], takes: &[bool]) -> bool
     ensures { result ≡ refusals_fit capacity opening 0 capacity puts.now takes.now }
 {
@@ -124,7 +126,8 @@ fn refusals_fit(capacity: u32, opening: u32, puts: &[bool], takes: &[bool]) -> b
     true
 }
 
-// Goes on to the first empty take that has as many chunks before it as are given.
+// Goes on from a place among the takes, to the first empty take that has `count` chunks or more before it: as many as
+// were there or put before a refused put.
 fn pass(capacity: u32, count: u64, from: Place, takes: &[bool]) -> Place
     requires at { from.at ≤ length takes.now }
     requires got { from.got ≤ from.at }

@@ -1,4 +1,3 @@
-pub mod Copies
 pub mod Stopping
 pub mod Rendering
 pub mod Recalling

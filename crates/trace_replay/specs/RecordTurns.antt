@@ -19,12 +19,14 @@ pub record HeldTurns : Type 0 where
   pub readers : List ℕ
   pub turns : List TurnMade
 
+-- a turn as a pair, which codes to a number
 abbrev pub turn_coded : Coded TurnMade
 turn_coded = code_by (ℕ × ℕ) (coded× coded_ℕ coded_ℕ) (λ turn. (turn.clock, turn.ticks)) (λ p. record {
   clock = p.0;
   ticks = p.1;
 }) (λ _. refl)
 
+-- buffers, sides and turns as nested pairs, which code to numbers
 abbrev pub held_coded : Coded HeldTurns
 held_coded = code_by (List BufferState
     × (List ℕ × (List ℕ × List TurnMade)))

@@ -1,5 +1,5 @@
 -- The run of an engine, turn after turn.
-use Rattle.std.specs.Prelude.{◌≡◌, ◌<◌, ◌≤◌, ◌+◌, ◌++◌, ℕ, suc, Bool, Some, List, length, slice_get, slice_index_or}
+use Rattle.std.specs.Prelude.{◌≡◌, ◌<◌, ◌≤◌, ◌+◌, ◌++◌, ℕ, suc, Bool, Some, List, [], length, slice_get, slice_index_or}
 use Rattle.frame_core.specs.declared.cell.Cell.{Cell}
 use Rattle.liq_base.specs.Pieces.{SinkTold}
 use Rattle.frame_core.specs.Calls.{Call, Answer}
@@ -14,20 +14,20 @@ use Rattle.clock_ticks.specs.Pieces.{RoseAt}
 use Rattle.clock_ticks.specs.declared.engine.ClockEngine.{ClockEngine}
 use Rattle.clock_ticks.specs.Engines.{EngineStands, outputs_of, setting_of}
 use Rattle.clock_ticks.specs.Ticks.{HaveTicksRoom}
-use Rattle.rounds_run.specs.Rounds.{HasRunPart, HasRunTurns, world}
+use Rattle.rounds_run.specs.Rounds.{AreEngines, HasRunPart, HasRunTurns, world}
 use Rattle.trace_turns.specs.declared.course.TurnMade.{TurnMade}
 use Rattle.trace_replay.specs.declared.engines.Rest.{Rest}
 use Rattle.trace_turns.specs.declared.station.Sides.{Sides}
 use Rattle.trace_turns.specs.declared.station.Station.{Station}
 use Rattle.trace_turns.specs.declared.told.Mark.{Mark}
 use Rattle.trace_records.specs.Clocks.{HasReplayed, IsFront, Log}
-use Rattle.trace_records.specs.Passes.{AreAt, HasCome, IsMadeBy, IsTold}
+use Rattle.trace_records.specs.Passes.{AreAt, HasCome, IsFormed, IsMadeBy, IsTold}
 use Rattle.trace_turns.specs.Answering.{AllStand, BufferState}
 use Rattle.trace_turns.specs.Turns.{base_at, AreOf, AreSides, AreTold, Score, chunks_of}
 use Rattle.trace_turns.specs.Live.{IsPaused, mains}
 use Rattle.trace_turns.specs.Marks.{no_mark}
-use Rattle.trace_turns.specs.Orders.{AreTurns}
-use Rattle.trace_turns.specs.Thin.{AreFull, AreUnlost, NoneLost}
+use Rattle.trace_turns.specs.Orders.{AreTurns, no_chunks, no_ticks}
+use Rattle.trace_turns.specs.Thin.{AreFull, AreKept, AreUnlost, NoneLost}
 use Rattle.trace_records.specs.Traces.{text_of}
 use Rattle.trace_turns.specs.Timed.{timed}
 
@@ -49,7 +49,7 @@ pub record IsReplaying {S : Type 0} (told : S
   pub run : HasRunTurns told calls n first now
   pub rooms : (left : ℕ) → n + left ≡ N → HaveTicksRoom told now.parts now.outs left
 
--- An engine of clock m, which has made some of its N ticks, may go on up to n: the clock makes so many as the text
+-- An engine of clock m, which has made `made` of its N ticks, may go on up to n: the clock makes so many as the text
 -- tells, with the chunks that are there.
 pub record MayReplay {S : Type 0} (told : S
     → SinkTold) (score : Score) (N m made n : ℕ) (first now : ClockEngine S) (states : List BufferState) : Type 0 where
@@ -62,8 +62,9 @@ pub record MayReplay {S : Type 0} (told : S
   pub taken : ℕ → ℕ → Bool
   pub whole : HasReplayed score.base score.text window N m n score.chunks given taken
 
--- A fault ended it in a tick below n, after these calls of the ticks before and these ones of its own; they are the
--- first ones of all the calls by which the clock makes its first n ticks as the text tells.
+-- A fault ended the replay of clock m in a tick below n, after the calls `calls` of the ticks before and the calls
+-- `made` of its own; they are the first ones of all the calls by which the clock makes its first n ticks as the text
+-- tells.
 pub record IsBrokenOff {S : Type 0} (told : S
     → SinkTold) (score : Score) (N m n : ℕ) (first now : ClockEngine S) : Type 0 where
   pub tick : ℕ
@@ -75,7 +76,7 @@ pub record IsBrokenOff {S : Type 0} (told : S
       → IsFront (calls ++ made) (first_calls (answered score.base given) taken m n)
   pub part : HasRunPart told (world (setting_of first.parts) (calls ++ made)) tick (suc tick) first now
 
--- the count of faults rose of this output of an engine's clock
+-- the sink of this output of an engine's clock failed: its count of faults rose
 pub record HasSinkFailed {S : Type 0} (told : S → SinkTold) (sink : ℕ) (first now : ClockEngine S) : Type 0 where
   pub place : ℕ
   pub node : ℕ
@@ -101,11 +102,11 @@ tale_at station trace = record {
   ticks = trace.ticks;
 }
 
--- with the chunks that these buffers hold
+-- the score of a tale, with the chunks that these buffers hold
 abbrev pub score_over : Tale → (full : List BufferState) → Score
 score_over tale full = record { base = tale.base; clocks = tale.clocks; text = tale.text; chunks = chunks_of full }
 
--- an engine at first and as it is now, and the marks of the buffers at which it waits
+-- an engine at first and as it is now, and how far its calls came on each buffer
 pub record Progress (S : Type 0) : Type 0 where
   pub first : ClockEngine S
   pub now : ClockEngine S
@@ -130,8 +131,8 @@ pub record IsResting {S : Type 0} (told : S
   pub unlost : AreUnlost sides.readers.items m gone.marks states
   pub many : length gone.marks ≡ length states
 
--- An engine of clock m, which rests after some of its ticks, may come to n in a turn, by which these chunks are there;
--- the ticks of all clocks and the chunks so far are those of the tale.
+-- An engine of clock m, which rests after `made` of its ticks, may come to n ticks in a turn, after which the chunks
+-- `next` are there; the ticks of all clocks and the chunks before it are those of the tale.
 pub record MayPlay {S : Type 0} (told : S
     → SinkTold) (tale : Tale) (sides : Sides) (m made n : ℕ) (gone : Progress S) (states : List BufferState)
     : Type 0 where
@@ -148,7 +149,13 @@ pub record MayPlay {S : Type 0} (told : S
   pub next : ℕ → List (List Cell)
   pub come : HasCome tale.base tale.window tale.ticks tale.text m n (chunks_of full) next
 
--- In its turn it came to n ticks, by which these chunks are there: from buffers that with all their chunks are
+-- an engine that has gone on from `first` may play on from where it rests, and come to n ticks
+abbrev pub MayPlayOn : {S : Type 0} → (told : S
+    → SinkTold) → Tale → Sides → (n : ℕ) → (first now : ClockEngine S) → Rest → List BufferState → Type 0
+MayPlayOn told tale sides n first now rest states = MayPlay told tale sides now.parts.clock rest.made n
+    (progress first now rest.marks.items) states
+
+-- In its turn clock m came to n ticks, after which these chunks are there: from buffers that with all their chunks are
 -- `opening` to those that are `full`. No chunk was let go that another clock is to get.
 pub record HasPlayed {S : Type 0} (told : S
     → SinkTold) (tale : Tale) (sides : Sides) (m n : ℕ) (gone : Progress S) (opening before states : List BufferState)
@@ -162,7 +169,7 @@ pub record HasPlayed {S : Type 0} (told : S
   pub unlost : (k : ℕ) (other : List Mark) → (k ≡ m → ⊥) → AreUnlost sides.readers.items k other before
       → AreUnlost sides.readers.items k other states
 
--- Between two turns of all clocks: each engine has made its ticks so far and rests, and these turns are left.
+-- Between two turns of all clocks: each engine has made some of its ticks and rests, and these turns are left.
 pub record ArePlaying {S : Type 0} (told : S
     → SinkTold) (tale : Tale) (sides : Sides) (turns : List TurnMade) (first now : List (ClockEngine S))
     (rests : List Rest) (states : List BufferState) : Type 0 where
@@ -180,12 +187,30 @@ pub record ArePlaying {S : Type 0} (told : S
       → slice_get now k ≡ Some after → slice_get rests k ≡ Some rest
       → IsResting told tale sides k (made k) (progress before after rest.marks.items) full states
 
+-- All ticks of a station's engines, which have made none, may be made in these turns: in them the clocks make the
+-- record that a trace tells, and the buffers tell its answers and hold no chunk.
+pub record MayPlayAll {S : Type 0} (tells : S
+    → SinkTold) (station : Station) (of : Sides) (list : List TurnMade) (trace : TraceValue)
+    (running : List (ClockEngine S)) (states : List BufferState) : Type 0 where
+  pub few : trace.ticks ≤ 1000000000
+  pub setting : IsSetting (base_at station) station.clocks.now
+  pub sides : AreSides (base_at station) of.feeders.items of.readers.items
+  pub engines : AreEngines tells trace.ticks (base_at station) running
+  pub all : length running ≡ station.clocks.now.running
+  pub formed : IsFormed (length (base_at station).plan.buffers) trace.window trace.ticks (text_of trace.buffers)
+  pub told : AreTold (base_at station) (text_of trace.buffers) states
+  pub empty : (b : ℕ) → chunks_of states b ≡ []
+  pub kept : AreKept states
+  pub turns : AreTurns (base_at station) station.clocks.now.running trace.window trace.ticks (text_of trace.buffers)
+      list no_ticks no_chunks
+
 -- where an engine rests before its first tick, over so many buffers
 pub record IsNewRest (buffers : ℕ) (rest : Rest) : Type 0 where
   pub made : rest.made ≡ 0
   pub many : length rest.marks.items ≡ buffers
   pub none : (b : ℕ) (e : Mark) → b < buffers → slice_index_or rest.marks.items b e ≡ no_mark
 
+-- where `count` engines rest before their first tick, over so many buffers
 pub record AreNewRests (count buffers : ℕ) (rests : List Rest) : Type 0 where
   pub size : length rests ≡ count
   pub each : (k : ℕ) (rest : Rest) → slice_get rests k ≡ Some rest → IsNewRest buffers rest

@@ -32,10 +32,10 @@ pub record HasReplayedAll {S : Type 0} (told : S → SinkTold) (base : Setting) 
   pub counts_are : counts ≡ counts_of_run run
   pub logs_are : logs ≡ logs_of_run run
 
--- A replay in this setting came so far: of its N ticks each clock made so many, and tried no more, or the one in which
--- it stopped, which no two did. Each output holds its bytes of the ticks that its clock made, and then a front of those of the one that
--- it tried. A write that ended the replay is one of the clock that it names. In which order the clocks make their ticks
--- is not told.
+-- How far a replay in this setting came: of its N ticks each clock m made `made m`, and tried no more, or one more in
+-- which it stopped, which no two did. Each output holds its bytes of the ticks that its clock made, and then a front of
+-- those of the one that it tried. A write that ended the replay is one of the clock that the end names. In which order
+-- the clocks make their ticks is not told.
 pub record HasReplayedTo {S : Type 0} (told : S
     → SinkTold) (setting : Setting) (N : ℕ) (first now : List (ClockEngine S)) (end : End) : Type 0 where
   pub made : ℕ → ℕ
@@ -45,7 +45,7 @@ pub record HasReplayedTo {S : Type 0} (told : S
   pub part : HaveRunPart told (λ rest. setting) made tried first now
   pub write : (failed sink : ℕ) → end ≡ Write failed sink → IsWriteEnd told failed first now end
 
--- a replay of the record of a trace came so far
+-- how far a replay of the record of a trace came
 pub record HasReplayedSome {S : Type 0} (told : S → SinkTold) (base : Setting) (clocks : ℕ) (trace : TraceValue)
     (first now : List (ClockEngine S)) (end : End) : Type 0 where
   pub run : Run

@@ -13,7 +13,7 @@ use plan_core::Plan;
 use std::alloc::Global;
 use trace_log::Trace;
 
-/// Whether a trace that was read is that of a lawful record of so many ticks of a plan, with its clocks, its files and
+/// Whether a trace that was read is that of a lawful record of `ticks` ticks of a plan, with its clocks, its files and
 /// its start second, whose ticks can be ordered.
 pub fn accepts(
     alloc: Global,

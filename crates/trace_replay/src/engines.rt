@@ -1,5 +1,5 @@
 // The engines of a replay, turn after turn.
-ghost use Rattle.std.specs.Prelude.{◌≡◌, ◌<◌, ◌≤◌, ℕ, [], IfErr, IfOk, OnErr, OnOk, get_or, length};
+ghost use Rattle.std.specs.Prelude.{◌≡◌, ◌<◌, ◌≤◌, ℕ, IfErr, IfOk, OnErr, OnOk, get_or, length};
 ghost use Rattle.buffer_ends.specs.declared.run_end.End.TheVariants.{Done, Memory as NoMemory, Write as WriteEnd};
 ghost use Rattle.clock_ticks.specs.declared.engine.ClockEngine.{ClockEngine as Engine};
 ghost use Rattle.clock_ticks.specs.declared.fault.TickFault.TheVariants.{Memory as OutOfMemory, Write as TickWrite};
@@ -9,15 +9,12 @@ ghost use Rattle.rounds_run.specs.Rounds.{AreEngines};
 ghost use Rattle.rounds_run.specs.Runs.{HaveRunTicks};
 ghost use Rattle.trace_turns.specs.declared.course.Course.TheVariants.{Goes as IsGoing};
 ghost use Rattle.trace_turns.specs.Answering.{SameBuffers};
-ghost use Rattle.trace_turns.specs.Turns.{base_at, AreSides, AreTold, Score, chunks_of};
-ghost use Rattle.trace_turns.specs.Orders.{AreTurns, no_chunks, no_ticks};
-ghost use Rattle.trace_records.specs.Passes.{IsFormed};
+ghost use Rattle.trace_turns.specs.Turns.{base_at, AreSides, Score};
 ghost use Rattle.trace_replay.specs.Replaying.{AreNewRests, ArePlaying, HasPlayed, HasSinkFailed, IsBrokenOff};
-ghost use Rattle.trace_replay.specs.Replaying.{IsNewRest, IsReplaying, MayPlay, MayReplay, Tale, score_over, tale_at};
-ghost use Rattle.trace_replay.specs.Replaying.{progress};
+ghost use Rattle.trace_replay.specs.Replaying.{IsNewRest, IsReplaying, MayPlayAll, MayPlayOn, MayReplay, Tale};
+ghost use Rattle.trace_replay.specs.Replaying.{progress, score_over, tale_at};
 ghost use Rattle.trace_replay.specs.Replays.{HasReplayedTo};
-ghost use Rattle.trace_records.specs.Traces.{IsRecordOf, text_of};
-ghost use Rattle.trace_turns.specs.Thin.{AreKept};
+ghost use Rattle.trace_records.specs.Traces.{IsRecordOf};
 
 use buffer_ends::End;
 use clock_ticks::{ClockEngine, TickFault};
@@ -36,7 +33,8 @@ pub struct Rest {
     pub marks: Vec<Mark>,
 }
 
-/// Makes further ticks of a clock that has made some, over buffers that hold the chunks that it gets.
+/// Makes further ticks of a clock, from the `made` ones on up to `ticks` in all, over buffers that hold the chunks that
+/// it gets.
 pub fn replay_clock<O: Sink>(
     alloc: Global,
     engine: &mut ClockEngine<'_, O>,
@@ -65,7 +63,7 @@ pub fn replay_clock<O: Sink>(
     Ok(())
 }
 
-// A turn of a clock: its engine goes on where it rests, up to so many ticks.
+// A turn of a clock: its engine goes on where it rests, up to `ticks` ticks in all.
 fn replay_turn<O: Sink>(
     alloc: Global,
     engine: &mut ClockEngine<'_, O>,
@@ -76,21 +74,17 @@ fn replay_turn<O: Sink>(
 ) -> Result<(), TickFault>
     requires few { ticks ≤ 1000000000 }
     requires play { (tale : Tale) × (first : Engine O)
-        × MayPlay O.told tale sides.now engine.old.parts.clock rest.old.made ticks
-        (progress first engine.old rest.old.marks.items) taps.old.buffers.items }
+        × MayPlayOn O.told tale sides.now ticks first engine.old rest.old taps.old.buffers.items }
     ensures done { OnOk result ((tale : Tale) (first : Engine O)
-        (may : MayPlay O.told tale sides.now engine.old.parts.clock rest.old.made ticks
-        (progress first engine.old rest.old.marks.items) taps.old.buffers.items)
+        (may : MayPlayOn O.told tale sides.now ticks first engine.old rest.old taps.old.buffers.items)
         → HasPlayed O.told tale sides.now engine.old.parts.clock ticks (progress first engine.new rest.new.marks.items)
         may.full taps.old.buffers.items taps.new.buffers.items may.next) }
     ensures made { OnOk result (rest.new.made ≡ ticks) }
     ensures part { OnErr result ((tale : Tale) (first : Engine O)
-        (may : MayPlay O.told tale sides.now engine.old.parts.clock rest.old.made ticks
-        (progress first engine.old rest.old.marks.items) taps.old.buffers.items)
+        (may : MayPlayOn O.told tale sides.now ticks first engine.old rest.old taps.old.buffers.items)
         → IsBrokenOff O.told (score_over tale may.full) tale.ticks engine.old.parts.clock ticks first engine.new) }
     ensures cause { IfErr result (λ fault. (tale : Tale) (first : Engine O) (sink : ℕ)
-        → MayPlay O.told tale sides.now engine.old.parts.clock rest.old.made ticks
-        (progress first engine.old rest.old.marks.items) taps.old.buffers.items
+        → MayPlayOn O.told tale sides.now ticks first engine.old rest.old taps.old.buffers.items
         → fault ≡ TickWrite sink → HasSinkFailed O.told sink first engine.new) }
 {
     resume_run(
@@ -116,7 +110,7 @@ fn new_rest(alloc: Global, buffers: usize) -> Result<Rest, Memory>
     Ok(Rest { made: 0, marks })
 }
 
-// The same of so many engines.
+// Where `count` engines rest before their first tick, over so many buffers.
 fn new_rests(alloc: Global, count: usize, buffers: usize) -> Result<Vec<Rest>, Memory>
     ensures { IfOk result (λ rests. AreNewRests count buffers rests.items) }
 {
@@ -141,7 +135,7 @@ fn end_of(clock: u32, fault: TickFault) -> End
     }
 }
 
-// A turn of a list.
+// Turn number i of a list.
 fn turn_at(turns: &[TurnMade], i: usize) -> TurnMade
     requires { i < length turns.now }
     ensures { result ≡ get_or turns.now i result }
@@ -202,18 +196,7 @@ pub fn replay_engines<O: Sink>(
     turns: &[TurnMade],
     trace: &Trace,
 ) -> Result<(), End>
-    requires few { trace.now.ticks ≤ 1000000000 }
-    requires setting { IsSetting (base_at station.now) station.now.clocks.now }
-    requires sides { AreSides (base_at station.now) sides.now.feeders.items sides.now.readers.items }
-    requires engines { AreEngines O.told trace.now.ticks (base_at station.now) engines.old }
-    requires all { length engines.old ≡ station.now.clocks.now.running }
-    requires formed { IsFormed (length (base_at station.now).plan.buffers) trace.now.window trace.now.ticks
-        (text_of trace.now.buffers) }
-    requires told { AreTold (base_at station.now) (text_of trace.now.buffers) taps.old.buffers.items }
-    requires empty { (b : ℕ) → chunks_of taps.old.buffers.items b ≡ [] }
-    requires kept { AreKept taps.old.buffers.items }
-    requires turns { AreTurns (base_at station.now) station.now.clocks.now.running trace.now.window trace.now.ticks
-        (text_of trace.now.buffers) turns.now no_ticks no_chunks }
+    requires { MayPlayAll O.told station.now sides.now turns.now trace.now engines.old taps.old.buffers.items }
     ensures done { OnOk result ((run : Run)
         → IsRecordOf (base_at station.now) station.now.clocks.now.running trace.now run
         → HaveRunTicks O.told (setting_in (base_at station.now) run) trace.now.ticks engines.old engines.new) }

@@ -40,14 +40,16 @@ pub fn ordered_traces_are_accepted()
         → IsAccepted base clocks.running N (trace_of W N run) }
 {}
 
-/// So where the main clocks can be listed so, the trace of every lawful record is accepted.
+/// Where the main clocks can be listed so that each buffer that joins two clocks leads to a later one, the trace of
+/// every lawful record is accepted.
 pub fn onward_traces_are_accepted()
     ensures { (base : Setting) (clocks : Map) → IsSetting base clocks → (W N : ℕ) (run : Run)
         → AreWindows base clocks.running W N run → (listing : List ℕ)
         → LeadOnward base clocks.running listing → IsAccepted base clocks.running N (trace_of W N run) }
 {}
 
-/// So is that of a run by threads, whose logs are the answers of a lawful record.
+/// Where the main clocks can be listed so that each buffer that joins two clocks leads to a later one, the trace of a
+/// run by threads is accepted: its logs are the answers of a lawful record.
 pub fn logs_of_onward_runs_are_accepted()
     ensures { (base : Setting) (clocks : Map) → IsSetting base clocks → (W N : ℕ) (run : Run)
         → AreWindows base clocks.running W N run → (logs : List (List Answers)) → logs ≡ map (map told) run.buffers

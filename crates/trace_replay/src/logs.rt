@@ -9,7 +9,7 @@ use liq_base::Memory;
 use std::alloc::Global;
 use trace_turns::flatten;
 
-// The same answers again.
+// A copy of a window's answers.
 fn copy_window(alloc: Global, window: &WindowLog) -> Result<WindowLog, Memory>
     ensures { IfOk result (λ copy. copy ≡ window.now) }
 {
@@ -20,7 +20,7 @@ fn copy_window(alloc: Global, window: &WindowLog) -> Result<WindowLog, Memory>
     Ok(WindowLog { puts, takes })
 }
 
-// The same windows again.
+// A copy of these windows.
 fn copy_windows(alloc: Global, windows: &[WindowLog]) -> Result<Vec<WindowLog>, Memory>
     ensures { IfOk result (λ copies. copies.items ≡ windows.now) }
 {
@@ -32,7 +32,7 @@ fn copy_windows(alloc: Global, windows: &[WindowLog]) -> Result<Vec<WindowLog>, 
     Ok(copies)
 }
 
-// The same log again.
+// A copy of a buffer's log.
 fn copy_log(alloc: Global, log: &BufferLog) -> Result<BufferLog, Memory>
     ensures { IfOk result (λ copy. copy ≡ log.now) }
 {
@@ -41,7 +41,7 @@ fn copy_log(alloc: Global, log: &BufferLog) -> Result<BufferLog, Memory>
     })
 }
 
-// The same logs again.
+// A copy of these logs.
 fn copy_logs(alloc: Global, logs: &[BufferLog]) -> Result<Vec<BufferLog>, Memory>
     ensures { IfOk result (λ copies. copies.items ≡ logs.now) }
 {
@@ -86,14 +86,14 @@ fn count_windows(alloc: Global, windows: &[WindowLog]) -> Result<Counts, Memory>
     })
 }
 
-// The same of a buffer's log.
+// How often the calls on a buffer with this log had which answer.
 fn count_log(alloc: Global, log: &BufferLog) -> Result<Counts, Memory>
     ensures { IfOk result (λ counts. counts ≡ counts_in log.now) }
 {
     count_windows(alloc, &log.windows)
 }
 
-// The same of each buffer.
+// By a buffer's number: how often the calls on it had which answer, by its log.
 fn count_logs(alloc: Global, logs: &[BufferLog]) -> Result<Vec<Counts>, Memory>
     ensures { IfOk result (λ counts. counts.items ≡ map counts_in logs.now) }
 {
@@ -104,7 +104,7 @@ fn count_logs(alloc: Global, logs: &[BufferLog]) -> Result<Vec<Counts>, Memory>
     Ok(counts)
 }
 
-/// How a run whose buffers answered so, and which made all its ticks, ends.
+/// The result of a run that made all its ticks and whose buffers answered as these logs say.
 pub fn told_run(alloc: Global, logs: &[BufferLog]) -> Result<RunEnd, Memory>
     ensures counts { IfOk result (λ run. run.counts.items ≡ map counts_in logs.now) }
     ensures logs { IfOk result (λ run. run.logs.items ≡ logs.now) }

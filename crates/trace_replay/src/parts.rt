@@ -4,7 +4,7 @@ ghost use Rattle.std.specs.Prelude.{◌≡◌};
 use buffer_ends::BufferLog;
 use trace_log::Trace;
 
-/// The answers of each buffer.
+/// The logs of a trace: the answers of each buffer.
 pub fn logs_of(trace: &Trace) -> &[BufferLog]
     ensures { result.now ≡ trace.now.buffers }
 {

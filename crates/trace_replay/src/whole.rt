@@ -50,8 +50,8 @@ impl Model for RecordTurns {
 }
 
 /// The turns in which the clocks make the record that a trace tells, where the trace, which was read, is that of a
-/// lawful record of so many ticks of a plan, with its clocks, its files and its start second, whose ticks can be
-/// ordered; and nothing where it is not. Only want of memory comes in place of an answer.
+/// lawful record of `ticks` ticks of a plan, with its clocks, its files and its start second, whose ticks can be
+/// ordered; and `None` where it is not. Only want of memory comes in place of an answer.
 pub fn find_record(
     alloc: Global,
     plan: &Plan,
@@ -105,7 +105,7 @@ pub fn find_record(
     Ok(Some(RecordTurns { taps, sides, turns }))
 }
 
-// The answers of a whole run, or want of memory.
+// The result of a whole run with these logs and their counts; want of memory if there is no room for them.
 fn told_or_ended(alloc: Global, logs: &[BufferLog]) -> RunEnd
     ensures counts { result.end ≡ Done → result.counts.items ≡ map counts_in logs.now }
     ensures logs { result.end ≡ Done → result.logs.items ≡ logs.now }
@@ -117,7 +117,7 @@ fn told_or_ended(alloc: Global, logs: &[BufferLog]) -> RunEnd
     }
 }
 
-// The answer of a run that did not come to its end.
+// The result of a run that was broken off: it has no counts and no logs.
 fn ended(alloc: Global, end: End) -> RunEnd
     ensures { result.end ≡ end }
 {
@@ -129,9 +129,9 @@ fn ended(alloc: Global, end: End) -> RunEnd
 }
 
 /// Renders the ticks of an accepted trace again, on one thread: each output gets the bytes of the record that the trace
-/// tells. The engines stand in clock order, one for each clock that runs, made no tick, and are over this plan, with
-/// these clocks, files and start second; the turns are those of this trace. Done answers the trace's logs and their
-/// numbers. The first fault ends the run: each engine has made some of its ticks then.
+/// tells. The engines are in clock order, one for each clock that runs, made no tick, and are over this plan, with
+/// these clocks, files and start second; the turns are those of this trace. If all ticks were made, the result has the
+/// trace's logs and their counts. The run ends at the first fault: each engine has made some of its ticks then.
 pub fn replay<O: Sink>(
     alloc: Global,
     plan: &Plan,

@@ -15,14 +15,15 @@ use Rattle.trace_turns.specs.declared.course.Course.{Course}
 use Rattle.trace_turns.specs.declared.course.Course.TheVariants.{Goes, Waits, Fails}
 use Rattle.trace_records.specs.Clocks.{IsFront, Suits, buffer_of, got_in}
 
--- lists without a cell
+-- n lists without a cell
 abbrev pub blanks : ℕ → List (List Cell)
 blanks zero = []
 blanks (suc n) = [] ∷ blanks n
 
--- A buffer in the run of one clock: what is told of it, how many of the answers came in this run, how many chunks were
--- got of it, the chunks that were put so far, and how many of them were there when the run began. So many of the first
--- chunks were let go, and lists without a cell stand in their places.
+-- A buffer in the run of one clock: the answers of its puts and takes that are told, whether the clock feeds it and
+-- reads it, how many puts and takes came in this run, how many chunks were got, how many were there when the run began,
+-- and the chunks that were put so far. The first `gone` of them were let go, and lists without a cell stand in their
+-- places.
 pub record BufferState : Type 0 where
   pub capacity : ℕ
   pub puts : List Bool
@@ -36,6 +37,7 @@ pub record BufferState : Type 0 where
   pub chunks : List (List Cell)
   pub gone : ℕ
 
+-- a buffer's state as nested pairs, which code to numbers
 abbrev pub state_coded : Coded BufferState
 state_coded = code_by (ℕ × (List Bool × (List Bool × (Bool × (Bool × (ℕ × (ℕ × (ℕ × (ℕ × (List (List Cell) × ℕ))))))))))
     (coded× coded_ℕ (coded× (coded_list coded_bool)
@@ -64,21 +66,21 @@ state_coded = code_by (ℕ × (List Bool × (List Bool × (Bool × (Bool × (ℕ
       gone = p.1.1.1.1.1.1.1.1.1.1;
     }) (λ _. refl)
 
--- both its ends are the clock's
+-- whether both ends of a buffer are the clock's, so that it is a list
 abbrev pub is_list : BufferState → Bool
 is_list s = s.fed && s.read
 
--- of a buffer that is a list: a take gets a chunk where one is left, and none otherwise; a put is accepted where there
--- is room
+-- the right answer of a take from a buffer that is a list: it gets a chunk if one is left, and otherwise none
 abbrev pub IsRightTake : BufferState → Bool → Type 0
 IsRightTake s true = s.got < length s.chunks
 IsRightTake s false = length s.chunks ≡ s.got
 
+-- the right answer of a put to a buffer that is a list: it is accepted if there is room, and otherwise not
 abbrev pub IsRightPut : BufferState → Bool → Type 0
 IsRightPut s true = length s.chunks < s.capacity + s.got
 IsRightPut s false = length s.chunks ≡ s.capacity + s.got
 
--- the state after a take, by what it met
+-- a buffer's state before and after a take that met this
 abbrev pub TakesOn : BufferState → Taken → BufferState → Type 0
 TakesOn before (GotChunk chunk) after =
     (slice_get before.takes before.take_at ≡ Some true) × (slice_get before.chunks before.got ≡ Some chunk)
@@ -95,7 +97,7 @@ TakesOn before NoTake after =
     ((gets : Bool) → slice_get before.takes before.take_at ≡ Some gets
     → (is_list before ≡ true → IsRightTake before gets) → ⊥) × (after ≡ before)
 
--- the state after a put of this chunk, by its answer
+-- a buffer's state before and after a put of this chunk that met this
 abbrev pub PutsOn : BufferState → List Cell → Put → BufferState → Type 0
 PutsOn before chunk IsAccepted after =
     (slice_get before.puts before.put_at ≡ Some true) × (is_list before ≡ true → IsRightPut before true)
@@ -124,10 +126,11 @@ pub record StandsFor (s : BufferState) (b : ℕ) (calls : List Call) : Type 0 wh
       → buffer_of call ≡ b
       → Suits s.capacity (somes (puts_to b front)) (got_in b front) call
 
+-- each buffer stands for these calls of the run
 abbrev pub AllStand : List BufferState → List Call → Type 0
 AllStand states calls = (b : ℕ) (d : BufferState) → b < length states → StandsFor (slice_index_or states b d) b calls
 
--- this call, with its answer, can come behind these
+-- this call, with its answer, can follow the calls `front`
 pub record CanComeBy (states : List BufferState) (front : List Call) (call : Call) : Type 0 where
   pub puts : (b : ℕ) (d : BufferState) → b < length states
       → IsFront (map is_some (puts_to b (front ++ call ∷ []))) (slice_index_or states b d).puts
@@ -138,7 +141,7 @@ pub record CanComeBy (states : List BufferState) (front : List Call) (call : Cal
       → Suits (slice_index_or states (buffer_of call) d).capacity (somes (puts_to (buffer_of call) front))
       (got_in (buffer_of call) front) call
 
--- the calls up to one that got no right answer, since it waits or since there is none
+-- the buffers stand for these calls up to a take that gets a chunk by the trace, which is not there yet
 pub record HasWaited (states : List BufferState) (calls : List Call) : Type 0 where
   pub front : List Call
   pub behind : List Call
@@ -152,6 +155,7 @@ pub record HasWaited (states : List BufferState) (calls : List Call) : Type 0 wh
       ≤ (slice_index_or states buffer d).got
   pub joins : (d : BufferState) → is_list (slice_index_or states buffer d) ≡ false
 
+-- the buffers stand for these calls up to one that no answer makes right
 pub record HasFailed (states : List BufferState) (calls : List Call) : Type 0 where
   pub front : List Call
   pub behind : List Call
@@ -160,13 +164,13 @@ pub record HasFailed (states : List BufferState) (calls : List Call) : Type 0 wh
   pub stand : AllStand states front
   pub none : (other : Call) → IsSameCall call other → CanComeBy states front other → ⊥
 
--- what all buffers stand for
+-- what all buffers stand for, by how far the calls could be answered
 abbrev pub TapsStand : Course → List BufferState → List Call → Type 0
 TapsStand Goes states calls = AllStand states calls
 TapsStand Waits states calls = HasWaited states calls
 TapsStand Fails states calls = HasFailed states calls
 
--- what no call changes
+-- what calls leave as it is, or let grow, in a buffer's state
 pub record SameBuffer (before after : BufferState) : Type 0 where
   pub capacity : after.capacity ≡ before.capacity
   pub puts : after.puts ≡ before.puts
@@ -180,11 +184,13 @@ pub record SameBuffer (before after : BufferState) : Type 0 where
   pub got_on : before.got ≤ after.got
   pub there : (rest : List (List Cell)) × (after.chunks ≡ before.chunks ++ rest)
 
+-- what calls leave as it is, or let grow, in the states of all buffers
 pub record SameBuffers (before after : List BufferState) : Type 0 where
   pub many : length after ≡ length before
   pub each : (k : ℕ) (d : BufferState) → k < length before
       → SameBuffer (slice_index_or before k d) (slice_index_or after k d)
 
+-- without a call the states stay as they are
 pub same_buffers_refl : (bs : List BufferState) → SameBuffers bs bs
 same_buffers_refl bs = record {
   many = refl;
@@ -203,6 +209,7 @@ same_buffers_refl bs = record {
   };
 }
 
+-- what calls leave as it is, and further calls after them, is left so by all of them
 pub same_buffers_trans : (bs cs ds : List BufferState) → SameBuffers bs cs → SameBuffers cs ds → SameBuffers bs ds
 same_buffers_trans bs cs ds a b = record {
   many = b.many ∙ a.many;
@@ -231,12 +238,12 @@ abbrev pub chunks_at : Bool → List (List Cell) → List (List Cell)
 chunks_at true chunks = []
 chunks_at false chunks = chunks
 
--- so none of these were let go
+-- how many of the chunks were let go with which a buffer begins a run: none of a clock's own feed
 abbrev pub gone_at : Bool → ℕ → ℕ
 gone_at true gone = 0
 gone_at false gone = gone
 
--- a buffer at the begin of a run
+-- a buffer at the beginning of a run of a clock, which feeds it or not, and reads it or not
 abbrev pub begun : BufferState → (fed read : Bool) → BufferState
 begun s fed read = record {
   capacity = s.capacity;

@@ -1,24 +1,28 @@
 -- Clocks whose engines go on from turn to turn.
-use Rattle.std.specs.Prelude.{◌≡◌, ◌<◌, ℕ, Bool, Some, List, [], length, nat_eq, slice_get, slice_index_or}
+use Rattle.std.specs.Prelude.{◌≡◌, ◌<◌, ◌≤◌, ℕ, Bool, Some, List, [], length, nat_eq, slice_get, slice_index_or}
 use Rattle.frame_core.specs.Calls.{Call}
+use Rattle.clock_infer.specs.declared.clock_map.ClockMap.{ClockMap}
 use Rattle.stream_meaning.specs.Instants.{Setting}
 use Rattle.stream_meaning.specs.Calls.{answers_in}
 use Rattle.stream_meaning.specs.Settings.{IsSetting}
 use Rattle.clock_ticks.specs.declared.engine.EngineParts.{EngineParts}
 use Rattle.clock_ticks.specs.Engines.{EngineStands, setting_of}
 use Rattle.frame_core.specs.declared.cell.Cell.{Cell}
+use Rattle.trace_turns.specs.declared.course.Course.{Course}
+use Rattle.trace_turns.specs.declared.course.Course.TheVariants.{Goes}
 use Rattle.trace_turns.specs.declared.ends.Ends.{Ends}
 use Rattle.trace_turns.specs.declared.live.LiveClock.{LiveClock}
+use Rattle.trace_turns.specs.declared.station.Sides.{Sides}
 use Rattle.trace_turns.specs.declared.told.Mark.{Mark}
 use Rattle.trace_turns.specs.Answering.{BufferState, StandsFor}
-use Rattle.trace_records.specs.Clocks.{AreWhole}
+use Rattle.trace_records.specs.Clocks.{AreWhole, Log}
 use Rattle.trace_turns.specs.Marks.{no_mark, resumed}
 use Rattle.trace_records.specs.Passes.{HasCome, IsFormed, IsMadeBy, ticks_in}
 use Rattle.trace_turns.specs.Thin.{AreFull, AreUnlost, NoneLost}
-use Rattle.trace_turns.specs.Turns.{AreEnds, RunsAt, Score, chunks_of}
-use Rattle.trace_turns.specs.Timed.{TimedText}
+use Rattle.trace_turns.specs.Turns.{AreEnds, AreFit, AreSides, RunsAt, Score, chunks_of}
+use Rattle.trace_turns.specs.Timed.{TimedText, timed}
 
--- a run of a clock may move over buffers that are as many as these
+-- a clock may run over these buffers: one for each of the plan, and `ends` says where the text's windows end
 pub record MayMove (score : Score) (W N : ℕ) (states : List BufferState) (ends : List Ends) : Type 0 where
   pub is : IsSetting score.base score.clocks
   pub formed : IsFormed (length score.base.plan.buffers) W N score.text
@@ -27,13 +31,14 @@ pub record MayMove (score : Score) (W N : ℕ) (states : List BufferState) (ends
   pub ends_are : (b : ℕ) (e : Ends) → b < length score.base.plan.buffers
       → AreEnds (score.text b) (slice_index_or ends b e)
 
--- a clock that has made n ticks may make more
+-- clock m, which has made n ticks, may make more over these buffers
 pub record MayGoOn (score : Score) (W N m n : ℕ) (parts : EngineParts) (states : List BufferState)
     (ends : List Ends) : Type 0 where
   pub move : MayMove score W N states ends
   pub run : RunsAt score.base score.text W N m n score.chunks parts states
 
--- the same over buffers that let go of chunks: over the buffers with all their chunks it may
+-- a clock that has made n ticks may make more over buffers that let go of chunks: it may over the same buffers with all
+-- their chunks, and none is missing that it is to get
 pub record MayFlow (score : Score) (W N m n : ℕ) (parts : EngineParts) (states : List BufferState)
     (ends : List Ends) : Type 0 where
   pub full : List BufferState
@@ -41,7 +46,17 @@ pub record MayFlow (score : Score) (W N m n : ℕ) (parts : EngineParts) (states
   pub unlost : NoneLost states
   pub may : MayGoOn score W N m n parts full ends
 
--- clock m has made its first n ticks over such buffers
+-- A clock that has made n ticks may make a few more: every call was answered so far, and of some score they may be
+-- made.
+pub record MayMakeMore (W N n : ℕ) (parts : EngineParts) (course : Course) (states : List BufferState)
+    (ends : List Ends) : Type 0 where
+  pub some : 1 ≤ W
+  pub few : N ≤ 1000000000
+  pub within : n ≤ N
+  pub goes : course ≡ Goes
+  pub turn : (score : Score) × MayFlow score W N parts.clock n parts states ends
+
+-- clock m has made its first n ticks over buffers that let go of chunks; nothing was let go that it is to get
 pub record HasFlown (base : Setting) (told : TimedText) (m n : ℕ) (chunks : ℕ → List (List Cell)) (parts : EngineParts)
     (states : List BufferState) : Type 0 where
   pub full : List BufferState
@@ -57,8 +72,8 @@ pub record Mains : Type 0 where
 abbrev pub mains : (feeders readers : List ℕ) → Mains
 mains feeders readers = record { feeders = feeders; readers = readers }
 
--- Clock m has made its first n ticks, and its engine stands for their calls. So will the buffers, where its run goes on
--- at these marks.
+-- Clock m has made its first n ticks, and its engine stands for their calls. So do the buffers, if its run goes on at
+-- these marks.
 pub record IsPaused (base : Setting) (told : TimedText) (ends : Mains) (m n : ℕ) (parts : EngineParts)
     (marks : List Mark) (states : List BufferState) : Type 0 where
   pub calls : List Call
@@ -72,19 +87,54 @@ pub record IsPaused (base : Setting) (told : TimedText) (ends : Mains) (m n : �
       → StandsFor (resumed (slice_index_or states b d) (nat_eq (slice_index_or ends.feeders b 0) m)
       (nat_eq (slice_index_or ends.readers b 0) m) (slice_index_or marks b e)) b calls
 
--- in a turn over these buffers clock m came to n ticks, and waits at these marks of others
+-- in a turn, by which the buffers came from `opening` to `states`, clock m came to n ticks, and its calls came to these
+-- marks
 pub record HasGone (base : Setting) (told : TimedText) (ends : Mains) (m n : ℕ) (parts : EngineParts)
     (marks : List Mark) (opening states : List BufferState) : Type 0 where
   pub come : HasCome base told.window told.ticks told.text m n (chunks_of opening) (chunks_of states)
   pub paused : IsPaused base told ends m n parts marks states
 
--- the same of buffers that let go of chunks; what other clocks are to get is not let go
+-- in a turn over buffers that let go of chunks clock m came to n ticks, and its calls came to these marks; nothing was
+-- let go that clock m is still to get
 pub record HasFlownOn (base : Setting) (told : TimedText) (ends : Mains) (m n : ℕ) (parts : EngineParts)
     (marks : List Mark) (opening states : List BufferState) : Type 0 where
   pub full : List BufferState
   pub fills : AreFull states full
   pub gone : HasGone base told ends m n parts marks opening full
   pub unlost : AreUnlost ends.readers m marks states
+
+-- what a clock goes on with: a plan with its clocks, a text, and the buffers with all their chunks
+pub record FullScore : Type 0 where
+  pub base : Setting
+  pub clocks : ClockMap
+  pub text : ℕ → Log
+  pub full : List BufferState
+
+-- a clock that has made n ticks of it may go on, over buffers that let go of chunks
+pub record MayResume (score : FullScore) (of : Sides) (ends : List Ends) (W N n : ℕ) (live : LiveClock)
+    (states : List BufferState) : Type 0 where
+  pub setting : IsSetting score.base score.clocks
+  pub sides : AreSides score.base of.feeders.items of.readers.items
+  pub fit : AreFit score.base W N score.text states ends
+  pub fills : AreFull states score.full
+  pub unlost : AreUnlost of.readers.items live.engine.parts.clock live.marks.items states
+  pub paused : IsPaused score.base (timed score.text W N) (mains of.feeders.items of.readers.items)
+      live.engine.parts.clock n live.engine.parts live.marks.items score.full
+
+-- the turn of a clock that has made n ticks may begin: there is a score with which it may go on
+pub record MayTakeTurn (of : Sides) (ends : List Ends) (W N n : ℕ) (live : LiveClock)
+    (states : List BufferState) : Type 0 where
+  pub some : 1 ≤ W
+  pub few : N ≤ 1000000000
+  pub within : n ≤ N
+  pub long : length ends ≡ length states
+  pub marks : length live.marks.items ≡ length states
+  pub turn : (score : FullScore) × MayResume score of ends W N n live states
+
+-- clock m has gone on with it, up to n ticks
+abbrev pub HasResumed : FullScore → Sides → (W N m n : ℕ) → LiveClock → List BufferState → Type 0
+HasResumed score of W N m n live states = HasFlownOn score.base (timed score.text W N)
+    (mains of.feeders.items of.readers.items) m n live.engine.parts live.marks.items score.full states
 
 -- clock m of a station, before its first tick
 pub record IsNewClock (base : Setting) (m : ℕ) (live : LiveClock) : Type 0 where
@@ -94,7 +144,7 @@ pub record IsNewClock (base : Setting) (m : ℕ) (live : LiveClock) : Type 0 whe
   pub many : length live.marks.items ≡ length base.plan.buffers
   pub none : (b : ℕ) (e : Mark) → b < length base.plan.buffers → slice_index_or live.marks.items b e ≡ no_mark
 
--- the first so many clocks, by their numbers
+-- the first `count` clocks of a station, in their order, each before its first tick
 pub record AreNewClocks (base : Setting) (count : ℕ) (lives : List LiveClock) : Type 0 where
   pub size : length lives ≡ count
   pub each : (k : ℕ) (live : LiveClock) → slice_get lives k ≡ Some live → IsNewClock base k live

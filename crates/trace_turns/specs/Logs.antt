@@ -9,17 +9,17 @@ use Rattle.trace_turns.specs.Answering.{BufferState}
 use Rattle.trace_turns.specs.Turns.{AreEnds}
 use Rattle.trace_records.specs.Traces.{text_of}
 
--- the answers of the puts of a window, or of its takes
+-- the answers of the puts of a window, if `true`, and otherwise of its takes
 abbrev pub side_of : Bool → Answers → List Bool
 side_of true answers = answers.puts
 side_of false answers = answers.takes
 
--- how many of them the first windows have, one, two and so on
+-- for each window, how many answers of puts, or of takes, there are up to its end
 abbrev pub AreEndsOf : Bool → List Answers → List ℕ → Type 0
 AreEndsOf puts windows ends = (j : ℕ) → j < length windows
     → slice_get ends j ≡ Some (length (flat_map (side_of puts) (take (suc j) windows)))
 
--- a buffer of which this is told, before any run
+-- a buffer of this capacity, of which this log tells, before any run
 abbrev pub new_state : (capacity : ℕ) → Log → BufferState
 new_state capacity log = record {
   capacity = capacity;
@@ -35,7 +35,8 @@ new_state capacity log = record {
   gone = 0;
 }
 
--- the buffers of a plan, of which these logs tell
+-- these are the states of a plan's first `count` buffers, of which these logs tell, before any run; and where their
+-- windows end
 abbrev pub AreNew : List BufferPlan → List (List Answers) → (count : ℕ) → List BufferState → List Ends → Type 0
 AreNew plans logs count states ends = (b : ℕ) → b < count
     → ((d : BufferState) (plan : BufferPlan) → slice_get plans b ≡ Some plan

@@ -4,30 +4,31 @@ use Rattle.frame_core.specs.declared.cell.Cell.{Cell}
 use Rattle.trace_turns.specs.declared.told.Mark.{Mark}
 use Rattle.trace_turns.specs.Answering.{BufferState, begun}
 
--- before the first call
+-- the mark before the first call
 abbrev pub no_mark : Mark
 no_mark = record { put_at = 0; take_at = 0; got = 0 }
 
--- how far the calls came
+-- how far the calls of a run came on a buffer
 abbrev pub mark_of : BufferState → Mark
 mark_of s = record { put_at = s.put_at; take_at = s.take_at; got = s.got }
 
--- no more calls came than are told, and no more chunks were got than are there
+-- up to a mark no more calls came than are told of a buffer, and no more chunks were got than are there
 pub record IsWithin (s : BufferState) (mark : Mark) : Type 0 where
   pub puts : mark.put_at ≤ length s.puts
   pub takes : mark.take_at ≤ length s.takes
   pub got : mark.got ≤ length s.chunks
 
+-- up to each mark no more calls came than are told of its buffer, and no more chunks were got than are there
 abbrev pub AreWithin : List BufferState → List Mark → Type 0
 AreWithin states marks = (b : ℕ) (d : BufferState) (e : Mark) → b < length states
     → IsWithin (slice_index_or states b d) (slice_index_or marks b e)
 
--- how many chunks come from other clocks
+-- how many of a buffer's chunks come from other clocks: none if the clock feeds it
 abbrev pub others_in : Bool → List (List Cell) → ℕ
 others_in true chunks = 0
 others_in false chunks = length chunks
 
--- a buffer where a clock's run goes on: the chunks stay
+-- a buffer over which a clock's run goes on at this mark: its chunks stay
 abbrev pub resumed : BufferState → (fed read : Bool) → Mark → BufferState
 resumed s fed read mark = record {
   capacity = s.capacity;
@@ -43,19 +44,19 @@ resumed s fed read mark = record {
   gone = s.gone;
 }
 
--- each buffer goes on with the run of clock m
+-- over each buffer the run of clock m goes on at its mark
 abbrev pub HaveResumed : (feeders readers : List ℕ) → (m : ℕ) → List Mark → List BufferState → List BufferState → Type 0
 HaveResumed feeders readers m marks old new = (b : ℕ) (d : BufferState) (e : Mark) → b < length old
     → slice_index_or new b d
     ≡ resumed (slice_index_or old b d) (nat_eq (slice_index_or feeders b 0) m) (nat_eq (slice_index_or readers b 0) m)
     (slice_index_or marks b e)
 
--- these are the marks of the buffers
+-- each mark says how far the calls of the run came on its buffer
 abbrev pub HaveMarked : List BufferState → List Mark → Type 0
 HaveMarked states marks = (b : ℕ) (d : BufferState) (e : Mark) → b < length states
     → slice_index_or marks b e ≡ mark_of (slice_index_or states b d)
 
--- Of a buffer that the clock reads the chunks that were got are let go: from so many on it holds the same.
+-- Of a buffer that the clock reads, chunks that were got may have been let go; all others are still there.
 pub record HasLetGo (before after : BufferState) : Type 0 where
   pub same : after ≡ record before { chunks = after.chunks; gone = after.gone }
   pub many : length after.chunks ≡ length before.chunks
@@ -65,11 +66,12 @@ pub record HasLetGo (before after : BufferState) : Type 0 where
   pub low : before.gone ≤ before.got → after.gone ≤ before.got
   pub most : after.gone ≤ length after.chunks
 
+-- of each buffer that the clock reads, chunks that were got may have been let go
 abbrev pub HaveLetGo : List BufferState → List BufferState → Type 0
 HaveLetGo old new = (b : ℕ) (d : BufferState) → b < length old
     → HasLetGo (slice_index_or old b d) (slice_index_or new b d)
 
--- each buffer is as before any run
+-- each buffer is as before any run: it has no chunk
 abbrev pub IsForgotten : List BufferState → List BufferState → Type 0
 IsForgotten old new = (b : ℕ) (d : BufferState) → b < length old
     → slice_index_or new b d ≡ begun (slice_index_or old b d) true true

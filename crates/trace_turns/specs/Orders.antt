@@ -7,20 +7,20 @@ use Rattle.trace_records.specs.Clocks.{Log}
 use Rattle.trace_records.specs.Passes.{HasCome}
 use Rattle.trace_turns.specs.Timed.{TimedText, timed}
 
--- The clock of a turn, which had made these ticks, came to those of the turn, with the chunks that were there; the next
--- ones are there behind it.
+-- The clock of a turn, which had made as many ticks as `made` says, came to those of the turn with the chunks `chunks`
+-- of each buffer; after it these are `next`.
 pub record IsTurn (base : Setting) (clocks : ℕ) (told : TimedText) (turn : TurnMade) (made : ℕ → ℕ) (chunks next : ℕ
     → List (List Cell)) : Type 0 where
   pub runs : turn.clock < clocks
   pub on : made turn.clock ≤ turn.ticks
   pub come : HasCome base told.window told.ticks told.text turn.clock turn.ticks chunks next
 
--- the ticks that the clocks have made behind a turn
+-- how many ticks each clock has made after a turn
 abbrev pub made_then : TurnMade → (made : ℕ → ℕ) → ℕ → ℕ
 made_then turn made k = if nat_eq k turn.clock then turn.ticks else made k
 
--- Turns one after another, by which the clocks, which have made these ticks, come to all N of each; these chunks are
--- there at first.
+-- By these turns, one after another, the clocks come from the ticks `made` to all N of each; `chunks` are there at
+-- first.
 abbrev pub AreTurns : (base : Setting) (clocks W N : ℕ) (text : ℕ → Log) → List TurnMade → (made : ℕ → ℕ)
     → (chunks : ℕ → List (List Cell)) → Type 0
 AreTurns base clocks W N text [] made chunks = (k : ℕ) → k < clocks → made k ≡ N
@@ -28,9 +28,10 @@ AreTurns base clocks W N text (turn ∷ turns) made chunks =
     (next : ℕ → List (List Cell)) × IsTurn base clocks (timed text W N) turn made chunks next
     × AreTurns base clocks W N text turns (made_then turn made) next
 
--- no tick, and no chunk
+-- no tick of any clock
 abbrev pub no_ticks : ℕ → ℕ
 no_ticks k = 0
 
+-- no chunk of any buffer
 abbrev pub no_chunks : ℕ → List (List Cell)
 no_chunks b = []

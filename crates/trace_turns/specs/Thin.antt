@@ -13,12 +13,13 @@ pub record IsFull (s full : BufferState) : Type 0 where
   pub rest : drop s.gone full.chunks ≡ drop s.gone s.chunks
   pub low : s.gone ≤ length s.chunks
 
+-- these buffers, and the same ones with all their chunks
 pub record AreFull (states full : List BufferState) : Type 0 where
   pub many : length full ≡ length states
   pub each : (b : ℕ) (d : BufferState) → b < length states
       → IsFull (slice_index_or states b d) (slice_index_or full b d)
 
--- the calls up to a take that is to get a chunk that was let go
+-- among these calls is a take that is to get a chunk which was let go
 pub record HasLost (states full : List BufferState) (calls : List Call) : Type 0 where
   pub front : List Call
   pub behind : List Call
@@ -27,7 +28,8 @@ pub record HasLost (states full : List BufferState) (calls : List Call) : Type 0
   pub known : buffer < length states
   pub lost : (d : BufferState) → (slice_index_or states buffer d).got < (slice_index_or states buffer d).gone
 
--- what such buffers stand for: as buffers that have all their chunks do
+-- what buffers that let go of chunks stand for, by how far the calls could be answered: what the same buffers with all
+-- their chunks do
 abbrev pub TapsFollow : Course → List BufferState → List Call → Type 0
 TapsFollow Goes states calls = (full : List BufferState) × AreFull states full × AllStand full calls
 TapsFollow Waits states calls = (full : List BufferState) × AreFull states full
@@ -39,11 +41,16 @@ abbrev pub NoneLost : List BufferState → Type 0
 NoneLost states = (b : ℕ) (d : BufferState) → b < length states → (slice_index_or states b d).read ≡ true
     → (slice_index_or states b d).gone ≤ (slice_index_or states b d).got
 
--- the same of clock m, whose run goes on at these marks
+-- nothing was let go that clock m is to get, whose run goes on at these marks
 abbrev pub AreUnlost : (readers : List ℕ) → (m : ℕ) → List Mark → List BufferState → Type 0
 AreUnlost readers m marks states = (b : ℕ) (d : BufferState) (e : Mark) → b < length states
     → slice_index_or readers b 0 ≡ m → (slice_index_or states b d).gone ≤ (slice_index_or marks b e).got
 
--- nothing was let go at all
+-- what other clocks than m are to get is not let go
+abbrev pub OthersStayUnlost : (readers : List ℕ) → (m : ℕ) → (before after : List BufferState) → Type 0
+OthersStayUnlost readers m before after = (k : ℕ) (marks : List Mark) → (k ≡ m → ⊥)
+    → AreUnlost readers k marks before → AreUnlost readers k marks after
+
+-- no chunk of any buffer was let go
 abbrev pub AreKept : List BufferState → Type 0
 AreKept states = (b : ℕ) (d : BufferState) → b < length states → (slice_index_or states b d).gone ≡ 0

@@ -2,7 +2,7 @@
 use Rattle.std.specs.Prelude.{ℕ}
 use Rattle.trace_records.specs.Clocks.{Log}
 
--- a text, with how many ticks its windows have and how many there are
+-- a text, with how many ticks each of its windows has, and how many ticks there are in all
 pub record TimedText : Type 0 where
   pub text : ℕ → Log
   pub window : ℕ

@@ -22,7 +22,7 @@ use Rattle.trace_records.specs.Clocks.{AreWhole, Log, puts_in, takes_in}
 use Rattle.trace_records.specs.Passes.{IsFormed, IsMadeBy, ticks_in}
 use Rattle.trace_turns.specs.Answering.{AllStand, BufferState, begun}
 
--- no buffer
+-- what stands where there is no buffer
 abbrev pub no_state : BufferState
 no_state = record {
   capacity = 0;
@@ -38,22 +38,22 @@ no_state = record {
   gone = 0;
 }
 
--- the chunks that were put to each buffer
+-- the chunks that were put to buffer b; none if there is no such buffer
 abbrev pub chunks_of : List BufferState → ℕ → List (List Cell)
 chunks_of states b = (slice_index_or states b no_state).chunks
 
--- by a buffer's number: how many of the answers of its puts and of its takes the first windows have, one, two and so on
+-- for each window of a buffer, how many answers of puts and of takes there are up to its end
 pub record AreEnds (log : Log) (ends : Ends) : Type 0 where
   pub puts : (j : ℕ) → j < length log → slice_get ends.puts.items j ≡ Some (length (puts_in (take (suc j) log)))
   pub takes : (j : ℕ) → j < length log → slice_get ends.takes.items j ≡ Some (length (takes_in (take (suc j) log)))
 
--- as many answers came as the first windows, up to this one, have, as far as the clock has this end of the buffer
+-- on a buffer the clock made as many calls as its windows up to window j have, at each end that it has
 pub record IsAtEnd (s : BufferState) (ends : Ends) (j : ℕ) : Type 0 where
   pub puts : s.fed ≡ true → slice_get ends.puts.items j ≡ Some s.put_at
   pub takes : s.read ≡ true → slice_get ends.takes.items j ≡ Some s.take_at
 
 -- buffers in the run of clock m over a plan: they tell the answers of a text, and those that the clock does not feed
--- hold these chunks
+-- began it with these chunks
 pub record AreOf (base : Setting) (text : ℕ → Log) (m : ℕ) (chunks : ℕ
     → List (List Cell)) (states : List BufferState) : Type 0 where
   pub many : length states ≡ length base.plan.buffers
@@ -91,22 +91,23 @@ pub record RunsAt (base : Setting) (text : ℕ → Log) (W N m n : ℕ) (chunks 
   pub of : AreOf base text m chunks states
   pub whole : AreWhole base text W N m n (λ t. ticks_in base accepted calls m t)
 
--- each buffer is at this window's end
+-- on each buffer the clock is at the end of window j
 abbrev pub AreAtEnd : List BufferState → List Ends → (j : ℕ) → Type 0
 AreAtEnd states ends j = (b : ℕ) (s : BufferState) (e : Ends) → b < length states
     → IsAtEnd (slice_index_or states b s) (slice_index_or ends b e) j
 
--- one is not
+-- on some buffer the clock is not at the end of window j
 pub record IsOffEnd (states : List BufferState) (ends : List Ends) (j : ℕ) : Type 0 where
   pub buffer : ℕ
   pub known : buffer < length states
   pub off : (s : BufferState) (e : Ends) → IsAtEnd (slice_index_or states buffer s) (slice_index_or ends buffer e) j → ⊥
 
--- a window ends with tick n
+-- a window ends with tick n, in a run of N ticks in windows of W
 abbrev pub EndsWith : (W N n : ℕ) → Type 0
 EndsWith W N n = (n % W ≡ W - 1) ⊎ (suc n ≡ N)
 
--- how the run goes on behind tick n
+-- The last course is how a run of N ticks, in windows of W, goes on after tick n. That is `before`, by how its calls
+-- were answered; but if all were, and a window ends with this tick at whose end some buffer is not, the run fails.
 abbrev pub GoesOn : (W N n : ℕ) → Course → List BufferState → List Ends → Course → Type 0
 GoesOn W N n before states ends Goes = (before ≡ Goes) × (EndsWith W N n → AreAtEnd states ends (n / W))
 GoesOn W N n before states ends Waits = before ≡ Waits
@@ -120,7 +121,7 @@ pub record Score : Type 0 where
   pub text : ℕ → Log
   pub chunks : ℕ → List (List Cell)
 
--- an engine of clock m may be run over these buffers
+-- an engine of clock m may be run over these buffers from its first tick on
 pub record MayTurn (score : Score) (W N m : ℕ) (parts : EngineParts) (states : List BufferState)
     (ends : List Ends) : Type 0 where
   pub is : IsSetting score.base score.clocks
@@ -157,25 +158,30 @@ HaveBegun feeders readers m old new = (b : ℕ) (d : BufferState) → b < length
     → slice_index_or new b d
     ≡ begun (slice_index_or old b d) (nat_eq (slice_index_or feeders b 0) m) (nat_eq (slice_index_or readers b 0) m)
 
--- an output of clock m
+-- whether a sink is an output of clock m
 abbrev pub is_output_in : List NodeClock → (m : ℕ) → SinkPlan → Bool
 is_output_in clocks m (Output name node fallible wide) = same_clock (slice_index_or clocks node (NodeClock.Main 0))
     (NodeClock.Main m)
 is_output_in clocks m (Feed buffer node) = false
 
--- how many there are among these sinks
+-- how many of these sinks are outputs of clock m
 abbrev pub outputs_in : List NodeClock → (m : ℕ) → List SinkPlan → ℕ
 outputs_in clocks m [] = 0
 outputs_in clocks m (sink ∷ sinks) = if is_output_in clocks m sink then suc (outputs_in clocks m sinks)
     else outputs_in clocks m sinks
 
--- a text that these buffers tell, with its windows
+-- these buffers tell a text of N ticks in windows of W, and `ends` says where its windows end
 pub record AreFit (base : Setting) (W N : ℕ) (text : ℕ
     → Log) (states : List BufferState) (ends : List Ends) : Type 0 where
   pub told : AreTold base text states
   pub formed : IsFormed (length base.plan.buffers) W N text
   pub ends_are : (b : ℕ) (e : Ends) → b < length base.plan.buffers → AreEnds (text b) (slice_index_or ends b e)
 
--- the setting of a station
+-- over any plan, what the buffers told they tell still
+abbrev pub StayFit : List Ends → (W N : ℕ) → (before after : List BufferState) → Type 0
+StayFit ends W N before after = (base : Setting) (text : ℕ → Log) → AreFit base W N text before ends
+    → AreFit base W N text after ends
+
+-- the setting of a plan with its clocks, files and start second, before its buffers have answered
 abbrev pub base_at : Station → Setting
 base_at station = base_of station.plan.now station.library.now station.clocks.now station.start.second

@@ -78,7 +78,7 @@ pub fn told_buffers(
     Ok((buffers, ends))
 }
 
-// The main clocks of nodes.
+// The main clocks of these nodes, in their order.
 fn mains_of(
     alloc: Global,
     plan: &Plan,
@@ -97,7 +97,7 @@ fn mains_of(
     Ok(mains)
 }
 
-// The overlap of a crossfade.
+// The overlap of a crossfade, in cells; 0 of any other node.
 fn overlap_of(plan: &Plan, node: u32) -> u64 {
     let Some(node) = plan.nodes.as_slice().get(node as usize) else {
         return 0;
@@ -132,7 +132,8 @@ fn reach_of(plan: &Plan, clocks: &ClockMap, node: u32) -> u64 {
         .saturating_add(frame.saturating_mul(3))
 }
 
-// The same of the reader of each buffer, with what it wants before it begins to play.
+// By a buffer's number: how many cells its reader takes in a tick at most, and its prefill, in all. `nodes` has the
+// readers.
 fn reaches_of(
     alloc: Global,
     plan: &Plan,
@@ -150,7 +151,8 @@ fn reaches_of(
     Ok(reaches)
 }
 
-/// The main clocks of each buffer's feed and reader.
+/// The sides of a plan's buffers: the main clocks of feeds and readers, the readers' nodes, and how many cells readers
+/// take in a tick at most.
 pub fn sides_of(alloc: Global, plan: &Plan, clocks: &ClockMap) -> Result<Sides, Memory>
     requires { IsWellFormed plan.now }
     ensures { IfOk result (λ sides. (setting : Setting) → setting.plan ≡ plan.now → setting.clocks ≡ clocks.now.of
@@ -195,7 +197,7 @@ fn is_legal_log(capacity: u32, log: &BufferLog) -> bool
     are_legal(capacity, &log.windows)
 }
 
-/// Whether nothing is told of takes of a buffer whose reader's clock does not run.
+/// Whether nothing is told of takes of a buffer whose reader's clock does not run; the clocks below `running` do.
 pub fn unread_stay(buffers: &[ToldBuffer], readers: &[u32], running: u32) -> bool
     requires { length readers.now ≡ length buffers.now }
     ensures yes { result ≡ true → (b : ℕ) (d : BufferState) → b < length buffers.now
@@ -211,7 +213,7 @@ pub fn unread_stay(buffers: &[ToldBuffer], readers: &[u32], running: u32) -> boo
     true
 }
 
-// Whether some take of it is told.
+// Whether some take of a buffer is told.
 fn has_takes(buffer: &ToldBuffer) -> bool
     ensures yes { result ≡ true → buffer.now.takes ≡ [] → ⊥ }
     ensures no { result ≡ false → buffer.now.takes ≡ [] }

@@ -1,6 +1,6 @@
 // How far the calls of a run could be answered.
 
-/// Whether the calls of a run were answered so far.
+/// How far the calls of a run were answered.
 #[derive(Clone, Copy, Debug, PartialEq, Eq)]
 pub enum Course {
     /// Each of them was.
@@ -11,7 +11,7 @@ pub enum Course {
     Fails,
 }
 
-/// A turn of a clock: how many ticks it had made behind it.
+/// A turn of a clock, and how many ticks the clock has made after it, from its first one on.
 #[derive(Clone, Copy, Debug, PartialEq, Eq)]
 pub struct TurnMade {
     pub clock: u32,

@@ -5,14 +5,14 @@ ghost use Rattle.trace_turns.specs.Turns.{AreAtEnd, EndsWith, GoesOn, IsAtEnd, I
 use crate::course::Course;
 use crate::told::ToldBuffer;
 
-/// How many of the answers of a buffer's puts, and of its takes, its first windows have: one, two and so on.
+/// For each window of a buffer, how many answers of puts, and of takes, there are up to its end.
 #[derive(Debug, Drop)]
 pub struct Ends {
     pub puts: Vec<usize>,
     pub takes: Vec<usize>,
 }
 
-// Whether so many answers came as the first windows, up to this one, have.
+// Whether `at` answers are as many as there are up to the end of window number `window`.
 fn is_at(ends: &[usize], window: u64, at: usize) -> bool
     ensures right { result ≡ true → slice_get ends.now window ≡ Some at }
     ensures wrong { result ≡ false → slice_get ends.now window ≡ Some at → ⊥ }
@@ -23,7 +23,8 @@ fn is_at(ends: &[usize], window: u64, at: usize) -> bool
     ends[window as usize] == at
 }
 
-// The same of the ends of a buffer that the clock has.
+// Whether the clock is at the end of a window on a buffer: with its puts if it feeds it, and with its takes if it reads
+// it.
 fn at_end(buffer: &ToldBuffer, ends: &Ends, window: u64) -> bool
     ensures right { result ≡ true → IsAtEnd buffer.now ends.now window }
     ensures wrong { result ≡ false → IsAtEnd buffer.now ends.now window → ⊥ }
@@ -37,7 +38,7 @@ fn at_end(buffer: &ToldBuffer, ends: &Ends, window: u64) -> bool
     true
 }
 
-// The same of all buffers.
+// Whether the clock is at the end of this window on all buffers that it feeds or reads.
 fn at_ends(buffers: &[ToldBuffer], ends: &[Ends], window: u64) -> bool
     requires { length ends.now ≡ length buffers.now }
     ensures right { result ≡ true → AreAtEnd buffers.now ends.now window }
@@ -51,7 +52,7 @@ fn at_ends(buffers: &[ToldBuffer], ends: &[Ends], window: u64) -> bool
     true
 }
 
-// Whether a window ends with this tick.
+// Whether a window ends with tick number `tick`, in a run of `ticks` ticks in windows of `window` ticks.
 fn ends_with(window: u64, ticks: u64, tick: u64) -> bool
     requires some { 1 ≤ window }
     requires within { tick < ticks }
@@ -64,8 +65,8 @@ fn ends_with(window: u64, ticks: u64, tick: u64) -> bool
     tick == ticks - 1
 }
 
-/// How a run goes on behind a tick: as its calls were answered, but it fails where a window ends with it and the clock
-/// made other calls than the window has.
+/// How a run of `ticks` ticks goes on after tick number `tick`: as its calls were answered, but it fails if a window of
+/// `window` ticks ends there and the clock made other calls than the window has.
 pub fn course_of(
     course: Course,
     buffers: &[ToldBuffer],

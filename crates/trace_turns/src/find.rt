@@ -19,7 +19,7 @@ use crate::turn::{Turn, run_turn};
 use liq_base::Memory;
 use std::alloc::Global;
 
-// Notes a turn behind the others.
+// Adds a turn of a clock, after which it has made `ticks` ticks.
 fn note_turn(turns: &mut Vec<TurnMade>, clock: u32, ticks: u64) -> Result<(), Memory>
     ensures { OnOk result (turns.new.items ≡ turns.old.items ++ record { clock = clock; ticks = ticks } ∷ []) }
 {
@@ -27,9 +27,9 @@ fn note_turn(turns: &mut Vec<TurnMade>, clock: u32, ticks: u64) -> Result<(), Me
     Ok(())
 }
 
-// Goes over the clocks in order, again and again, and runs each from its first tick on, as far as it can be run with
-// the chunks that are there. Answers whether all ticks were made; it ends where a pass over all clocks made no tick
-// more.
+// Searches the turns by new engines, and adds them to `turns`: goes over the clocks in order, again and again, and runs
+// each from its first tick on, as far as it can be run with the chunks that are there. Returns whether all `ticks`
+// ticks of each were made; it ends if a pass over all clocks made no tick more, or if a turn was refused.
 fn search_chunks(
     alloc: Global,
     station: &Station<'_>,
@@ -81,13 +81,13 @@ pub enum Search {
     Found,
     /// No record whose ticks can be ordered has this text.
     Refused,
-    /// It does not know.
+    /// The search cannot decide.
     Open,
 }
 
-// The clock that is tried where none seems to have its chunks: one with a reader below a crossfade, at best one whose
-// next takes can be answered, and of these that which has made the fewest ticks. The number of clocks where there is
-// none.
+// The number of the clock that is tried if none seems to have its chunks: one with a reader below a crossfade, at best
+// one whose next takes can be answered, and of these that which has made the fewest ticks. The number of all clocks if
+// there is none.
 fn to_try(
     lives: &[LiveClock<'_>],
     buffers: &[ToldBuffer],
@@ -113,8 +113,8 @@ fn to_try(
 }
 
 // Goes over the clocks in order, again and again, and lets each that seems to have its chunks go on as far as it can. A
-// pass that made no tick is followed by one that tries a clock; it ends where this made none, or a call was not
-// answered as was foreseen.
+// pass that made no tick is followed by one that tries a clock; the search ends if this one made none, or if a call was
+// not answered as was foreseen.
 fn pass_on(
     alloc: Global,
     station: &Station<'_>,
@@ -177,7 +177,8 @@ fn pass_on(
     Ok(Search::Found)
 }
 
-// Makes the ticks of each clock by one engine. Where the plan has no buffer none is made.
+// Searches the turns with one engine for each clock, which goes on from turn to turn. On a plan without buffers it
+// makes no tick, and does not decide.
 fn find_live(
     alloc: Global,
     station: &Station<'_>,
@@ -212,8 +213,8 @@ fn find_live(
     found
 }
 
-// The turns in which the clocks make all their ticks, and whether they do. Where engines that go on from turn to turn
-// do not tell, the search by new engines decides from the beginning.
+// Searches the turns in which the clocks make all their ticks, and returns whether they do. If engines that go on from
+// turn to turn do not decide, the search by new engines does, from the beginning.
 fn search_turns(
     alloc: Global,
     station: &Station<'_>,
@@ -243,7 +244,8 @@ fn search_turns(
     search_chunks(alloc, station, taps, turns, sides, ends, window, ticks)
 }
 
-/// The turns in which the clocks make all their ticks, and whether they do. The buffers are empty again then.
+/// Searches the turns in which the clocks make all their ticks, and returns whether they do. The buffers are empty
+/// again then.
 pub fn find_turns(
     alloc: Global,
     station: &Station<'_>,

@@ -1,12 +1,10 @@
 // Whether what a trace tells is the text of a lawful record, and the turns in which the clocks make it.
-ghost use Rattle.std.specs.Prelude.{◌≡◌, ℕ, [], true, false, length, IfOk};
-ghost use Rattle.stream_meaning.specs.Settings.{IsSetting};
-ghost use Rattle.trace_log.specs.Texts.{IsTrace};
-ghost use Rattle.trace_turns.specs.Turns.{base_at, AreSides, AreTold, chunks_of};
+ghost use Rattle.std.specs.Prelude.{◌≡◌, ℕ, [], true, false, IfOk};
+ghost use Rattle.trace_turns.specs.Turns.{base_at, AreTold, chunks_of};
 ghost use Rattle.trace_turns.specs.Orders.{AreTurns, no_chunks, no_ticks};
 ghost use Rattle.trace_records.specs.Passes.{IsOrderedText};
 ghost use Rattle.trace_turns.specs.Thin.{AreKept};
-ghost use Rattle.trace_turns.specs.Logs.{AreNew};
+ghost use Rattle.trace_turns.specs.Searches.{MayJudge};
 ghost use Rattle.trace_records.specs.Traces.{text_of};
 
 use crate::buffers::{all_legal, unread_stay};
@@ -20,7 +18,7 @@ use liq_base::Memory;
 use std::alloc::Global;
 
 /// Whether the text of a trace with as many buffers as the plan is that of a lawful record whose ticks can be ordered.
-/// Where it is, these are the turns in which the clocks make it, and the buffers are empty then.
+/// If it is, `turns` has the turns in which the clocks make it, and the buffers are empty then.
 pub fn judge(
     alloc: Global,
     station: &Station<'_>,
@@ -32,15 +30,7 @@ pub fn judge(
     ticks: u64,
     logs: &[BufferLog],
 ) -> Result<bool, Memory>
-    requires setting { IsSetting (base_at station.now) station.now.clocks.now }
-    requires trace { IsTrace (record { ticks = ticks; window = window; buffers = logs.now }) }
-    requires buffers { length logs.now ≡ length station.now.plan.now.buffers }
-    requires sides { AreSides (base_at station.now) sides.now.feeders.items sides.now.readers.items }
-    requires size { length taps.old.buffers.items ≡ length station.now.plan.now.buffers }
-    requires long { length ends.now ≡ length station.now.plan.now.buffers }
-    requires none { turns.old.items ≡ [] }
-    requires new { AreNew station.now.plan.now.buffers logs.now (length station.now.plan.now.buffers)
-        taps.old.buffers.items ends.now }
+    requires { MayJudge station.now sides.now ends.now window ticks logs.now turns.old.items taps.old.buffers.items }
     ensures yes { IfOk result (λ found. found ≡ true
         → IsOrderedText (base_at station.now) station.now.clocks.now.running window ticks (text_of logs.now)) }
     ensures no { IfOk result (λ found. found ≡ false

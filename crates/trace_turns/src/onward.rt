@@ -1,17 +1,11 @@
 // A turn of a clock whose engine goes on where it stopped.
-ghost use Rattle.std.specs.Prelude.{◌≡◌, ◌≤◌, ℕ, List, length, IfOk};
-ghost use Rattle.trace_turns.specs.declared.course.Course.TheVariants.{Goes as IsGoing};
+ghost use Rattle.std.specs.Prelude.{◌≡◌, ◌≤◌, ℕ, length, IfOk};
 ghost use Rattle.trace_turns.specs.declared.onward.Reached.TheVariants.{Made as HasReached, Refused as MeetsNone};
 ghost use Rattle.trace_records.specs.Passes.{IsRefused};
-ghost use Rattle.stream_meaning.specs.Instants.{Setting};
-ghost use Rattle.stream_meaning.specs.Settings.{IsSetting};
-ghost use Rattle.clock_infer.specs.declared.clock_map.ClockMap.{ClockMap as Map};
-ghost use Rattle.trace_turns.specs.Answering.{BufferState, SameBuffers};
-ghost use Rattle.trace_records.specs.Clocks.{Log};
-ghost use Rattle.trace_turns.specs.Live.{HasFlown, HasFlownOn, IsPaused, MayFlow, mains};
-ghost use Rattle.trace_turns.specs.declared.told.Mark.{Mark as TheMark};
-ghost use Rattle.trace_turns.specs.Thin.{AreFull, AreUnlost};
-ghost use Rattle.trace_turns.specs.Turns.{AreFit, AreSides, Score, chunks_of};
+ghost use Rattle.trace_turns.specs.Answering.{SameBuffers};
+ghost use Rattle.trace_turns.specs.Live.{FullScore, HasFlown, HasResumed, MayFlow, MayMakeMore, MayResume, MayTakeTurn};
+ghost use Rattle.trace_turns.specs.Thin.{OthersStayUnlost};
+ghost use Rattle.trace_turns.specs.Turns.{Score, StayFit, chunks_of};
 ghost use Rattle.trace_turns.specs.Timed.{timed};
 
 use crate::course::Course;
@@ -28,15 +22,15 @@ use std::alloc::Global;
 /// How far a turn of a clock came.
 #[derive(Clone, Copy)]
 pub enum Reached {
-    /// So many ticks, the last of them before one that may wait.
+    /// So many ticks in all; the next one may have to wait, or the turn was long enough.
     Made(u64),
-    /// A take that is to get a chunk which is not there.
+    /// A take is to get a chunk that is not there.
     Waits,
-    /// A call that has no right answer.
+    /// A call has no right answer.
     Refused,
 }
 
-// How many takes of a buffer the windows up to this one have.
+// How many takes of buffer b there are up to the end of window number `window`; 0 if it has no such window.
 fn end_of(ends: &[Ends], b: usize, window: u64) -> usize {
     if b >= ends.len() || window >= ends[b].takes.len() as u64 {
         return 0;
@@ -44,8 +38,9 @@ fn end_of(ends: &[Ends], b: usize, window: u64) -> usize {
     ends[b].takes[window as usize]
 }
 
-// Whether a buffer that another clock feeds can answer the takes of a tick in this window behind a mark, as far as the
-// reader tells: of one in the main clock how many cells it wants, of another how many it may want at most.
+// Whether buffer b, which another clock feeds, seems to have the chunks for the takes of a tick in this window that
+// follow a mark. A reader in the main clock says how many cells it wants; of another it is known how many it wants at
+// most.
 fn can_serve(
     engine: &ClockEngine<'_, NoSink>,
     buffer: &ToldBuffer,
@@ -64,7 +59,8 @@ fn can_serve(
     }
 }
 
-// Whether the chunks that are there seem to suffice for the next tick of a clock in its turn.
+// Whether the chunks that are there seem to suffice for the next tick of a clock in its turn, in window number
+// `window`.
 fn can_go(
     engine: &ClockEngine<'_, NoSink>,
     buffers: &[ToldBuffer],
@@ -84,7 +80,7 @@ fn can_go(
     true
 }
 
-// Whether another clock feeds a buffer that this one reads.
+// Whether clock `clock` reads buffer b and another clock feeds it.
 fn joins(sides: &Sides, b: usize, clock: u32) -> bool {
     b < sides.readers.len()
         && b < sides.feeders.len()
@@ -92,7 +88,7 @@ fn joins(sides: &Sides, b: usize, clock: u32) -> bool {
         && sides.feeders[b] != clock
 }
 
-/// Whether a clock that has made so many ticks seems to have the chunks for one more.
+/// Whether a clock that has made `from` of its `ticks` ticks seems to have the chunks for one more.
 pub fn may_turn(
     live: &LiveClock<'_>,
     buffers: &[ToldBuffer],
@@ -127,8 +123,8 @@ pub fn may_turn(
     true
 }
 
-/// Whether some reader of a clock lies below a crossfade, so that it is not known how many cells the next tick takes;
-/// and whether the next take of each buffer that others feed can be answered.
+/// Two answers about a clock: whether some reader of it lies below a crossfade, so that it is not known how many cells
+/// the next tick takes; and whether the next take of each buffer that others feed can be answered.
 pub fn may_try(live: &LiveClock<'_>, buffers: &[ToldBuffer], sides: &Sides) -> (bool, bool) {
     let clock = live.engine.clock();
     let mut unsure = false;
@@ -145,7 +141,7 @@ pub fn may_try(live: &LiveClock<'_>, buffers: &[ToldBuffer], sides: &Sides) -> (
 // The most ticks of a turn, so that no clock comes far ahead of the others.
 const TURN_TICKS: u64 = 16;
 
-// Where a turn ends at the latest.
+// How many ticks a clock that has made `from` of its `ticks` ticks has made after a turn, at most.
 fn last_of(from: u64, ticks: u64) -> u64
     requires few { ticks ≤ 1000000000 }
     requires within { from ≤ ticks }
@@ -158,8 +154,8 @@ fn last_of(from: u64, ticks: u64) -> u64
     from + TURN_TICKS
 }
 
-/// Makes a few further ticks of a clock that has made so many, each where its takes seem to be answered, but the first
-/// one in any case where it is to be tried.
+/// Makes a few further ticks of a clock that has made `from` of its `ticks` ticks, as long as its takes seem to be
+/// answered. If `tried`, the first one is made in any case.
 pub fn go_on(
     alloc: Global,
     engine: &mut ClockEngine<'_, NoSink>,
@@ -171,12 +167,7 @@ pub fn go_on(
     from: u64,
     tried: bool,
 ) -> Result<Reached, Memory>
-    requires some { 1 ≤ window }
-    requires few { ticks ≤ 1000000000 }
-    requires within { from ≤ ticks }
-    requires goes { taps.old.course ≡ IsGoing }
-    requires turn { (score : Score)
-        × MayFlow score window ticks engine.old.parts.clock from engine.old.parts taps.old.buffers.items ends.now }
+    requires { MayMakeMore window ticks from engine.old.parts taps.old.course taps.old.buffers.items ends.now }
     ensures on { IfOk result (λ reached. (n : ℕ) → reached ≡ HasReached n → from ≤ n) }
     ensures within { IfOk result (λ reached. (n : ℕ) → reached ≡ HasReached n → n ≤ ticks) }
     ensures refused { IfOk result (λ reached. (score : Score) → reached ≡ MeetsNone
@@ -206,8 +197,8 @@ pub fn go_on(
     Ok(Reached::Made(until))
 }
 
-/// A turn of a clock that has made so many ticks, with the chunks that are there; its first tick is made in any case
-/// where it is to be tried. The chunks that it got are let go. Where it comes to no number of ticks it is at its end.
+/// A turn of a clock that has made `from` of its `ticks` ticks, with the chunks that are there. If `tried`, its first
+/// tick is made in any case. The chunks that it got are let go. If the result is not `Made`, the clock cannot go on.
 pub fn live_turn(
     alloc: Global,
     live: &mut LiveClock<'_>,
@@ -219,42 +210,18 @@ pub fn live_turn(
     from: u64,
     tried: bool,
 ) -> Result<Reached, Memory>
-    requires some { 1 ≤ window }
-    requires few { ticks ≤ 1000000000 }
-    requires within { from ≤ ticks }
-    requires long { length ends.now ≡ length taps.old.buffers.items }
-    requires marks { length live.old.marks.items ≡ length taps.old.buffers.items }
-    requires turn { (base : Setting) × (clocks : Map) × (text : ℕ → Log) × (full : List BufferState)
-        × IsSetting base clocks × AreSides base sides.now.feeders.items sides.now.readers.items
-        × AreFit base window ticks text taps.old.buffers.items ends.now × AreFull taps.old.buffers.items full
-        × AreUnlost sides.now.readers.items live.old.engine.parts.clock live.old.marks.items taps.old.buffers.items
-        × IsPaused base (timed text window ticks) (mains sides.now.feeders.items sides.now.readers.items)
-        live.old.engine.parts.clock from live.old.engine.parts live.old.marks.items full }
+    requires { MayTakeTurn sides.now ends.now window ticks from live.old taps.old.buffers.items }
     ensures on { IfOk result (λ reached. (n : ℕ) → reached ≡ HasReached n → from ≤ n) }
     ensures within { IfOk result (λ reached. (n : ℕ) → reached ≡ HasReached n → n ≤ ticks) }
-    ensures refused { IfOk result (λ reached. (base : Setting) (clocks : Map) (text : ℕ
-        → Log) (full : List BufferState) → reached ≡ MeetsNone → IsSetting base clocks
-        → AreSides base sides.now.feeders.items sides.now.readers.items
-        → AreFit base window ticks text taps.old.buffers.items ends.now → AreFull taps.old.buffers.items full
-        → AreUnlost sides.now.readers.items live.old.engine.parts.clock live.old.marks.items taps.old.buffers.items
-        → IsPaused base (timed text window ticks) (mains sides.now.feeders.items sides.now.readers.items)
-        live.old.engine.parts.clock from live.old.engine.parts live.old.marks.items full
-        → IsRefused base window ticks text (chunks_of full) live.old.engine.parts.clock) }
-    ensures gone { IfOk result (λ reached. (n : ℕ) (base : Setting) (clocks : Map) (text : ℕ
-        → Log) (full : List BufferState) → reached ≡ HasReached n → IsSetting base clocks
-        → AreSides base sides.now.feeders.items sides.now.readers.items
-        → AreFit base window ticks text taps.old.buffers.items ends.now → AreFull taps.old.buffers.items full
-        → AreUnlost sides.now.readers.items live.old.engine.parts.clock live.old.marks.items taps.old.buffers.items
-        → IsPaused base (timed text window ticks) (mains sides.now.feeders.items sides.now.readers.items)
-        live.old.engine.parts.clock from live.old.engine.parts live.old.marks.items full
-        → HasFlownOn base (timed text window ticks) (mains sides.now.feeders.items sides.now.readers.items)
-        live.old.engine.parts.clock n live.new.engine.parts live.new.marks.items full taps.new.buffers.items) }
-    ensures stays { IfOk result (λ reached. (k : ℕ) (marks : List TheMark) → (k ≡ live.old.engine.parts.clock → ⊥)
-        → AreUnlost sides.now.readers.items k marks taps.old.buffers.items
-        → AreUnlost sides.now.readers.items k marks taps.new.buffers.items) }
-    ensures fit { IfOk result (λ reached. (base : Setting) (text : ℕ → Log)
-        → AreFit base window ticks text taps.old.buffers.items ends.now
-        → AreFit base window ticks text taps.new.buffers.items ends.now) }
+    ensures refused { IfOk result (λ reached. (score : FullScore) → reached ≡ MeetsNone
+        → MayResume score sides.now ends.now window ticks from live.old taps.old.buffers.items
+        → IsRefused score.base window ticks score.text (chunks_of score.full) live.old.engine.parts.clock) }
+    ensures gone { IfOk result (λ reached. (n : ℕ) (score : FullScore) → reached ≡ HasReached n
+        → MayResume score sides.now ends.now window ticks from live.old taps.old.buffers.items
+        → HasResumed score sides.now window ticks live.old.engine.parts.clock n live.new taps.new.buffers.items) }
+    ensures stays { IfOk result (λ reached. OthersStayUnlost sides.now.readers.items live.old.engine.parts.clock
+        taps.old.buffers.items taps.new.buffers.items) }
+    ensures fit { IfOk result (λ reached. StayFit ends.now window ticks taps.old.buffers.items taps.new.buffers.items) }
     ensures many { IfOk result (λ reached. length taps.new.buffers.items ≡ length taps.old.buffers.items) }
     ensures marks { IfOk result (λ reached. length live.new.marks.items ≡ length live.old.marks.items) }
 {

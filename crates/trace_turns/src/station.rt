@@ -21,8 +21,8 @@ pub struct Station<'a> {
     pub start: WeekSecond,
 }
 
-/// By a buffer's number, the main clocks of its feed and of its reader, and the reader's node. Of a reader that lies
-/// below crossfades, how many cells it takes in a tick at most, where an empty take counts as the samples of a tick.
+/// By a buffer's number, the main clocks of its feed and of its reader, the reader's node, and how many cells the
+/// reader takes in a tick at most, with its prefill. There an empty take counts as the samples of a tick, `frame`.
 #[derive(Drop)]
 pub struct Sides {
     pub feeders: Vec<u32>,
@@ -32,7 +32,7 @@ pub struct Sides {
     pub frame: u64,
 }
 
-/// The clock of a node.
+/// The clock of a node; main clock 0 if there is no such node.
 pub fn clock_at(clocks: &[NodeClock], node: u32) -> NodeClock
     ensures { result ≡ slice_index_or clocks.now node (NodeClock.Main 0) }
 {
@@ -42,7 +42,7 @@ pub fn clock_at(clocks: &[NodeClock], node: u32) -> NodeClock
     }
 }
 
-// Whether it is a main clock of this number.
+// Whether it is main clock `clock`.
 fn is_main(of: NodeClock, clock: u32) -> bool
     ensures { result ≡ same_clock of (NodeClock.Main clock) }
 {
@@ -52,7 +52,7 @@ fn is_main(of: NodeClock, clock: u32) -> bool
     }
 }
 
-// Whether a sink is an output of this clock.
+// Whether a sink is an output of main clock `clock`.
 fn is_output(sink: &SinkPlan, clocks: &[NodeClock], clock: u32) -> bool
     ensures { result ≡ is_output_in clocks.now clock sink.now }
 {
@@ -62,7 +62,7 @@ fn is_output(sink: &SinkPlan, clocks: &[NodeClock], clock: u32) -> bool
     }
 }
 
-// A sink that keeps nothing for each output of the clock.
+// Sinks that keep nothing, one for each output of main clock `clock`.
 fn count_outputs(
     alloc: Global,
     sinks: &[SinkPlan],
@@ -81,7 +81,7 @@ fn count_outputs(
     Ok(outs)
 }
 
-/// A sink that keeps nothing for each output of a main clock.
+/// Sinks that keep nothing, one for each output of main clock `clock`.
 #[tactic(auto, using(crate::proofs::Beginning::outputs_count))]
 pub fn sinks_of(
     alloc: Global,

@@ -22,7 +22,7 @@ pub struct ToldTaps {
     pub course: Course,
 }
 
-// Takes of one of the buffers.
+// A take from this buffer, and what it meets.
 fn take_from(buffers: &mut Vec<ToldBuffer>, buffer: u32) -> Result<Taken, Memory>
     requires { buffer < length buffers.old.items }
     ensures taken { IfOk result (λ taken. (s : BufferState) × (buffers.new.items ≡ slice_set buffers.old.items buffer s)
@@ -33,7 +33,7 @@ fn take_from(buffers: &mut Vec<ToldBuffer>, buffer: u32) -> Result<Taken, Memory
     buffers[buffer as usize].take()
 }
 
-// Puts to one of the buffers.
+// A put of a chunk to this buffer, and what it meets.
 fn put_into(
     buffers: &mut Vec<ToldBuffer>,
     buffer: u32,
@@ -48,7 +48,7 @@ fn put_into(
     buffers[buffer as usize].put(chunk)
 }
 
-// Begins a run of a clock. By a buffer's number, `feeders` and `readers` are the main clocks of its ends.
+/// Begins a run of main clock `clock`. By a buffer's number, `feeders` and `readers` are the main clocks of its ends.
 pub fn begin_run(buffers: &mut Vec<ToldBuffer>, feeders: &[u32], readers: &[u32], clock: u32)
     requires feeders { length feeders.now ≡ length buffers.old.items }
     requires readers { length readers.now ≡ length buffers.old.items }
@@ -60,7 +60,8 @@ pub fn begin_run(buffers: &mut Vec<ToldBuffer>, feeders: &[u32], readers: &[u32]
     }
 }
 
-/// Goes on with the run of a clock, whose calls came so far on each buffer.
+/// Goes on with the run of main clock `clock`. By a buffer's number, `marks` says how far its calls came before, and
+/// `feeders` and `readers` are the main clocks of its ends.
 pub fn resume_run(
     buffers: &mut Vec<ToldBuffer>,
     feeders: &[u32],
@@ -112,7 +113,7 @@ pub fn forget_run(buffers: &mut Vec<ToldBuffer>)
 }
 
 impl ToldTaps {
-    // Takes where all calls were answered so far.
+    // A take from this buffer in a run whose calls were all answered.
     fn take_told(&mut self, buffer: u32) -> Result<Option<Chunk>, Memory>
         requires known { buffer < length self.old.buffers.items }
         requires goes { self.old.course ≡ IsGoing }
@@ -141,7 +142,7 @@ impl ToldTaps {
         }
     }
 
-    // Gives where all calls were answered so far.
+    // Gives a chunk to this buffer in a run whose calls were all answered.
     fn give_told(&mut self, buffer: u32, chunk: Chunk) -> Result<Gave, (Chunk, Memory)>
         requires known { buffer < length self.old.buffers.items }
         requires goes { self.old.course ≡ IsGoing }

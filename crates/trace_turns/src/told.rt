@@ -39,14 +39,14 @@ pub struct Mark {
     pub got: usize,
 }
 
-/// Before the first call.
+/// The mark before the first call.
 pub const NO_MARK: Mark = Mark {
     put_at: 0,
     take_at: 0,
     got: 0,
 };
 
-// How many takes are looked at before a tick.
+// How many takes are looked at before a tick, at most.
 const LOOKS: u32 = 1024;
 
 /// A buffer in the run of one clock, which answers as a trace tells. The chunks that were put to it stay until they are
@@ -122,7 +122,7 @@ impl ToldBuffer {
         self.opened = self.put;
     }
 
-    /// Drops all chunks.
+    /// Drops all chunks, as before any run.
     pub fn forget(&mut self)
         ensures { self.new ≡ begun self.old true true }
     {
@@ -130,7 +130,7 @@ impl ToldBuffer {
         self.spare.clear();
     }
 
-    /// Goes on with the run of a clock, which feeds it or not, and reads it or not, and whose calls came so far.
+    /// Goes on with the run of a clock, which feeds it or not, and reads it or not, and whose calls came to this mark.
     pub fn resume(&mut self, fed: bool, read: bool, mark: Mark)
         requires { IsWithin self.old mark }
         ensures { self.new ≡ resumed self.old fed read mark }
@@ -146,7 +146,7 @@ impl ToldBuffer {
         }
     }
 
-    /// How far the calls of the run came.
+    /// How far the calls of the run came on the buffer.
     pub fn mark(&self) -> Mark
         ensures { result ≡ mark_of self.now }
     {
@@ -157,7 +157,7 @@ impl ToldBuffer {
         }
     }
 
-    /// Lets go of the chunks that were got, where the clock reads it.
+    /// Lets go of the chunks that were got, if the clock reads the buffer.
     pub fn let_go(&mut self)
         ensures { HasLetGo self.old self.new }
     {
@@ -170,8 +170,8 @@ impl ToldBuffer {
         }
     }
 
-    /// Whether the chunks that are there suffice for the takes behind this mark, up to one that is told to be empty or
-    /// until so many cells were got.
+    /// Whether the chunks that are there suffice for the takes after this mark, up to one that is told to be empty or
+    /// until `cells` cells were got.
     pub fn serves(&self, mark: Mark, cells: u64) -> bool {
         if mark.got < self.gone {
             return false;
@@ -191,8 +191,8 @@ impl ToldBuffer {
         true
     }
 
-    /// Whether they suffice for all the takes behind this mark up to that of number `end`, or for as many of them as
-    /// such a reach has, in which an empty take counts as so many samples of a tick. No more than a few are looked at.
+    /// Whether the chunks that are there suffice for the takes after this mark up to take number `end`, or until
+    /// `reach` cells were got, where an empty take counts as `frame` cells. If `LOOKS` takes do not decide it, no.
     pub fn serves_far(&self, mark: Mark, end: usize, reach: u64, frame: u64) -> bool {
         if mark.got < self.gone {
             return false;
@@ -221,7 +221,7 @@ impl ToldBuffer {
         true
     }
 
-    /// Whether the next take behind this mark can be answered.
+    /// Whether the next take after this mark can be answered.
     pub fn serves_one(&self, mark: Mark) -> bool {
         if mark.take_at >= self.takes.len() || !self.takes[mark.take_at] {
             return true;
@@ -229,7 +229,7 @@ impl ToldBuffer {
         mark.got >= self.gone && mark.got < self.put
     }
 
-    // Both its ends are the clock's.
+    // Whether both ends of the buffer are the clock's.
     fn is_list(&self) -> bool
         ensures { result ≡ is_list self.now }
     {
@@ -243,7 +243,7 @@ impl ToldBuffer {
         self.put - self.got
     }
 
-    /// Takes as the trace tells.
+    /// A take, which meets what the trace tells.
     pub fn take(&mut self) -> Result<Taken, Memory>
         ensures taken { IfOk result (λ taken. TakesOn self.old taken self.new) }
         ensures same { SameBuffer self.old self.new }
@@ -262,7 +262,7 @@ impl ToldBuffer {
         Ok(Taken::Empty)
     }
 
-    // Takes the next chunk, which the trace tells.
+    // A take that gets a chunk, as the trace tells.
     fn take_chunk(&mut self) -> Result<Taken, Memory>
         requires gets { slice_get self.old.takes self.old.take_at ≡ Some true }
         ensures taken { IfOk result (λ taken. TakesOn self.old taken self.new) }
@@ -284,7 +284,7 @@ impl ToldBuffer {
         Ok(Taken::Chunk(chunk))
     }
 
-    /// Puts as the trace tells. A full buffer gives the chunk back.
+    /// A put, which meets what the trace tells. A full buffer gives the chunk back.
     pub fn put(&mut self, chunk: Chunk) -> Result<Put, (Chunk, Memory)>
         ensures put { IfOk result (λ put. PutsOn self.old chunk put self.new) }
         ensures same { SameBuffer self.old self.new }
@@ -303,7 +303,7 @@ impl ToldBuffer {
         Ok(Put::Full(chunk))
     }
 
-    // Puts a chunk that is accepted, which the trace tells.
+    // A put that is accepted, as the trace tells.
     fn accept(&mut self, chunk: Chunk) -> Result<Put, (Chunk, Memory)>
         requires accepts { slice_get self.old.puts self.old.put_at ≡ Some true }
         ensures put { IfOk result (λ put. PutsOn self.old chunk put self.new) }

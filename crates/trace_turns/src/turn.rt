@@ -4,11 +4,10 @@ ghost use Rattle.trace_turns.specs.declared.course.Course.TheVariants.{Goes as I
 ghost use Rattle.trace_turns.specs.declared.turn.Turn.TheVariants.{Made as HasMadeTicks, Refused as IsRefusedTurn};
 ghost use Rattle.trace_turns.specs.Answering.{SameBuffers};
 ghost use Rattle.trace_records.specs.Passes.{HasTurned, IsRefused};
-ghost use Rattle.stream_meaning.specs.Settings.{IsSetting};
 ghost use Rattle.trace_records.specs.Clocks.{Log};
 ghost use Rattle.trace_turns.specs.Thin.{AreKept};
-ghost use Rattle.trace_turns.specs.Turns.{AreFit, AreSides, MayTurn, Score, chunks_of};
-ghost use Rattle.trace_records.specs.Traces.{base_of};
+ghost use Rattle.trace_turns.specs.Searches.{MayRun, TellOn};
+ghost use Rattle.trace_turns.specs.Turns.{AreFit, MayTurn, Score, base_at, chunks_of};
 
 use crate::course::Course;
 use crate::ends::{Ends, course_of};
@@ -34,16 +33,16 @@ impl Sink for NoSink {
     }
 }
 
-/// How far a clock came.
+/// How far a clock came, from its first tick on.
 #[derive(Clone, Copy)]
 pub enum Turn {
-    /// So many ticks: all, or up to one that waits for chunks.
+    /// So many ticks in all: each of them, or up to one that waits for chunks.
     Made(u64),
     /// It makes no ticks as the text tells.
     Refused,
 }
 
-/// Makes the ticks of a clock from the first one on, as far as they can be made with the chunks that are there.
+/// Makes the `ticks` ticks of a clock from the first one on, as far as they can be made with the chunks that are there.
 pub fn run_clock(
     alloc: Global,
     engine: &mut ClockEngine<'_, NoSink>,
@@ -80,7 +79,7 @@ pub fn run_clock(
     Ok(Turn::Made(ticks))
 }
 
-/// Runs a clock from its first tick on, with the chunks that are there. Where the plan has no buffer no tick waits, and
+/// Runs a clock from its first tick on, with the chunks that are there. On a plan without buffers no tick waits, and
 /// none is made.
 pub fn run_turn(
     alloc: Global,
@@ -92,37 +91,18 @@ pub fn run_turn(
     window: u64,
     ticks: u64,
 ) -> Result<Turn, Memory>
-    requires some { 1 ≤ window }
-    requires few { ticks ≤ 1000000000 }
-    requires setting { IsSetting
-        (base_of station.now.plan.now station.now.library.now station.now.clocks.now station.now.start.second)
-        station.now.clocks.now }
-    requires sides { AreSides
-        (base_of station.now.plan.now station.now.library.now station.now.clocks.now station.now.start.second)
-        sides.now.feeders.items sides.now.readers.items }
-    requires long { length ends.now ≡ length taps.old.buffers.items }
-    requires kept { AreKept taps.old.buffers.items }
-    requires text { (text : ℕ → Log)
-        × AreFit (base_of station.now.plan.now station.now.library.now station.now.clocks.now station.now.start.second)
-        window ticks text taps.old.buffers.items ends.now }
+    requires { MayRun station.now sides.now ends.now window ticks taps.old.buffers.items }
     ensures made { IfOk result (λ turn. (n : ℕ) (text : ℕ → Log) → turn ≡ HasMadeTicks n
-        → AreFit (base_of station.now.plan.now station.now.library.now station.now.clocks.now station.now.start.second)
-        window ticks text taps.old.buffers.items ends.now
-        → HasTurned (base_of station.now.plan.now station.now.library.now station.now.clocks.now
-        station.now.start.second) window ticks text clock n (chunks_of taps.old.buffers.items)
+        → AreFit (base_at station.now) window ticks text taps.old.buffers.items ends.now
+        → HasTurned (base_at station.now) window ticks text clock n (chunks_of taps.old.buffers.items)
         (chunks_of taps.new.buffers.items)) }
-    ensures fit { IfOk result (λ turn. (text : ℕ → Log)
-        → AreFit (base_of station.now.plan.now station.now.library.now station.now.clocks.now station.now.start.second)
-        window ticks text taps.old.buffers.items ends.now
-        → AreFit (base_of station.now.plan.now station.now.library.now station.now.clocks.now station.now.start.second)
-        window ticks text taps.new.buffers.items ends.now) }
+    ensures fit { IfOk result (λ turn. TellOn station.now ends.now window ticks taps.old.buffers.items
+        taps.new.buffers.items) }
     ensures kept { IfOk result (λ turn. AreKept taps.new.buffers.items) }
     ensures many { IfOk result (λ turn. length taps.new.buffers.items ≡ length taps.old.buffers.items) }
     ensures refused { IfOk result (λ turn. (text : ℕ → Log) → turn ≡ IsRefusedTurn
-        → AreFit (base_of station.now.plan.now station.now.library.now station.now.clocks.now station.now.start.second)
-        window ticks text taps.old.buffers.items ends.now
-        → IsRefused (base_of station.now.plan.now station.now.library.now station.now.clocks.now
-        station.now.start.second) window ticks text (chunks_of taps.old.buffers.items) clock) }
+        → AreFit (base_at station.now) window ticks text taps.old.buffers.items ends.now
+        → IsRefused (base_at station.now) window ticks text (chunks_of taps.old.buffers.items) clock) }
 {
     if station.plan.buffers.as_slice().is_empty() {
         return Ok(Turn::Made(ticks));

@@ -6,17 +6,17 @@ use Rattle.wav_io.specs.Reading.{Wav, read_of}
 use Rattle.wav_io.specs.declared.fault.WavFault.{WavFault}
 use Rattle.track_library.specs.Walk.{sound_of}
 
--- a WAV file, and no fault
+-- bytes were read as a WAV file
 abbrev pub IsReadable : Result Wav WavFault → Type 0
 IsReadable (Err fault) = ⊥
 IsReadable (Ok wav) = ⊤
 
--- the sound at the rate of the script of some bytes, as they were read
+-- the sound of a WAV file at `rate` samples a second; no sound where the bytes were read as none
 abbrev pub sound_in : (rate : ℕ) → Result Wav WavFault → Sound
 sound_in rate (Err fault) = no_sound
 sound_in rate (Ok wav) = sound_of rate wav
 
--- the rate of a script, and the bytes of a WAV file, as many as one may have
+-- these are the bytes of a WAV file, as many as one may have, which is played at this rate
 pub record IsUsed (rate : ℕ) (bytes : List ℕ) : Type 0 where
   pub least : 8000 ≤ rate
   pub most : rate ≤ 192000

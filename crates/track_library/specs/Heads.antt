@@ -12,59 +12,60 @@ use Rattle.track_library.specs.declared.rules.Rules.{Rules}
 use Rattle.track_library.specs.declared.fault.Unusable.{Unusable}
 use Rattle.track_library.specs.declared.fault.Unusable.TheVariants.{TooLong}
 
--- the samples in so many bytes of blocks
+-- how many samples stand in `size` bytes of blocks
 abbrev pub samples_in : (wide : Bool) → (size : ℕ) → ℕ
 samples_in wide size = if wide then size / 3 else size / 2
 
--- the blocks of a file of this head
+-- how many blocks a file of this head has
 abbrev pub blocks_in : Head → ℕ
 blocks_in head = samples_in head.wide head.size / channels_of head.kind
 
--- the bytes that a file of this head has at another rate, with samples of 16 bits
+-- how many bytes a WAV file of 16 bits has that holds the sound of a file of this head at another rate
 abbrev pub written_size : Head → (rate : ℕ) → ℕ
 written_size head rate = 44 + 2 * channels_of head.kind * output_length (blocks_in head) head.rate rate
 
--- a file counts for at most so many bytes
+-- how many bytes a file counts for, if they are at most `most`
 abbrev pub count_of_at_most : (most count : ℕ) → Result ℕ Unusable
 count_of_at_most most count = if nat_le count most then Ok count else Err TooLong
 
--- how many bytes a file of this head and of so many bytes counts for, if it can be used
+-- how many bytes a file with this head and of `size` bytes counts for, if one file may have so many
 abbrev pub head_count : Rules → Head → (size : ℕ) → Result ℕ Unusable
 head_count rules head size = count_of_at_most rules.file (max size (written_size head rules.rate))
 
--- these bytes have this head, and are so many, or are no WAV file
+-- these bytes are a WAV file of this head and so many bytes, or no WAV file, for this reason
 abbrev pub IsHeadIn : List ℕ → Result (Head × ℕ) Unusable → Type 0
 IsHeadIn bytes (Ok (head, size)) = IsHeadOf bytes head × (length bytes ≡ size)
 IsHeadIn bytes (Err fault) = wav_opened (Ok bytes) ≡ Err fault
 
--- a file of so many bytes, at most `most`; where the files are told, it is the one of this name
+-- these are the bytes of the file of this name, so many and at most `most`; where the shelf does not tell its files,
+-- only their number is said
 pub record IsFile (name : List ℕ) (most : ℕ) (files : Option Files) (size : ℕ) (bytes : List ℕ) : Type 0 where
   pub sized : length bytes ≡ size
   pub fits : size ≤ most
   pub is_file : ForSome files (λ all. file_at all name ≡ Some bytes)
 
--- the file of this name cannot be read as a WAV file, for this reason
+-- the file of this name cannot be read as a WAV file of at most `most` bytes, for this reason
 abbrev pub IsUnread : (name : List ℕ) → (most : ℕ) → Option Files → Unusable → Type 0
 IsUnread name most files fault = ForSome files (λ all. wav_opened (bytes_in most (file_at all name)) ≡ Err fault)
 
--- the file of this name has this head and so many bytes
+-- the file of this name has this head and so many bytes, at most `most`
 pub record HeadFound (name : List ℕ) (most : ℕ) (files : Option Files) (head : Head) (size : ℕ) : Type 0 where
   pub bytes : List ℕ
   pub told : IsHeadOf bytes head
   pub file : IsFile name most files size bytes
 
--- its head, or why it has none
+-- the head of the file of this name and the number of its bytes, or why it has none
 abbrev pub IsFoundHead : (name : List ℕ) → (most : ℕ) → Option Files → Result (Head × ℕ) Unusable → Type 0
 IsFoundHead name most files (Ok (head, size)) = HeadFound name most files head size
 IsFoundHead name most files (Err fault) = IsUnread name most files fault
 
--- these are the first bytes of the file of this name, which has so many
+-- the file of this name begins with these bytes, and has `size`, at most `most`
 pub record FrontOf (name : List ℕ) (most : ℕ) (files : Option Files) (front : List ℕ) (size : ℕ) : Type 0 where
   pub bytes : List ℕ
   pub is_front : IsPrefix front bytes
   pub file : IsFile name most files size bytes
 
--- its first bytes, or why there are none
+-- the file of this name begins with these bytes and has so many, or why it cannot be read
 abbrev pub IsFoundFront : (name : List ℕ) → (most : ℕ) → Option Files → (front : List ℕ) → Result ℕ Unusable → Type 0
 IsFoundFront name most files front (Ok size) = FrontOf name most files front size
 IsFoundFront name most files front (Err fault) = IsUnread name most files fault

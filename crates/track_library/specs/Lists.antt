@@ -2,7 +2,7 @@
 use Rattle.std.specs.Prelude.{ℕ, ◌-◌, ◌&&◌, Bool, not, List, [], ◌∷◌, length, take, drop, if◌then◌else◌, nat_eq, slice_index}
 use Rattle.std.specs.Str.{bytes_eq, is_utf8}
 
--- a byte at the front of the first line
+-- these lines, with a byte put before the first of them
 abbrev pub with_first : ℕ → List (List ℕ) → List (List ℕ)
 with_first byte [] = (byte ∷ []) ∷ []
 with_first byte (line ∷ lines) = (byte ∷ line) ∷ lines
@@ -20,16 +20,16 @@ without_mark bytes = if bytes_eq (take 3 bytes) (0xEF ∷ 0xBB ∷ 0xBF ∷ []) 
 abbrev pub without_cr : List ℕ → List ℕ
 without_cr line = if bytes_eq (drop (length line - 1) line) (13 ∷ []) then take (length line - 1) line else line
 
--- UTF-8 that is not empty, and does not begin with `#`
+-- whether a line is a name: UTF-8 that is not empty, and does not begin with `#`
 abbrev pub is_name : List ℕ → Bool
 is_name line = not (nat_eq (length line) 0) && not (nat_eq (slice_index line 0) 35) && is_utf8 line
 
--- the names among these lines
+-- the names among these lines, without the CR at their ends
 abbrev pub names_among : List (List ℕ) → List (List ℕ)
 names_among [] = []
 names_among (line ∷ lines) = if is_name (without_cr line) then without_cr line ∷ names_among lines
     else names_among lines
 
--- the names in a list
+-- the names in the bytes of a list
 abbrev pub names_listed : List ℕ → List (List ℕ)
 names_listed bytes = names_among (lines (without_mark bytes))

@@ -16,7 +16,7 @@ use Rattle.track_library.specs.declared.rules.Rules.{Rules}
 use Rattle.track_library.specs.declared.rules.Sizes.{Sizes}
 use Rattle.track_library.specs.declared.walk.Walk.{Walk}
 
--- what the walk over a plan goes by, where so many bytes may be loaded
+-- what the walk over a plan goes by, where as many bytes may be loaded as these sizes say
 abbrev pub rules_for : Plan → Sizes → Rules
 rules_for plan sizes = record { rate = plan.rate; file = sizes.file; all = sizes.all }
 
@@ -34,13 +34,13 @@ pub record CanLoad (rules : Rules) (files : Files) (nodes : List Node) : Type 0 
   pub loaded : load_of rules files nodes ≡ Ok library
   pub sounds : IsLibrary library
 
--- why the audio files of the nodes are not loaded
+-- why the audio files of the nodes are not loaded: this fault ends the walk over them
 abbrev pub LoadEnds : (old new : ShelfTold) → Rules → List Node → LoadFault → Type 0
 LoadEnds old new rules nodes = Ends old new (λ files. LoadReads rules files nodes) (λ files. load_of rules files nodes)
 
--- the nodes were walked from nothing read on. Where the shelf tells its files, this was read and these are the leaves,
--- by the definition; and whatever it tells, each node has a leaf of files that are used, and that of a `single` has one
--- file
+-- All nodes were walked, from a walk that had read nothing. Where the shelf tells its files, the walk and the leaves
+-- are those of the definition; whatever it tells, each node has a leaf of files that are used, and that of a `single`
+-- has one file.
 pub record HaveWalked (told : Option Files) (rules : Rules) (nodes : List Node) (walk : Walk)
     (leaves : List (List ℕ)) : Type 0 where
   pub walked : ForSome told (λ files. nodes_walked rules files nodes (Ok (nothing_met, []))

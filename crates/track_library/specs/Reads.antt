@@ -8,11 +8,11 @@ use Rattle.track_library.specs.declared.rules.Rules.{Rules}
 use Rattle.track_library.specs.declared.fault.LoadFault.{LoadFault}
 use Rattle.track_library.specs.Walk.{Heard, Walked, entry_next, node_next, nothing_met, use_list, entry_of}
 
--- a name that was not met before is read
+-- the file `read` is the one of this name, which was not met before
 abbrev pub FirstRead : {V : Type 0} → List (List ℕ × V) → List ℕ → List ℕ → Type 0
 FirstRead met name read = (read ≡ name) × (entry_of name met ≡ None)
 
--- the entries of a list: the next one is read, or one behind it, where the next one has no fault
+-- the file `read` is read for the first time at one of these entries of a list; those before it have no fault
 abbrev pub EntriesRead : Rules → Files → List (List ℕ) → Result (Heard × List ℕ) LoadFault → List ℕ → Type 0
 EntriesRead rules files [] played read = ⊥
 EntriesRead rules files (name ∷ names) (Err fault) read = ⊥
@@ -20,19 +20,21 @@ EntriesRead rules files (name ∷ names) (Ok (heard, leaf)) read =
     FirstRead heard.names name read
     ⊎ EntriesRead rules files names (entry_next rules files name (Ok (heard, leaf))) read
 
+-- the file `read` is read for the first time at one of the entries of a list that has no fault itself
 abbrev pub PlaylistReads : Rules → Files → Heard → Result (List (List ℕ × List (List ℕ)) × List (List ℕ)) LoadFault
     → List ℕ → Type 0
 PlaylistReads rules files heard (Err fault) read = ⊥
 PlaylistReads rules files heard (Ok (lists, names)) read = EntriesRead rules files names (Ok (heard, [])) read
 
--- a `single` reads its file; a `playlist` its list, then the entries
+-- the file `read` is read for the first time at a node: the file of a `single`, the list of a `playlist`, or an entry
+-- of that list
 abbrev pub LeafReads : Rules → Files → Op → Walked → List ℕ → Type 0
 LeafReads rules files (Single name) walked read = FirstRead walked.heard.names name read
 LeafReads rules files (Playlist name again) walked read =
     FirstRead walked.lists name read ⊎ PlaylistReads rules files walked.heard (use_list files walked.lists name) read
 LeafReads rules files _ walked read = ⊥
 
--- the nodes: the next one reads the file, or one behind it, where the next one has no fault
+-- the file `read` is read for the first time at one of these nodes; those before it have no fault
 abbrev pub NodesRead : Rules → Files → List Node → Result (Walked × List (List ℕ)) LoadFault → List ℕ → Type 0
 NodesRead rules files [] walked read = ⊥
 NodesRead rules files (node ∷ nodes) (Err fault) read = ⊥

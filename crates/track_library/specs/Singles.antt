@@ -4,11 +4,11 @@ use Rattle.plan_core.specs.declared.node.Node.{Node}
 use Rattle.plan_core.specs.declared.node.Op.{Op}
 use Rattle.plan_core.specs.declared.node.Op.TheVariants.{Single}
 
--- the leaf of a `single` has one file
+-- a leaf has one file, if its node is a `single`
 abbrev pub HasOne : Op → (leaf : List ℕ) → Type 0
 HasOne op leaf = (file : List ℕ) → op ≡ Single file → length leaf ≡ 1
 
--- so it is of each of these nodes
+-- the leaf of each `single` among these nodes has one file
 abbrev pub HaveSingles : List Node → (leaves : List (List ℕ)) → Type 0
 HaveSingles nodes leaves = (i : ℕ) (node : Node) (file : List ℕ) → slice_get nodes i ≡ Some node → node.op ≡ Single file
     → length (slice_index_or leaves i []) ≡ 1

@@ -12,20 +12,21 @@ use Rattle.track_library.specs.declared.audio.AudioFiles.{AudioFiles}
 use Rattle.track_library.specs.declared.read_lists.ReadLists.{ReadLists}
 use Rattle.track_library.specs.declared.fault.Unusable.{Unusable}
 
--- what the rules of a walk have to meet
+-- the rate and the most bytes of one file are such as a walk may go by
 pub record AreRules (rules : Rules) : Type 0 where
   pub least : 8000 ≤ rules.rate
   pub most : rules.rate ≤ 192000
   pub file : rules.file ≤ 268435456
 
--- values under names, in the order of a map
+-- the values of a map under the bytes of their names, in the map's order
 abbrev pub named : {V : Type 0} → List (String Global × V) → List (List ℕ × V)
 named entries = map (λ e. (string_bytes e.0, e.1)) entries
 
--- lists under names
+-- the lists of a map under the bytes of their names, in the map's order
 abbrev pub listed : List (String Global × Vec (List ℕ) Global) → List (List ℕ × List (List ℕ))
 listed entries = map (λ e. (string_bytes e.0, e.1.items)) entries
 
+-- what was met, as the definitions have it: what each name is, the files that are used, and their bytes
 abbrev pub heard_of : AudioFiles → Heard
 heard_of audio = record {
   names = named audio.names.entries;
@@ -33,6 +34,7 @@ heard_of audio = record {
   bytes = audio.bytes;
 }
 
+-- the lists that were read, each under its name
 abbrev pub lists_of : ReadLists → List (List ℕ × List (List ℕ))
 lists_of read = listed read.lists.entries
 
@@ -40,17 +42,17 @@ lists_of read = listed read.lists.entries
 abbrev pub names_at : List (List ℕ × List (List ℕ)) → ℕ → List (List ℕ)
 names_at lists at = (slice_index_or lists at ([], [])).1
 
--- each number that a name has is that of a file that is used, and there are fewer than 2^32
+-- each number that a name was found to have is that of a file that is used, and there are fewer than 2^32 files
 pub record IsHeard (heard : Heard) : Type 0 where
   pub numbers : All (λ e. IfOk e.1 (λ number. number < length heard.titles)) heard.names
   pub many : length heard.titles < 2 ^ 32
 
--- one sound more, if there is one
+-- these sounds, and one more if there is one
 abbrev pub one_kept : List Sound → Option Sound → List Sound
 one_kept sounds None = sounds
 one_kept sounds (Some sound) = sounds ++ sound ∷ []
 
--- this is the sound of the audio file of this name
+-- there is a sound, and it is that of the audio file of this name, where the shelf tells its files
 abbrev pub IsHeld : Rules → (told : Option Files) → (name : List ℕ) → Option Sound → Type 0
 IsHeld rules told name None = ⊥
 IsHeld rules told name (Some sound) = IsSound sound
@@ -65,32 +67,34 @@ pub record AreKept (rules : Rules) (told : Option Files) (keeps : Bool) (titles 
   pub sound : keeps ≡ true → All IsSound sounds
   pub many : keeps ≡ true → length sounds ≡ length titles
 
+-- what is kept of the audio files that were met is what the shelf's files hold, where it tells them
 abbrev pub IsKept : Rules → (told : Option Files) → AudioFiles → Type 0
 IsKept rules told audio = AreKept rules told audio.keeps audio.titles.items audio.files.items
 
--- what is kept, between two states
+-- between two states of the audio files that were met, whether they are kept did not change, and what was kept rightly
+-- still is
 pub record Keeps (rules : Rules) (told : Option Files) (old new : AudioFiles) : Type 0 where
   pub same : new.keeps ≡ old.keeps
   pub kept : IsKept rules told old → IsKept rules told new
 
--- what a name was found to be, between two states: files were added alone, and its number is that of a file
+-- between two states, files were added alone; what was found is a fault, or the number of a file that is used
 pub record Finds (old new : Heard) (found : Result ℕ Unusable) : Type 0 where
   pub heard : IsHeard new
   pub grew : length old.titles ≤ length new.titles
   pub number : IfOk found (λ number. number < length new.titles)
 
--- what a leaf plays, between two states: files were added alone, and its numbers, fewer than 2^32, are those of files
+-- between two states, files were added alone; the numbers of the leaf, fewer than 2^32, are those of files
 pub record Plays (old new : Heard) (leaf : List ℕ) : Type 0 where
   pub heard : IsHeard new
   pub grew : length old.titles ≤ length new.titles
   pub below : All (λ number. number < length new.titles) leaf
   pub few : length leaf < 2 ^ 32
 
--- a leaf and what an entry was found to be
+-- a leaf with the number of one more file, if that can be used
 abbrev pub with_found : List ℕ → Result ℕ Unusable → List ℕ
 with_found leaf (Ok number) = leaf ++ number ∷ []
 with_found leaf (Err fault) = leaf
 
--- what was read on the walk so far
+-- what a walk has read, as the definitions have it
 abbrev pub walked_of : Walk → Walked
 walked_of walk = record { lists = lists_of walk.lists; heard = heard_of walk.audio }

@@ -23,12 +23,12 @@ use Rattle.track_library.specs.declared.fault.LoadFault.TheVariants.{Missing, Ba
 use Rattle.track_library.specs.declared.fault.Unusable.{Unusable}
 use Rattle.track_library.specs.declared.fault.Unusable.TheVariants.{NotThere, NotWav, TooLong}
 
--- the bytes of a file that is there and has at most so many
+-- the bytes of a file, if it is there and has at most `most`
 abbrev pub bytes_in : ℕ → Option (List ℕ) → Result (List ℕ) Unusable
 bytes_in most None = Err NotThere
 bytes_in most (Some bytes) = if nat_le (length bytes) most then Ok bytes else Err TooLong
 
--- the bytes of a list that was read
+-- the bytes that were read, as a list, or why there are none
 abbrev pub items_of : Result (Vec ℕ Global) Unusable → Result (List ℕ) Unusable
 items_of (Err fault) = Err fault
 items_of (Ok bytes) = Ok bytes.items
@@ -40,7 +40,8 @@ sound_of rate wav = record {
   samples = resampled wav.rate rate wav.kind (samples_at wav.wide wav.body);
 }
 
--- how many bytes a file of so many counts for: these, or those that a file with this sound has, whichever are more
+-- how many bytes a file counts for: those that it has, `size`, or those that a file with this sound has, whichever are
+-- more
 abbrev pub counted_bytes : ℕ → Sound → ℕ
 counted_bytes size sound = max size (44 + 2 * length sound.samples)
 
@@ -48,11 +49,11 @@ counted_bytes size sound = max size (44 + 2 * length sound.samples)
 abbrev pub Audio : Type 0
 Audio = Sound × ℕ
 
--- the file counts for at most so many bytes
+-- an audio file, if it counts for at most `most` bytes
 abbrev pub of_at_most : ℕ → Audio → Result Audio Unusable
 of_at_most most audio = if nat_le audio.1 most then Ok audio else Err TooLong
 
--- the audio of these bytes, as they were read
+-- the audio of these bytes, which were read as a WAV file or not; or why they are of no use
 abbrev pub audio_in : Rules → List ℕ → Result Wav WavFault → Result Audio Unusable
 audio_in rules bytes (Err fault) = Err (NotWav fault)
 audio_in rules bytes (Ok wav) = of_at_most rules.file
@@ -68,21 +69,22 @@ abbrev pub wav_opened : Result (List ℕ) Unusable → Result Wav Unusable
 wav_opened (Err fault) = Err fault
 wav_opened (Ok bytes) = wav_or_fault (read_of bytes)
 
--- what becomes of the bytes of an audio file, or why there are none
+-- the audio of a file whose bytes are these, or why it has none
 abbrev pub audio_opened : Rules → Result (List ℕ) Unusable → Result Audio Unusable
 audio_opened rules (Err fault) = Err fault
 audio_opened rules (Ok bytes) = audio_in rules bytes (read_of bytes)
 
--- an audio file that can be used: it is there, has no more bytes than one may, is a WAV file, and counts for no more
--- than one may; else what it breaks first
+-- the audio of the file of this name, if it can be used: it is there, has no more bytes than one may, is a WAV file,
+-- and counts for no more than one may; else what it breaks first
 abbrev pub audio_at : Rules → Files → List ℕ → Result Audio Unusable
 audio_at rules files name = audio_opened rules (bytes_in rules.file (file_at files name))
 
--- the sound of an audio file, and how many bytes the file counts for, if it can be used
+-- the sound of an audio file; no sound where it cannot be used
 abbrev pub sound_from : Result Audio Unusable → Sound
 sound_from (Err fault) = no_sound
 sound_from (Ok audio) = audio.0
 
+-- how many bytes an audio file counts for, if it can be used
 abbrev pub count_of : {S : Type 0} → Result (S × ℕ) Unusable → Result ℕ Unusable
 count_of (Err fault) = Err fault
 count_of (Ok audio) = Ok audio.1
@@ -91,7 +93,7 @@ count_of (Ok audio) = Ok audio.1
 abbrev pub sounds_named : Rules → Files → List (List ℕ) → List Sound
 sounds_named rules files names = map (λ name. sound_from (audio_at rules files name)) names
 
--- what stands first under a name
+-- the first value under this name
 abbrev pub entry_of : {V : Type 0} → List ℕ → List (List ℕ × V) → Option V
 entry_of name [] = None
 entry_of name (entry ∷ entries) = if bytes_eq name entry.0 then Some entry.1 else entry_of name entries
@@ -103,7 +105,8 @@ pub record Heard : Type 0 where
   pub titles : List (List ℕ)
   pub bytes : ℕ
 
--- a name that was not met before: its file is used, if what it counts for fits beside the others
+-- what was met with one new name, and what this is: its file is used if what it counts for fits with the others into
+-- `all` bytes; a name that cannot be used is kept with its fault
 abbrev pub first_use : ℕ → Heard → List ℕ → Result ℕ Unusable → Result (Heard × Result ℕ Unusable) LoadFault
 first_use all heard name (Err fault) = Ok (
   record {
@@ -125,75 +128,75 @@ first_use all heard name (Ok count) =
     )
     else Err AllTooLarge
 
--- what a name is: a name that was met before is what it was
+-- what was met with this name, and what it is: a name that was met before is what it was then
 abbrev pub use_of : ℕ → Heard → List ℕ → Option (Result ℕ Unusable) → Result ℕ Unusable
     → Result (Heard × Result ℕ Unusable) LoadFault
 use_of all heard name (Some found) count = Ok (heard, found)
 use_of all heard name None count = first_use all heard name count
 
--- an audio file is used: one that was met before is the same file
+-- what was met with the audio file of this name, and what it is: the number of a file that is used, or why it cannot be
 abbrev pub use_audio : Rules → Files → Heard → List ℕ → Result (Heard × Result ℕ Unusable) LoadFault
 use_audio rules files heard name = use_of rules.all heard name (entry_of name heard.names)
     (count_of (audio_at rules files name))
 
--- the fault that is told of a file that cannot be used
+-- the fault of a plan that needs the file of this name, which cannot be used
 abbrev pub told_fault : List ℕ → Unusable → LoadFault
 told_fault name NotThere = Missing name
 told_fault name (NotWav fault) = BadAudio name fault
 told_fault name TooLong = FileTooLarge name
 
--- a `single` plays its file
+-- a `single` plays its file; one that cannot be used is a fault of the plan
 abbrev pub single_leaf : List ℕ → Result (Heard × Result ℕ Unusable) LoadFault → Result (Heard × List ℕ) LoadFault
 single_leaf name (Err fault) = Err fault
 single_leaf name (Ok (heard, Err fault)) = Err (told_fault name fault)
 single_leaf name (Ok (heard, Ok number)) = Ok (heard, number ∷ [])
 
--- an entry of a list is played behind those before it, if it can be used
+-- the leaf of a list with one more entry, if that can be used; an entry that cannot be is left out
 abbrev pub entry_played : List ℕ → Result (Heard × Result ℕ Unusable) LoadFault → Result (Heard × List ℕ) LoadFault
 entry_played leaf (Err fault) = Err fault
 entry_played leaf (Ok (heard, Err fault)) = Ok (heard, leaf)
 entry_played leaf (Ok (heard, Ok number)) = Ok (heard, leaf ++ number ∷ [])
 
--- one more entry of a list
+-- what is met and played after one more entry of a list
 abbrev pub entry_next : Rules → Files → List ℕ → Result (Heard × List ℕ) LoadFault → Result (Heard × List ℕ) LoadFault
 entry_next rules files name (Err fault) = Err fault
 entry_next rules files name (Ok (heard, leaf)) = entry_played leaf (use_audio rules files heard name)
 
--- the entries of a list, one after another
+-- what is met and played after these entries of a list, one after another
 abbrev pub entries_played : Rules → Files → List (List ℕ) → Result (Heard × List ℕ) LoadFault
     → Result (Heard × List ℕ) LoadFault
 entries_played rules files [] played = played
 entries_played rules files (name ∷ names) played = entries_played rules files names (entry_next rules files name played)
 
--- the names of a list, which is there and has at most 1048576 bytes
+-- the names of the list whose bytes these are, or the fault of a list that has none
 abbrev pub list_in : List ℕ → Result (List ℕ) Unusable → Result (List (List ℕ)) LoadFault
 list_in name (Err fault) = Err (told_fault name fault)
 list_in name (Ok bytes) = Ok (names_listed bytes)
 
--- the lists that were read, and the audio files that were met
+-- what a walk has read: the lists, each with its names, and the audio files
 pub record Walked : Type 0 where
   pub lists : List (List ℕ × List (List ℕ))
   pub heard : Heard
 
--- a list that was not read before
+-- the lists that were read with this new one, and its names
 abbrev pub first_list : List (List ℕ × List (List ℕ)) → List ℕ → Result (List (List ℕ)) LoadFault
     → Result (List (List ℕ × List (List ℕ)) × List (List ℕ)) LoadFault
 first_list lists name (Err fault) = Err fault
 first_list lists name (Ok names) = Ok (lists ++ (name, names) ∷ [], names)
 
--- the names of a list: a list that was read before is what it was
+-- the lists that were read and the names of this one: a list that was read before is what it was then
 abbrev pub list_of : List (List ℕ × List (List ℕ)) → List ℕ → Option (List (List ℕ)) → Result (List (List ℕ)) LoadFault
     → Result (List (List ℕ × List (List ℕ)) × List (List ℕ)) LoadFault
 list_of lists name (Some names) fresh = Ok (lists, names)
 list_of lists name None fresh = first_list lists name fresh
 
--- a list is used: one that was met before is the same list
+-- the lists that were read once the list of this name was used, and its names
 abbrev pub use_list : Files → List (List ℕ × List (List ℕ)) → List ℕ
     → Result (List (List ℕ × List (List ℕ)) × List (List ℕ)) LoadFault
 use_list files lists name = list_of lists name (entry_of name lists)
     (list_in name (bytes_in (2 ^ 20) (file_at files name)))
 
--- the lists that are known stand beside what is heard
+-- a step of a walk that read audio files: its lists stay
 abbrev pub with_lists : List (List ℕ × List (List ℕ)) → Result (Heard × List ℕ) LoadFault
     → Result (Walked × List ℕ) LoadFault
 with_lists lists (Err fault) = Err fault
@@ -206,7 +209,7 @@ playlist_leaf rules files heard (Err fault) = Err fault
 playlist_leaf rules files heard (Ok (lists, names)) = with_lists lists
     (entries_played rules files names (Ok (heard, [])))
 
--- the files that a node plays
+-- what was read once the files of a node were found, and their numbers
 abbrev pub leaf_of : Rules → Files → Op → Walked → Result (Walked × List ℕ) LoadFault
 leaf_of rules files (Single name) walked = with_lists walked.lists
     (single_leaf name (use_audio rules files walked.heard name))
@@ -214,18 +217,18 @@ leaf_of rules files (Playlist name again) walked = playlist_leaf rules files wal
     (use_list files walked.lists name)
 leaf_of rules files _ walked = Ok (walked, [])
 
--- one more leaf, with the files that it plays
+-- the leaves of the nodes with one more: the files that the next node plays
 abbrev pub leaf_added : List (List ℕ) → Result (Walked × List ℕ) LoadFault → Result (Walked × List (List ℕ)) LoadFault
 leaf_added leaves (Err fault) = Err fault
 leaf_added leaves (Ok (walked, leaf)) = Ok (walked, leaves ++ leaf ∷ [])
 
--- one more node of the plan
+-- what was read, and the leaves, after one more node of the plan
 abbrev pub node_next : Rules → Files → Node → Result (Walked × List (List ℕ)) LoadFault
     → Result (Walked × List (List ℕ)) LoadFault
 node_next rules files node (Err fault) = Err fault
 node_next rules files node (Ok (walked, leaves)) = leaf_added leaves (leaf_of rules files node.op walked)
 
--- the nodes, one after another
+-- what was read, and the leaves, after these nodes, one after another
 abbrev pub nodes_walked : Rules → Files → List Node → Result (Walked × List (List ℕ)) LoadFault
     → Result (Walked × List (List ℕ)) LoadFault
 nodes_walked rules files [] walked = walked
@@ -240,7 +243,7 @@ sounds_or_fault rules files (Ok (walked, leaves)) = Ok (record {
   leaves = leaves;
 })
 
--- before the first node
+-- what a walk has read before the first node: nothing
 abbrev pub nothing_met : Walked
 nothing_met = record { lists = []; heard = record { names = []; titles = []; bytes = 0 } }
 
@@ -248,8 +251,8 @@ nothing_met = record { lists = []; heard = record { names = []; titles = []; byt
 abbrev pub load_of : Rules → Files → List Node → Result Sounds LoadFault
 load_of rules files nodes = sounds_or_fault rules files (nodes_walked rules files nodes (Ok (nothing_met, [])))
 
--- why a step ends with this fault: a read that failed let the count of failed reads rise, and is one of those of the
--- step; memory may be refused anywhere; every other fault is the one of the files, where they are told
+-- why a step that reads files ends with this fault: a read that failed is one of the step's, and let the count of
+-- failed reads rise; memory may be refused anywhere; every other fault is the step's own, where the files are told
 abbrev pub Ends : {X : Type 0} → (old new : ShelfTold) → (Files → List ℕ → Type 0) → (Files → Result X LoadFault)
     → LoadFault → Type 0
 Ends old new reads step (Missing name) = ForSome old.files (λ files. step files ≡ Err (Missing name))
@@ -259,7 +262,7 @@ Ends old new reads step AllTooLarge = ForSome old.files (λ files. step files �
 Ends old new reads step (ReadFault name) = Rose old.reads new.reads × ForSome old.files (λ files. reads files name)
 Ends old new reads step Memory = ⊤
 
--- the reading of a file ends with these faults alone
+-- the reading of the file of this name ends with this fault: the file could not be read, or memory was refused
 abbrev pub IsReading : List ℕ → (old new : ShelfTold) → LoadFault → Type 0
 IsReading file old new (Missing name) = ⊥
 IsReading file old new (BadAudio name fault) = ⊥
@@ -268,7 +271,7 @@ IsReading file old new AllTooLarge = ⊥
 IsReading file old new (ReadFault name) = Rose old.reads new.reads × (name ≡ file)
 IsReading file old new Memory = ⊤
 
--- a step that reads nothing ends with its fault, or for want of memory
+-- a step that reads nothing ends with this fault: its own, or that memory was refused
 abbrev pub EndsAt : {X : Type 0} → Result X LoadFault → LoadFault → Type 0
 EndsAt step (Missing name) = step ≡ Err (Missing name)
 EndsAt step (BadAudio name fault) = step ≡ Err (BadAudio name fault)

@@ -37,14 +37,15 @@ pub struct AudioFiles {
 }
 
 impl AudioFiles {
-    /// What this name is, if it was met before.
+    /// What this name was found to be, if it was met before: the number of a file that is used, or why it cannot be.
     fn known(&self, name: &str) -> Option<Result<u32, Unusable>>
         ensures { result ≡ entry_of name.now (heard_of self.now).names }
     {
         self.names.get(name).copied()
     }
 
-    /// Notes what a name is that was not met before.
+    /// Notes what a name, which was not met before, was found to be: the number of a file that is used, or why it
+    /// cannot be.
     fn note(
         &mut self,
         alloc: Global,
@@ -62,7 +63,7 @@ impl AudioFiles {
         Ok(())
     }
 
-    /// Adds the name of a file that is used, and the file if it is to be kept, and answers its number.
+    /// Adds the name of a file that is used, and the file if it is kept, and answers its number.
     fn keep(&mut self, alloc: Global, name: &str, file: Option<Undecoded>) -> Result<u32, Memory>
         ensures number { IfOk result (λ number. number ≡ length (heard_of self.old).titles) }
         ensures few { IfOk result (λ number. number + 1 < 2 ^ 32) }
@@ -77,7 +78,8 @@ impl AudioFiles {
         Ok(number)
     }
 
-    /// Uses an audio file that was not met before, if what it counts for fits beside the others.
+    /// Uses an audio file that was not met before, if what it counts for fits beside the others: `all` is how many
+    /// bytes they may be together.
     fn add(
         &mut self,
         alloc: Global,
@@ -113,7 +115,8 @@ impl AudioFiles {
         Ok(Ok(number))
     }
 
-    /// What a name is as an audio file; it is read where it was not met before.
+    /// What a name is as an audio file: its number among those that are used, or why it cannot be. It is read where it
+    /// was not met before.
     pub fn find<S: Shelf>(
         &mut self,
         alloc: Global,
@@ -151,7 +154,7 @@ fn push_some(files: &mut Vec<Undecoded>, file: Option<Undecoded>) -> Result<(), 
     Ok(())
 }
 
-/// The number of a file or a list behind so many, if one more still has one.
+/// The number of a file or a list which comes after `count` others. Memory is refused from 2^32 - 1 others on.
 pub fn new_number(count: usize) -> Result<u32, Memory>
     ensures number { IfOk result (λ number. number ≡ count) }
     ensures few { IfOk result (λ number. number + 1 < 2 ^ 32) }

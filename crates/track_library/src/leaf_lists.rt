@@ -11,8 +11,8 @@ use plan_core::Op;
 use std::alloc::Global;
 use std::marker::Model;
 
-/// The numbers of the files that each node so far plays, in order, as one list for each node. Nodes that play one list
-/// of audio files share it.
+/// The numbers of the files that each node plays, in order, as one list for each node that was added. Nodes that play
+/// one list of audio files share it.
 #[derive(Drop)]
 pub struct LeafLists {
     lists: Vec<Vec<u32>>,
@@ -35,7 +35,7 @@ impl Model for LeafLists {
 }
 
 impl LeafLists {
-    /// The lists of no node.
+    /// The lists of the nodes before the first is added.
     pub fn new(alloc: Global) -> LeafLists
         ensures { result ≡ [] }
     {
@@ -46,7 +46,7 @@ impl LeafLists {
         }
     }
 
-    /// Adds the list of the next node.
+    /// Adds the list of the next node, `leaf`: the numbers of the files that it plays.
     pub fn push(&mut self, alloc: Global, op: &Op, leaf: Vec<u32>) -> Result<(), Memory>
         ensures { OnOk result (self.new ≡ self.old ++ leaf.items ∷ []) }
     {
@@ -59,8 +59,8 @@ impl LeafLists {
         }
     }
 
-    // Adds the list of a node that plays the names in this file. Where an earlier node had the same list from it, both
-    // share it.
+    // Adds the list of a node that plays the names in this file. A node that had the same list from this file before
+    // shares it.
     fn push_played(&mut self, alloc: Global, file: &str, leaf: Vec<u32>) -> Result<(), Memory>
         ensures { OnOk result (self.new ≡ self.old ++ leaf.items ∷ []) }
     {
@@ -84,7 +84,7 @@ impl LeafLists {
         Ok(number)
     }
 
-    /// The lists, and for each node the number of its own.
+    /// Hands out the lists, and for each node the number of its own.
     pub fn into_lists(self) -> (Vec<Vec<u32>>, Vec<u32>)
         ensures lists { chosen_lists (map (λ v. v.items) result.0.items) result.1.items ≡ self }
         ensures there { All (λ number. number < length result.0.items) result.1.items }
@@ -98,7 +98,7 @@ impl LeafLists {
     }
 }
 
-// The number of a list, if that list is this one.
+// The number of a list again, if that list has the files of `leaf`.
 fn if_same(lists: &[Vec<u32>], number: Option<u32>, leaf: &[u32]) -> Option<u32>
     ensures { IfSome result (λ number. (number < length lists.now)
         × (slice_index_or (map (λ v. v.items) lists.now) number [] ≡ leaf.now)) }

@@ -21,7 +21,7 @@ pub struct ReadLists {
 }
 
 impl ReadLists {
-    /// The place of the list of this name; it is read where it was not read before.
+    /// The place of the list of this name among those that were read; it is read where it was not read before.
     pub fn find<S: Shelf>(
         &mut self,
         alloc: Global,
@@ -49,7 +49,7 @@ impl ReadLists {
         }
     }
 
-    /// Adds a list that was not read before, and answers its place.
+    /// Adds a list that was not read before, with its names, and answers its place.
     fn add(&mut self, alloc: Global, name: &str, names: Vec<Text>) -> Result<usize, Memory>
         requires { entry_of name.now (lists_of self.old) ≡ None }
         ensures at { IfOk result (λ at. at ≡ length (lists_of self.old)) }

@@ -21,13 +21,13 @@ use liq_base::{Fetched, Looked, Memory, Shelf, ShelfFault, Text};
 use std::alloc::Global;
 use wav_io::{Head, head_of, read_head};
 
-/// The bytes that stand before the blocks of a file with nothing else in it.
+/// How many bytes come before the blocks of a file with nothing else in it.
 const HEADER_BYTES: u64 = 44;
 
-/// The first bytes of a file that are looked at.
+/// How many of a file's first bytes are looked at.
 const FRONT_BYTES: u64 = 16_384;
 
-/// The bytes of a file that is there and has at most so many.
+/// The bytes of the file of this name, if it is there and has at most `most`.
 pub fn fetch<S: Shelf>(
     alloc: Global,
     shelf: &mut S,
@@ -50,7 +50,7 @@ pub fn fetch<S: Shelf>(
     }
 }
 
-/// Why a read of the file of this name that failed ends a load; want of memory may come in its place.
+/// The fault of a load for which the file of this name could not be read; want of memory may come in its place.
 fn read_fault(alloc: Global, name: &str) -> LoadFault
     ensures { (old new : ShelfTold) → Rose old.reads new.reads → IsReading name.now old new result }
 {
@@ -60,8 +60,8 @@ fn read_fault(alloc: Global, name: &str) -> LoadFault
     }
 }
 
-/// The head of the audio file of this name, and how many bytes it has, if it is there and is a WAV file. Where its
-/// first bytes tell its head, no more of it is asked for.
+/// The head of the audio file of this name, and how many bytes it has, at most `most`, if it is there and is a WAV
+/// file. Where its first bytes tell its head, no more of it is asked for.
 pub fn find_head<S: Shelf>(
     alloc: Global,
     shelf: &mut S,
@@ -84,7 +84,8 @@ pub fn find_head<S: Shelf>(
     }
 }
 
-/// Adds the first bytes of the file of this name to an empty list, and answers how many bytes it has.
+/// Adds the first bytes of the file of this name to an empty list, and answers how many bytes the file has, at most
+/// `most`.
 fn look_at_front<S: Shelf>(
     alloc: Global,
     shelf: &mut S,
@@ -106,7 +107,7 @@ fn look_at_front<S: Shelf>(
     }
 }
 
-/// The head of the audio file of this name, which is read whole, and how many bytes it has.
+/// The head of the audio file of this name, which is read whole, and how many bytes it has, at most `most`.
 fn find_whole_head<S: Shelf>(
     alloc: Global,
     shelf: &mut S,
@@ -133,7 +134,7 @@ fn head_in(bytes: &[u8]) -> Result<(Head, u64), Unusable>
     }
 }
 
-/// How many bytes an audio file of these bytes and this head counts for, if they are at most as many as one may.
+/// How many bytes an audio file of these bytes and this head counts for, if one file may have so many.
 fn count_bytes(bytes: &[u8], head: Head, rules: Rules) -> Result<u64, Unusable>
     requires rules { AreRules rules }
     requires few { length bytes.now ≤ rules.file }
@@ -145,7 +146,7 @@ fn count_bytes(bytes: &[u8], head: Head, rules: Rules) -> Result<u64, Unusable>
     count_head(head, bytes.len() as u64, rules)
 }
 
-/// How many bytes a file of this head and of so many bytes counts for, if these are at most as many as one may.
+/// How many bytes a file with this head and of `size` bytes counts for, if one file may have so many.
 fn count_head(head: Head, size: u64, rules: Rules) -> Result<u64, Unusable>
     requires rules { AreRules rules }
     requires rate { 0 < head.rate }
@@ -160,7 +161,7 @@ fn count_head(head: Head, size: u64, rules: Rules) -> Result<u64, Unusable>
     Ok(counted)
 }
 
-/// The audio file of these bytes, and how many it counts for, if it can be used.
+/// The audio file of these bytes, and how many bytes it counts for, if it can be used.
 fn use_bytes(bytes: Vec<u8>, rules: Rules) -> Result<(Undecoded, u64), Unusable>
     requires rules { AreRules rules }
     requires few { length bytes.items ≤ rules.file }
@@ -177,7 +178,7 @@ fn use_bytes(bytes: Vec<u8>, rules: Rules) -> Result<(Undecoded, u64), Unusable>
     }
 }
 
-/// How many bytes a file of this head has at another rate, with samples of 16 bits.
+/// How many bytes a WAV file of 16 bits has that holds the sound of a file of this head at `to` samples a second.
 pub fn written_bytes(head: Head, to: u32) -> u64
     requires blocks { AreWhole head.wide head.kind head.size }
     requires few { head.size ≤ 268435456 }
@@ -199,7 +200,7 @@ pub fn block_count(head: Head) -> u64
     sample_count(head.wide, head.size) / u64::from(head.kind.channels())
 }
 
-/// How many samples stand in so many bytes of blocks.
+/// How many samples stand in `size` bytes of blocks: of three bytes each where they are wide, and else of two.
 fn sample_count(wide: bool, size: u64) -> u64
     ensures { result ≡ samples_in wide size }
 {
@@ -246,7 +247,7 @@ fn count_audio<S: Shelf>(
     }
 }
 
-/// What the audio file of this name counts for, if it can be used, and the file, if files are kept.
+/// The audio file of this name, if it is kept, and how many bytes it counts for, if it can be used.
 pub fn find_audio<S: Shelf>(
     alloc: Global,
     shelf: &mut S,

@@ -11,8 +11,8 @@ use resample::{Blocks, Changed};
 use std::alloc::Global;
 use wav_io::Head;
 
-/// The track of the WAV file of this head at this rate, from 8000 to 192000 samples a second. Samples of another rate,
-/// and those of 16 bits, stay in the bytes of the file.
+/// The track of the WAV file of this head, played at `rate`, from 8000 to 192000 samples a second. Samples of another
+/// rate, and those of 16 bits, stay in the bytes of the file.
 pub fn track_of(alloc: Global, bytes: Vec<u8>, head: Head, rate: u32) -> Result<Track, Memory>
     requires head { IsHeadOf bytes.items head }
     requires few { length bytes.items ≤ 268435456 }
@@ -29,7 +29,7 @@ pub fn track_of(alloc: Global, bytes: Vec<u8>, head: Head, rate: u32) -> Result<
     Ok(own_track(bytes, head))
 }
 
-// The track of a file at another rate.
+// The track of a WAV file that is played at another rate than it has, at `rate`.
 fn changed_track(bytes: Vec<u8>, head: Head, rate: u32) -> Track
     requires head { IsHeadOf bytes.items head }
     requires few { length bytes.items ≤ 268435456 }

@@ -10,7 +10,7 @@ pub struct Sizes {
     pub all: u64,
 }
 
-/// What the walk goes by.
+/// What the walk over a plan's nodes goes by.
 #[derive(Clone, Copy, Debug)]
 pub struct Rules {
     /// The rate of the script, from 8000 to 192000 samples a second.

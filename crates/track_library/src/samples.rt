@@ -7,8 +7,8 @@ use liq_base::Memory;
 use sample_bytes::{decode, decode_wide};
 use std::alloc::Global;
 
-/// The samples of so many whole blocks, in the order in which they stand: signed, of 16 bits, the lower byte first. Of
-/// the bytes an odd one at the end is left out. They are the only copy that it makes.
+/// The samples of whole blocks of 16 bits, in the order in which they stand: signed, the lower byte first. An odd byte
+/// at the end is left out. They are the only copy that it makes.
 pub fn read_samples(alloc: Global, blocks: &[u8]) -> Result<Vec<i16>, Memory>
     ensures samples { IfOk result (λ samples. samples.items ≡ samples_from blocks.now) }
 {
@@ -19,8 +19,8 @@ pub fn read_samples(alloc: Global, blocks: &[u8]) -> Result<Vec<i16>, Memory>
     Ok(samples)
 }
 
-/// The samples of so many whole blocks of 24 bits, of which the lowest byte is dropped. Of the bytes one or two at the
-/// end are left out. They are the only copy that it makes.
+/// The samples of whole blocks of 24 bits, of which the lowest byte is dropped. One or two bytes at the end are left
+/// out. They are the only copy that it makes.
 pub fn read_wide(alloc: Global, blocks: &[u8]) -> Result<Vec<i16>, Memory>
     ensures samples { IfOk result (λ samples. samples.items ≡ wide_samples_in blocks.now) }
 {

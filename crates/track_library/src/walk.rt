@@ -24,7 +24,7 @@ use liq_base::{Memory, Shelf, Text};
 use plan_core::{Op, Plan};
 use std::alloc::Global;
 
-/// What was read on the walk so far.
+/// What the walk over a plan's nodes has read: the lists and the audio files.
 #[derive(Drop)]
 pub struct Walk {
     pub lists: ReadLists,
@@ -32,7 +32,7 @@ pub struct Walk {
 }
 
 impl Walk {
-    /// A walk that has read nothing, and is to keep the files that are used, or none.
+    /// A walk that has read nothing; `keeps` says whether it keeps the files that are used.
     fn new(alloc: Global, keeps: bool) -> Walk
         ensures unread { walked_of result ≡ nothing_met }
         ensures keeps { result.audio.keeps ≡ keeps }
@@ -52,7 +52,7 @@ impl Walk {
         }
     }
 
-    /// The files that a node plays.
+    /// The files that a node of this operator plays, by their numbers; none where it plays no files.
     fn find_leaf<S: Shelf>(
         &mut self,
         alloc: Global,
@@ -83,7 +83,7 @@ impl Walk {
         }
     }
 
-    /// The files that were used, which were kept.
+    /// The files that were used and kept, with the files that each node plays.
     fn into_files(self, leaves: LeafLists) -> PlanFiles
         requires { IsLibrary (record {
           files = self.audio.files.items;
@@ -177,7 +177,7 @@ pub fn try_files<S: Shelf>(
     Ok(())
 }
 
-/// Walks over the nodes of a plan, and adds what is read and the list of each node.
+/// Walks over the nodes of a plan: adds to the walk what is read, and to `leaves` the list of each node.
 fn walk_nodes<S: Shelf>(
     alloc: Global,
     plan: &Plan,
@@ -201,7 +201,7 @@ fn walk_nodes<S: Shelf>(
     Ok(())
 }
 
-/// The files that a `single` plays.
+/// The file that a `single` of this name plays, by its number, alone in a list.
 fn find_single<S: Shelf>(
     alloc: Global,
     shelf: &mut S,
@@ -233,7 +233,7 @@ fn find_single<S: Shelf>(
     }
 }
 
-/// Adds the number of a file that can be used.
+/// Adds the number of a file that can be used; one that cannot is left out.
 fn push_found(leaf: &mut Vec<u32>, found: Result<u32, Unusable>) -> Result<(), Memory>
     ensures { OnOk result (leaf.new.items ≡ with_found leaf.old.items found) }
 {
@@ -243,7 +243,7 @@ fn push_found(leaf: &mut Vec<u32>, found: Result<u32, Unusable>) -> Result<(), M
     Ok(())
 }
 
-/// The files of a list's entries that can be used.
+/// The files of a list's entries that can be used, by their numbers, in the order of the entries.
 fn play_entries<S: Shelf>(
     alloc: Global,
     shelf: &mut S,

@@ -29,8 +29,8 @@ said_in u = (u.at, Some u.target, Some (length u.kinds))
 abbrev pub AreSaidAs : Names → List ℕ → List TextUse → Type 0
 AreSaidAs ns ts us = map said_in us ≡ map (said_at ns) ts
 
--- From s to s' a def was typed: its general type and the uses in its text give its typings, and no typing of what
--- stands before it is lost but where the def has none. The types of the values hold the variables h now.
+-- From s to s' the def d was typed: its general type and the uses in its text give its typings. A typing of the
+-- statements before is lost only where d has none. The types of the values now hold the variables h.
 pub record IsTypedDef (s s' : Table) (targets : Targets) (before : List Known) (d : Def) (h : HeldVariables)
     (t : KnownDef) : Type 0 where
   pub def : t.def.now ≡ d
@@ -47,6 +47,7 @@ pub record IsNumberedDef (s : Table) (d : KnownDef) : Type 0 where
   pub some : (a : Assignment) × Solves a s
   pub numbered : text_count (text_of d) ≡ Some (scheme_count (scheme_of d.general))
 
+-- by an answer: the def has this general type and these uses, or without an answer it has no typing
 abbrev pub IsDefTyped : Table → Table → Targets → List Known → Def → HeldVariables → Option KnownDef → Type 0
 IsDefTyped s s' targets before d h None = HasNoTyping s targets before (view_def d)
 IsDefTyped s s' targets before d h (Some t) = IsTypedDef s s' targets before d h t

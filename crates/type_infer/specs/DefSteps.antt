@@ -25,41 +25,47 @@ use Rattle.type_infer.specs.PartsOf.{HasNoDef, HaveNoInners, HaveNoParams, Infer
 use Rattle.type_infer.specs.TextUses.{kinds_in, text_uses}
 use Rattle.type_infer.specs.declared.parts.TypedParts.{TypedParts}
 
--- the tokens of parameters
+-- the tokens of the names of parameters
 abbrev pub param_tokens : Tree (Many AParam) → List ℕ
 param_tokens none = []
 param_tokens (more p ps) = token_of p ∷ param_tokens ps
 
+-- the type variables of bindings
 abbrev pub vars_named : List TypedName → List ℕ
 vars_named ts = map (λ t. t.var) ts
 
+-- the tokens of the names of bindings
 abbrev pub tokens_named : List TypedName → List ℕ
 tokens_named ts = map (λ t. t.at) ts
 
+-- from s to s' the parameters were typed, and each stands by its token with its type variable
 pub record AreTypedParams (s s' : Table) (env : Env) (ps : Tree (Many AParam)) (ts : List TypedName)
     (old new : List Found) : Type 0 where
   pub typed : InfersParams s s' env ps (vars_named ts) old new
   pub named : tokens_named ts ≡ param_tokens ps
 
+-- by an answer: the parameters have these type variables, or without an answer a default has no type
 abbrev pub AreParamsOf : Table → Table → Env → Tree (Many AParam) → List Found → List Found → Option (List TypedName)
     → Type 0
 AreParamsOf s s' env ps old new None = HaveNoParams s env ps old
 AreParamsOf s s' env ps old new (Some ts) = AreTypedParams s s' env ps ts old new
 
+-- by an answer: behind us the bindings in the body lead to vs, or one of them has no type
 abbrev pub AreInnersOf : Table → Table → Targets → List Known → Tree (Many AnInner) → List (ℕ × Term) → List (ℕ × Term)
     → List Found → List Found → Bool → Type 0
 AreInnersOf s s' targets before is us vs old new false = HaveNoInners s (outside targets before) is us old
 AreInnersOf s s' targets before is us vs old new true = InfersInners s s' (outside targets before) is us vs old new
 
--- the bindings in the body lead to these, and the result has this type behind them
+-- behind the parameters us the bindings in the body have types, and the result has the type g behind them
 abbrev pub BodyHas : Env → Places → Assignment → Tree (Many AnInner) → Tree AnExpr → TypesByToken → Ground → Type 0
 BodyHas env kinds a is e us g = (ws : TypesByToken) × InnersHave (sight_under env a kinds) is us ws
     × Has (within ws (sight_under env a kinds)) e g
 
+-- at an assignment, variable n is the type g and the uses fs have their kinds at the places
 abbrev pub ResultAs : Env → Places → ℕ → Ground → List Found → Assignment → Type 0
 ResultAs env kinds n g fs b = (b.type_of n ≡ g) × AreFound env b kinds fs
 
--- behind the parameters us, the body has a result whose type is a variable
+-- behind the parameters us, the body has a result whose type is variable n of s'
 pub record InfersBody (s s' : Table) (env : Env) (is : Tree (Many AnInner)) (e : Tree AnExpr) (us : List (ℕ
     × Term)) (n : ℕ) (old new : List Found) : Type 0 where
   pub inside : n < length s'.types
@@ -71,20 +77,24 @@ pub record InfersBody (s s' : Table) (env : Env) (is : Tree (Many AnInner)) (e :
       → BodyHas env kinds a is e (types_under a us) g → AreFound env a kinds old
       → Reached s s' a (ResultAs env kinds n g new)
 
+-- at no solution of s, with kinds at the places as the old uses say, the body has a type behind the parameters us
 abbrev pub HasNoBody : Table → Env → Tree (Many AnInner) → Tree AnExpr → List (ℕ × Term) → List Found → Type 0
 HasNoBody s env is e us old = (a : Assignment) → Solves a s → (kinds : Places) (g : Ground)
     → BodyHas env kinds a is e (types_under a us) g → AreFound env a kinds old → ⊥
 
+-- by an answer: the body's result has this type variable, or without a number the body has no type
 abbrev pub IsBodyOf : Table → Table → Targets → List Known → Tree (Many AnInner) → Tree AnExpr → List (ℕ × Term)
     → List Found → List Found → Option ℕ → Type 0
 IsBodyOf s s' targets before is e us old new None = HasNoBody s (outside targets before) is e us old
 IsBodyOf s s' targets before is e us old new (Some n) = InfersBody s s' (outside targets before) is e us n old new
 
+-- by an answer: the def's parts have these type variables, or without an answer the def has no typing
 abbrev pub ArePartsOf : Table → Table → Targets → List Known → Tree ADef → List Found → Option TypedParts → Type 0
 ArePartsOf s s' targets before d new None = HasNoDef s (outside targets before) d
 ArePartsOf s s' targets before d new (Some p) = InfersDef s s' (outside targets before) d p.params.items p.result new
 
--- The types of a def, whose parts have these variables and uses, were made general in all that is not held.
+-- The types of a def, whose parts have these variables and uses, were made general in all variables that no value
+-- holds.
 pub record IsGeneralType (s : Table) (h : HeldVariables) (p : TypedParts) (fs : List Found) (g : Scheme)
     (text : List TextKind) : Type 0 where
   pub numbered : IsNumberedText g text
@@ -93,7 +103,7 @@ pub record IsGeneralType (s : Table) (h : HeldVariables) (p : TypedParts) (fs : 
   pub general : (names : List Term) → IsHeldBy s names h
       → IsGeneral s names (map variable p.params.items) (variable p.result) (kinds_in fs) g text
 
--- a def with its general type, whose text has these uses
+-- the def d with the general type that was made of it, whose text has these uses
 pub record IsKnownDef (d : Def) (fs : List Found) (made : DefType) (t : KnownDef) : Type 0 where
   pub def : t.def.now ≡ d
   pub at : t.at ≡ def_token (view_def d)
@@ -101,8 +111,8 @@ pub record IsKnownDef (d : Def) (fs : List Found) (made : DefType) (t : KnownDef
   pub general : t.general ≡ made.general
   pub text : text_of t ≡ text_uses fs made.text.items
 
--- A def whose parts have these variables and uses was made general in all that is not held. The first variables were
--- held at an earlier substitution, and the second ones are held now.
+-- A def whose parts have these variables and uses was made general in all variables that no value holds: h were held at
+-- an earlier substitution, h' are held now.
 pub record IsGeneralDef (s : Table) (h h' : HeldVariables) (d : Def) (p : TypedParts) (fs : List Found)
     (t : KnownDef) : Type 0 where
   pub made : DefType

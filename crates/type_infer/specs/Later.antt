@@ -9,12 +9,12 @@ use Rattle.general_types.specs.Holding.{HeldVariables, IsHeldBy, SameTypes}
 use Rattle.type_steps.specs.Environment.{Known, texts_under}
 use Rattle.type_steps.specs.Defs.{terms_before}
 
--- these variables before other types, the last one first
+-- these types with the type variables before them, the last variable first
 abbrev pub terms_since : List ℕ → List Term → List Term
 terms_since [] types = types
 terms_since (n ∷ ns) types = terms_since ns (variable n ∷ types)
 
--- the variables are there
+-- each of these type variables is one of the substitution
 abbrev pub AreValues : Table → List ℕ → Type 0
 AreValues s ns = All (λ n. n < length s.types) ns
 
@@ -30,11 +30,12 @@ pub record HoldsLater (s : Table) (before : List Known) (h : HeldVariables) (pen
   pub texts : (a b : Assignment) → Solves a s → Solves b s → SameTypes (terms_before before) a b
       → texts_under a before ≡ texts_under b before
 
--- what is held with these values too
+-- `new` is what the types hold with these type variables besides, where `old` is what they hold
 abbrev pub AddsValues : Table → List ℕ → HeldVariables → HeldVariables → Type 0
 AddsValues s ns old new = (types : List Term) → IsHeldBy s types old → IsHeldBy s (terms_since ns types) new
 
--- what is held where more is bound, and with these values too
+-- `new` is what the types hold at the substitution `now` with these variables besides, where `old` is what they held at
+-- an earlier one
 abbrev pub IsRenewed : Table → List ℕ → HeldVariables → HeldVariables → Type 0
 IsRenewed now ns old new = (s : Table) (types : List Term) → Follows s now → IsHeldBy s types old
     → IsHeldBy now (terms_since ns types) new

@@ -24,16 +24,18 @@ AreAimed targets (m ∷ ms) = (targets m.0 ≡ m.1) × AreAimed targets ms
 abbrev pub opens_of : KnownDef → ℕ
 opens_of d = scheme_count (scheme_of d.general)
 
--- a use of this has so many kinds: a value has none, and a def or a builtin has its open ones
+-- a use of this target has n kinds, by the program's defs: a value has none, and a def or a builtin has its open ones
 abbrev pub HasCountIn : List KnownDef → Target → ℕ → Type 0
 HasCountIn ds (target.Slot t) n = n ≡ 0
 HasCountIn ds (target.Def t) n = option_map opens_of (def_seen t ds) ≡ Some n
 HasCountIn ds (target.Builtin b) n = n ≡ (signature b).kinds
 
+-- each use that was found has as many kinds as its target has open ones
 abbrev pub HaveCountsIn : List KnownDef → List Found → Type 0
 HaveCountsIn ds [] = ⊤
 HaveCountsIn ds (f ∷ fs) = HasCountIn ds f.target (length f.kinds) × HaveCountsIn ds fs
 
+-- each use in a text has as many kinds as its target has open ones
 abbrev pub IsTextCountedIn : List KnownDef → List TextUse → Type 0
 IsTextCountedIn ds [] = ⊤
 IsTextCountedIn ds (u ∷ us) = HasCountIn ds u.target (length u.kinds) × IsTextCountedIn ds us

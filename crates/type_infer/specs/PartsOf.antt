@@ -11,24 +11,26 @@ use Rattle.typing_rules.specs.Typing.{DefHas, DefaultHas, DefaultsHave, InnersHa
 use Rattle.type_steps.specs.Environment.{AreFound, AreTypesOver, AreUsesOver, Env, Found, sight_under, types_under}
 use Rattle.type_steps.specs.Flow.{Reached}
 
--- what is seen behind these bindings
+-- what is seen in a def behind these parameters and inner bindings
 abbrev pub with_inner : Env → List (ℕ × Term) → Env
 with_inner env us = record { targets = env.targets; before = env.before; inner = us }
 
--- the variables are there
+-- each of these type variables is one of the substitution
 abbrev pub AreVars : Table → List ℕ → Type 0
 AreVars s [] = ⊤
 AreVars s (n ∷ ns) = (n < length s.types) × AreVars s ns
 
+-- the types of variables under an assignment
 abbrev pub types_at : Assignment → List ℕ → List Ground
 types_at a ns = map a.type_of ns
 
 -- ---- parameters
 
+-- at an assignment, variable n is the type t and the uses fs have their kinds at the places
 abbrev pub VarAs : Env → Places → ℕ → Ground → List Found → Assignment → Type 0
 VarAs env kinds n t fs b = (b.type_of n ≡ t) × AreFound env b kinds fs
 
--- a parameter has the type that is a variable
+-- From s to s' a parameter was given type variable n; the uses in its default were added to `old`, which gives `new`.
 pub record InfersParam (s s' : Table) (env : Env) (p : Tree AParam) (n : ℕ) (old new : List Found) : Type 0 where
   pub inside : n < length s'.types
   pub uses : AreUsesOver s' new
@@ -38,18 +40,22 @@ pub record InfersParam (s s' : Table) (env : Env) (p : Tree AParam) (n : ℕ) (o
   pub complete : (a : Assignment) → Solves a s → (kinds : Places) (t : Ground)
       → DefaultHas (sight_under env a kinds) p t → AreFound env a kinds old → Reached s s' a (VarAs env kinds n t new)
 
+-- at no solution of s, with kinds at the places as the old uses say, the parameter has a type
 abbrev pub HasNoParam : Table → Env → Tree AParam → List Found → Type 0
 HasNoParam s env p old = (a : Assignment) → Solves a s → (kinds : Places) (t : Ground)
     → DefaultHas (sight_under env a kinds) p t → AreFound env a kinds old → ⊥
 
+-- by an answer: the parameter has this type variable, or without a number its default has no type
 abbrev pub IsParamOf : Table → Table → Env → Tree AParam → List Found → List Found → Option ℕ → Type 0
 IsParamOf s s' env p old new None = HasNoParam s env p old
 IsParamOf s s' env p old new (Some n) = InfersParam s s' env p n old new
 
+-- at an assignment, the variables ns are the types ts and the uses fs have their kinds at the places
 abbrev pub VarsAs : Env → Places → List ℕ → List Ground → List Found → Assignment → Type 0
 VarsAs env kinds ns ts fs b = (types_at b ns ≡ ts) × AreFound env b kinds fs
 
--- the same of several parameters
+-- From s to s' the parameters were given the type variables ns; the uses in their defaults were added to `old`, which
+-- gives `new`.
 pub record InfersParams (s s' : Table) (env : Env) (ps : Tree (Many AParam)) (ns : List ℕ) (old new : List Found) : Type
     0 where
   pub inside : AreVars s' ns
@@ -61,16 +67,18 @@ pub record InfersParams (s s' : Table) (env : Env) (ps : Tree (Many AParam)) (ns
       → DefaultsHave (sight_under env a kinds) ps ts → AreFound env a kinds old
       → Reached s s' a (VarsAs env kinds ns ts new)
 
+-- at no solution of s, with kinds at the places as the old uses say, these parameters all have types
 abbrev pub HaveNoParams : Table → Env → Tree (Many AParam) → List Found → Type 0
 HaveNoParams s env ps old = (a : Assignment) → Solves a s → (kinds : Places) (ts : List Ground)
     → DefaultsHave (sight_under env a kinds) ps ts → AreFound env a kinds old → ⊥
 
 -- ---- the bindings in the body
 
+-- at an assignment, the bindings vs have the types ts and the uses fs have their kinds at the places
 abbrev pub TypesAs : Env → Places → List (ℕ × Term) → TypesByToken → List Found → Assignment → Type 0
 TypesAs env kinds vs ts fs b = (types_under b vs ≡ ts) × AreFound env b kinds fs
 
--- Behind the bindings us, these bindings lead to the bindings vs. `env` is what is seen outside of the def.
+-- Behind the bindings us, the bindings in a body lead to the bindings vs; `env` is what is seen outside of the def.
 pub record InfersInners (s s' : Table) (env : Env) (is : Tree (Many AnInner)) (us vs : List (ℕ
     × Term)) (old new : List Found) : Type 0 where
   pub over : AreTypesOver s' vs
@@ -82,17 +90,20 @@ pub record InfersInners (s s' : Table) (env : Env) (is : Tree (Many AnInner)) (u
       → InnersHave (sight_under env a kinds) is (types_under a us) ts → AreFound env a kinds old
       → Reached s s' a (TypesAs env kinds vs ts new)
 
+-- at no solution of s, with kinds at the places as the old uses say, these bindings all have types behind us
 abbrev pub HaveNoInners : Table → Env → Tree (Many AnInner) → List (ℕ × Term) → List Found → Type 0
 HaveNoInners s env is us old = (a : Assignment) → Solves a s → (kinds : Places) (ts : TypesByToken)
     → InnersHave (sight_under env a kinds) is (types_under a us) ts → AreFound env a kinds old → ⊥
 
 -- ---- the def
 
+-- at an assignment, the parameters have the types ts, the result has the type g, and the uses fs have their kinds at
+-- the places
 abbrev pub DefAs : Env → Places → List ℕ → ℕ → List Ground → Ground → List Found → Assignment → Type 0
 DefAs env kinds ns n ts g fs b = (types_at b ns ≡ ts) × (b.type_of n ≡ g) × AreFound env b kinds fs
 
--- From s to s' the def was found to have parameters and a result whose types are these variables, with these uses in
--- its text.
+-- From s to s' the def was found to have parameters with the type variables ns and a result with the type variable n,
+-- and its text has the uses fs.
 pub record InfersDef (s s' : Table) (env : Env) (d : Tree ADef) (ns : List ℕ) (n : ℕ) (fs : List Found) : Type 0 where
   pub params : AreVars s' ns
   pub result : n < length s'.types
@@ -103,6 +114,7 @@ pub record InfersDef (s s' : Table) (env : Env) (d : Tree ADef) (ns : List ℕ) 
   pub complete : (a : Assignment) → Solves a s → (kinds : Places) (ts : List Ground) (g : Ground)
       → DefHas (sight_under env a kinds) d ts g → Reached s s' a (DefAs env kinds ns n ts g fs)
 
+-- at no solution of s the def has a typing
 abbrev pub HasNoDef : Table → Env → Tree ADef → Type 0
 HasNoDef s env d = (a : Assignment) → Solves a s → (kinds : Places) (ts : List Ground) (g : Ground)
     → DefHas (sight_under env a kinds) d ts g → ⊥

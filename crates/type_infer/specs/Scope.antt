@@ -9,7 +9,7 @@ use Rattle.expression_types.specs.declared.environment.Known.TheVariants as know
 use Rattle.expression_types.specs.declared.environment.KnownDef.{KnownDef}
 use Rattle.type_steps.specs.Defs.{outside}
 
--- the defs that were bound are among so many
+-- the defs that statements have bound have indexes below n
 abbrev pub AreAmong : ℕ → List AKnown → Type 0
 AreAmong n [] = ⊤
 AreAmong n (known.Value v ∷ ks) = AreAmong n ks

@@ -1,4 +1,4 @@
--- What typing holds of the statements so far, and what one statement more comes to.
+-- What typing keeps of the statements that it has typed, and what one statement more comes to.
 use Rattle.std.specs.Prelude.{◌≡◌, ℕ, List, [], ◌∷◌, ◌++◌, map, length, Option, Some, None, Bool, true, false}
 use Rattle.script_grammar.specs.Placed.{IsPlaced}
 use Rattle.script_grammar.specs.Tree.{Sort, Tree, APart, AStmt, Stmt, Script}
@@ -44,17 +44,18 @@ pub record IsTypedWith (s s' : Table) (env : Env) (ds : List KnownDef) {r : Sort
     pub named : map found_said (founds t.uses.items) ≡ map (aimed env.targets) (tokens_used e)
     pub counted : HaveCountsIn ds (founds t.uses.items)
 
+-- by an answer: the expression has this type and these uses, or without an answer it has no type
 abbrev pub IsTypedAs : Table → Table → Env → List KnownDef → {r : Sort} → Tree r → Option TypedExpr → Type 0
 IsTypedAs s s' env ds e None = HasNoType s env e []
 IsTypedAs s s' env ds e (Some t) = IsTypedWith s s' env ds e t
 
--- ---- the statements so far
+-- ---- the statements that were typed
 
--- what is known, the newest first
+-- what the typed statements have bound, the newest first
 abbrev pub knowns : Typing → List Known
 knowns t = newest_first t.defs t.before
 
--- what the statements have left
+-- what each typed statement has left
 abbrev pub dones : Typing → List Done
 dones t = dones_in t.defs t.steps.items
 
@@ -65,17 +66,19 @@ pub record IsReady (targets : Targets) (t : Typing) : Type 0 where
   pub numbered : AreNumberedDefs t.defs (knowns t)
   pub there : AreThere (length t.defs) t.steps.items
 
--- The solutions are the typings of the script, and what its statements have left is whole.
+-- The solutions are the typings of the script, and what its statements have left has the uses of all names with their
+-- kinds.
 pub record IsTypedSo (targets : Targets) (script : Script) (t : Typing) : Type 0 where
   pub known : knowns t ≡ known_of (dones t)
   pub typings : AreTypings t.subst targets script (dones t)
   pub whole : AreWhole script (dones t)
 
+-- the state of typing after a script: its typings, and ready for the next statement
 pub record IsAfter (targets : Targets) (script : Script) (t : Typing) : Type 0 where
   pub ready : IsReady targets t
   pub typed : IsTypedSo targets script t
 
--- the same typing, whose lists may have room for more
+-- the lists of a typing may have room for more, and nothing else has changed
 pub record IsSameTyping (old new : Typing) : Type 0 where
   pub subst : new.subst ≡ old.subst
   pub before : new.before ≡ old.before
@@ -84,27 +87,29 @@ pub record IsSameTyping (old new : Typing) : Type 0 where
   pub held : new.held ≡ old.held
   pub pending : new.pending.items ≡ old.pending.items
 
--- The statement stands behind a script: the targets say what its names mean there, and its tokens are placed.
+-- The statement s stands behind a script: the targets say what its names mean there, and its tokens are in place.
 pub record IsNext (targets : Targets) (script : Script) (s : Tree AStmt) : Type 0 where
   pub aimed : AreAimed targets (map meant (names (scope_after [] script) s))
   pub placed : IsPlaced 0 (with_last script s)
 
--- one statement more was typed, or there is no typing with it
+-- behind any script with this state, the part was typed as the next statement
 abbrev pub IsMore : Targets → Tree APart → Typing → Typing → Type 0
 IsMore targets part old new = (script : Script) (semicolon : Bool) → IsTypedSo targets script old
     → IsNext targets script (Stmt part semicolon) → IsAfter targets (with_last script (Stmt part semicolon)) new
 
+-- behind any script with this state, the part as the next statement leaves no typing
 abbrev pub IsNoMore : Targets → Tree APart → Typing → Type 0
 IsNoMore targets part old = (script : Script) (semicolon : Bool) → IsTypedSo targets script old
     → HasNoTypings targets (with_last script (Stmt part semicolon))
 
+-- if true, the part was typed as one statement more; if false, there is no typing with it
 abbrev pub IsStepped : Targets → Tree APart → Typing → Typing → Bool → Type 0
 IsStepped targets part old new true = IsMore targets part old new
 IsStepped targets part old new false = IsNoMore targets part old
 
 -- ---- what is kept of a statement
 
--- a binding at a token
+-- a binding of the name at a token was kept, with the uses of its value
 pub record IsValueKept (at : ℕ) (e : TypedExpr) (old new : Typing) : Type 0 where
   pub subst : new.subst ≡ old.subst
   pub before : new.before ≡ old.before ++ known.Value (record { at = at; var = e.var }) ∷ []
@@ -113,7 +118,7 @@ pub record IsValueKept (at : ℕ) (e : TypedExpr) (old new : Typing) : Type 0 wh
   pub held : new.held ≡ old.held
   pub pending : new.pending.items ≡ old.pending.items ++ e.var ∷ []
 
--- what runs
+-- the uses of a call or an `if` that runs were kept
 pub record IsRunKept (e : TypedExpr) (old new : Typing) : Type 0 where
   pub subst : new.subst ≡ old.subst
   pub before : new.before ≡ old.before
@@ -122,7 +127,7 @@ pub record IsRunKept (e : TypedExpr) (old new : Typing) : Type 0 where
   pub held : new.held ≡ old.held
   pub pending : new.pending.items ≡ old.pending.items
 
--- a def
+-- a def was kept, behind the other defs
 pub record IsDefKept (d : KnownDef) (old new : Typing) : Type 0 where
   pub subst : new.subst ≡ old.subst
   pub before : new.before ≡ old.before ++ known.Function (length old.defs) ∷ []

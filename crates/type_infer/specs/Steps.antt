@@ -10,7 +10,7 @@ use Rattle.type_infer.specs.Answers.{text_of}
 use Rattle.type_infer.specs.declared.steps.Step.{Step}
 use Rattle.type_infer.specs.declared.steps.Step.TheVariants as step
 
--- a def, if there is one
+-- what a def leaves, as a list; empty without a def
 abbrev pub defined_as : Option KnownDef → List Done
 defined_as None = []
 defined_as (Some d) = defined (view_def d.def.now) (text_of d) ∷ []
@@ -21,15 +21,17 @@ done_in ds (step.Bound n us) = bound n.at (variable n.var) (founds us.items) ∷
 done_in ds (step.Defined i) = defined_as (slice_get ds i)
 done_in ds (step.Ran us) = ran (founds us.items) ∷ []
 
+-- what steps have left, where the defs are these
 abbrev pub dones_in : List KnownDef → List Step → List Done
 dones_in ds xs = flat_map (done_in ds) xs
 
--- its def is among so many
+-- the def of a step has an index below n; a step without a def has no need of one
 abbrev pub IsThere : ℕ → Step → Type 0
 IsThere n (step.Bound x us) = ⊤
 IsThere n (step.Defined i) = i < n
 IsThere n (step.Ran us) = ⊤
 
+-- each step's def has an index below n
 abbrev pub AreThere : ℕ → List Step → Type 0
 AreThere n [] = ⊤
 AreThere n (x ∷ xs) = IsThere n x × AreThere n xs

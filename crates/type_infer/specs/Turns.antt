@@ -6,7 +6,7 @@ use Rattle.type_infer.specs.Clashes.{IsClashAt}
 use Rattle.type_infer.specs.States.{IsAfter}
 use Rattle.type_infer.specs.declared.steps.Typing.{Typing}
 
--- the statement behind the first i, of the first n, was typed; or it is a clash
+-- of the first n statements, the one behind the first i was typed; or it is the first clash
 abbrev pub IsTurned : Targets → Script → ℕ → ℕ → Typing → Bool → Type 0
 IsTurned targets script n i t true = IsAfter targets (first_of (i + 1) script) t
 IsTurned targets script n i t false = IsClashAt targets script n (i + 1)

@@ -49,7 +49,8 @@ pub fn type_def<'a>(
     type_def_with(alloc, subst, seen, held, &mut uses, def)
 }
 
-/// The same with a list for the uses of the text, empty at first.
+/// The general type of a def and the uses in its text; `None` where it has no typing. `uses` is empty at first and
+/// takes the uses as they are found.
 fn type_def_with<'a>(
     alloc: Global,
     subst: &mut Subst,
@@ -79,15 +80,15 @@ fn type_def_with<'a>(
     }
 }
 
-/// A type variable as a type.
+/// The type of a def's result, which is a type variable.
 fn answer_of(parts: &TypedParts) -> Ty
     ensures { term_of result ≡ variable parts.now.result }
 {
     Ty::Var(parts.result)
 }
 
-/// The general type of a def whose parts were typed, and the uses of its text. What is held is as it was before the
-/// def.
+/// The def with its general type and the uses of its text, once its parts have types. What is held is brought up to the
+/// substitution, without the def.
 fn general_def<'a>(
     alloc: Global,
     subst: &Subst,
@@ -129,7 +130,8 @@ fn general_type(
     general_type_with(alloc, subst, held, parts, uses, &mut params, &mut kinds)
 }
 
-/// The same with lists for the types of the parameters and for the kinds of the text, both empty at first.
+/// The general type of a def whose parts were typed, with the kinds at the uses of its text. The lists for the
+/// parameters' types and the text's kinds are empty at first.
 fn general_type_with(
     alloc: Global,
     subst: &Subst,

@@ -14,7 +14,7 @@ use std::alloc::Global;
 use typing_rules::TypeFault;
 
 /// What the names of the statements before the first with a fault of names mean, in the order of the tokens, and how
-/// many these statements are. Where there is such a fault it is the one that is told of the next statement.
+/// many these statements are. `fault` is the fault of names of the next statement; `None` if all statements are there.
 #[derive(Drop)]
 pub struct Front {
     pub all: Vec<Resolved>,
@@ -22,7 +22,8 @@ pub struct Front {
     pub fault: Option<TypeFault>,
 }
 
-/// The names of the statements before the first with a fault of names.
+/// What the names of the statements before the first with a fault of names mean, and that fault. `Memory` also where
+/// there are 2^32 statements and more.
 pub fn resolve_front(alloc: Global, statements: &[Stmt]) -> Result<Front, Memory>
     ensures { IfOk result (λ f. IsFront (map view_stmt statements.now) f.count (map resolved f.all.items) f.fault) }
 {
@@ -31,7 +32,8 @@ pub fn resolve_front(alloc: Global, statements: &[Stmt]) -> Result<Front, Memory
     resolve_each(alloc, &mut scope, &mut notes, statements)
 }
 
-/// The same with a scope without names, and no notes.
+/// What the names of the statements before the first with a fault of names mean, and that fault. The scope has no names
+/// at first, and `notes` no fault.
 fn resolve_each<'a>(
     alloc: Global,
     scope: &mut Scope<'a>,
@@ -68,8 +70,8 @@ fn resolve_each<'a>(
     })
 }
 
-/// Notes what the names of one statement mean, and these alone, and goes to the scope behind it; or tells the fault of
-/// names.
+/// Puts into `notes` what the names of this statement mean, and nothing else, and takes the scope behind it; or returns
+/// its fault of names. `number` counts the statements from 1.
 fn note_names<'a>(
     alloc: Global,
     scope: &mut Scope<'a>,
@@ -93,7 +95,7 @@ fn note_names<'a>(
     Ok(())
 }
 
-/// Adds what more names mean.
+/// Adds what further names mean, `more`, to the end of `all`.
 fn add_all(all: &mut Vec<Resolved>, more: &[Resolved]) -> Result<(), Memory>
     ensures { OnOk result (map resolved all.new.items ≡ map resolved all.old.items ++ map resolved more.now) }
 {

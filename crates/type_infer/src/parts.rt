@@ -15,14 +15,14 @@ use std::alloc::Global;
 use type_steps::new_var;
 use type_terms::Subst;
 
-/// The variables that are the types of a def's parameters and of its result.
+/// The numbers of the type variables that are the types of a def's parameters and of its result.
 #[derive(Drop)]
 pub struct TypedParts {
     pub params: Vec<u64>,
     pub result: u64,
 }
 
-/// The variables of a def's parameters and of its result; `None` where it has no typing.
+/// The type variables of a def's parameters and of its result; `None` where it has no typing.
 pub fn type_parts(
     alloc: Global,
     subst: &mut Subst,
@@ -52,7 +52,8 @@ pub fn type_parts(
     }
 }
 
-/// The variable of a parameter: that of its default, where it has one, and a new one otherwise.
+/// The number of a parameter's type variable: that of its default, where it has one, and a new one otherwise. `None`
+/// where the default has no type.
 fn type_param(
     alloc: Global,
     subst: &mut Subst,
@@ -81,7 +82,7 @@ fn type_param(
     }
 }
 
-/// The parameters with their variables; `None` where a default has no type.
+/// The parameters by their tokens with their type variables; `None` where a default has no type.
 fn type_params(
     alloc: Global,
     subst: &mut Subst,
@@ -107,7 +108,7 @@ fn type_params(
     Ok(Some(typed))
 }
 
-/// The variable of a value behind these bindings.
+/// The number of the type variable of a value that stands behind these bindings in a def; `None` where it has no type.
 fn type_behind<'n, 'a>(
     alloc: Global,
     subst: &mut Subst,
@@ -134,7 +135,7 @@ fn type_behind<'n, 'a>(
     type_full(alloc, subst, names, uses, full)
 }
 
-/// The variable of the result behind these bindings.
+/// The number of the type variable of a def's result, which stands behind these bindings; `None` where it has no type.
 fn type_result<'n, 'a>(
     alloc: Global,
     subst: &mut Subst,
@@ -161,8 +162,8 @@ fn type_result<'n, 'a>(
     type_expr(alloc, subst, names, uses, expr)
 }
 
-/// Adds the bindings in the body with their variables, each typed behind the ones before it; false where one has no
-/// type.
+/// Adds the bindings in the body with their type variables, each typed behind the ones before it; false where one has
+/// no type.
 fn type_inners(
     alloc: Global,
     subst: &mut Subst,
@@ -201,7 +202,7 @@ fn type_inners(
     Ok(true)
 }
 
-/// The variables of bindings.
+/// The numbers of the type variables of bindings.
 fn vars_of(alloc: Global, bindings: &[TypedName]) -> Result<Vec<u64>, Memory>
     ensures { IfOk result (λ ns. ns.items ≡ map (λ b. b.var) bindings.now) }
 {
@@ -212,7 +213,8 @@ fn vars_of(alloc: Global, bindings: &[TypedName]) -> Result<Vec<u64>, Memory>
     Ok(vars)
 }
 
-/// The variable of a def's result behind its parameters and inner bindings; `None` where a part has no type.
+/// The number of the type variable of a def's result, behind its parameters and inner bindings; `None` where a part has
+/// no type.
 fn type_body(
     alloc: Global,
     subst: &mut Subst,

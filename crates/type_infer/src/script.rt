@@ -42,7 +42,7 @@ pub fn infer(alloc: Global, script: &Script) -> Result<Vec<Use>, TypeFault>
     statement_uses(alloc, &script.statements)
 }
 
-/// No statement yet, with a substitution without variables.
+/// The typing of a script without statements, by a substitution without variables.
 fn begun<'a>(alloc: Global, subst: Subst) -> Typing<'a>
     ensures { (targets : Targets) → IsAfter targets none result }
 {
@@ -57,7 +57,7 @@ fn begun<'a>(alloc: Global, subst: Subst) -> Typing<'a>
     }
 }
 
-/// No statement yet.
+/// The typing of a script without statements.
 fn start<'a>(alloc: Global) -> Result<Typing<'a>, TypeFault>
     ensures begun { IfOk result (λ t. (targets : Targets) → IsAfter targets none t) }
     ensures refused { IfErr result (λ f. f ≡ TypeFault.Memory) }
@@ -68,9 +68,9 @@ fn start<'a>(alloc: Global) -> Result<Typing<'a>, TypeFault>
     }
 }
 
-/// Room for what the statements leave, so that few lists grow step by step: each leaves one step, and binds one name at
-/// most. A statement mostly needs a type variable, and each name that it uses another one, and perhaps one for its
-/// kind.
+/// Makes room for what the statements leave, so that few lists grow step by step: each leaves one step, and binds one
+/// name at most. A statement mostly needs a type variable, and each name that it uses another one, and perhaps one for
+/// its kind.
 fn make_room(typing: &mut Typing<'_>, front: &Front) -> Result<(), Memory>
     ensures { IsSameTyping typing.old typing.new }
 {
@@ -84,7 +84,7 @@ fn make_room(typing: &mut Typing<'_>, front: &Front) -> Result<(), Memory>
     Ok(())
 }
 
-/// The typings of the statements without a fault of names, or the first clash among them.
+/// The typings of the first `front.count` statements, which have no fault of names, or the first clash among them.
 fn type_statements<'a>(
     alloc: Global,
     statements: &'a [Stmt],
@@ -107,7 +107,8 @@ fn type_statements<'a>(
     type_with(alloc, &targets, statements, front)
 }
 
-/// The same, with what the names mean by their tokens.
+/// The typings of the first `front.count` statements, or the first clash among them. `targets` says by its token what
+/// each name means.
 fn type_with<'a>(
     alloc: Global,
     targets: &TokenTable<Target>,
@@ -133,7 +134,7 @@ fn type_with<'a>(
     }
 }
 
-/// Types the statements without a fault of names, up to the first clash, behind room for what they leave.
+/// Makes room for what the statements leave, and types the first `front.count` of them, up to the first clash.
 fn type_all<'a>(
     alloc: Global,
     typing: &mut Typing<'a>,
@@ -160,7 +161,7 @@ fn type_all<'a>(
     type_each(alloc, typing, targets, statements, front)
 }
 
-/// Types the statements without a fault of names one after another, up to the first clash.
+/// Types the first `front.count` statements one after another, up to the first clash.
 fn type_each<'a>(
     alloc: Global,
     typing: &mut Typing<'a>,
@@ -192,7 +193,7 @@ fn type_each<'a>(
     Ok(())
 }
 
-/// What names mean, by their tokens, with want of memory as a fault of the script.
+/// What names mean, by their tokens; want of memory is told as a fault of the script.
 fn told_table(alloc: Global, names: &[Resolved]) -> Result<TokenTable<Target>, TypeFault>
     ensures table { IfOk result (λ m. targets_of m ≡ target_in (map resolved names.now)) }
     ensures refused { IfErr result (λ f. f ≡ TypeFault.Memory) }
@@ -203,7 +204,7 @@ fn told_table(alloc: Global, names: &[Resolved]) -> Result<TokenTable<Target>, T
     }
 }
 
-/// The statement behind so many; whether there is a typing with it.
+/// Types the statement at `index`, counted from 0; false where there is no typing with it.
 fn type_next<'a>(
     alloc: Global,
     typing: &mut Typing<'a>,
@@ -229,7 +230,7 @@ fn type_next<'a>(
     Ok(yes)
 }
 
-/// One statement more, with want of memory as a fault of the script.
+/// Types one statement more; false where there is no typing with it. Want of memory is told as a fault of the script.
 fn next<'a>(
     alloc: Global,
     typing: &mut Typing<'a>,
@@ -247,7 +248,8 @@ fn next<'a>(
     }
 }
 
-/// The names of the statements before the first with a fault of names, with want of memory as a fault of the script.
+/// What the names of the statements before the first with a fault of names mean, and that fault. Want of memory is told
+/// as a fault of the script.
 fn told_front(alloc: Global, statements: &[Stmt]) -> Result<Front, TypeFault>
     ensures front { IfOk result
         (λ f. IsFront (map view_stmt statements.now) f.count (map resolved f.all.items) f.fault) }
@@ -259,8 +261,8 @@ fn told_front(alloc: Global, statements: &[Stmt]) -> Result<Front, TypeFault>
     }
 }
 
-/// The uses of the statements that were typed, in a list that begins with room for so many, where no fault of names
-/// stands behind them; or that fault.
+/// The fault of names, if there is one, and otherwise the uses of the typed statements, in a list with room for `room`
+/// uses at first.
 fn uses_or_fault(
     alloc: Global,
     typing: Typing<'_>,
@@ -281,7 +283,7 @@ fn uses_or_fault(
     }
 }
 
-/// The uses of a script behind the names of its statements, or the first fault.
+/// The uses of a script, or its first fault; `front` has what its names mean.
 fn answered(alloc: Global, statements: &[Stmt], front: Front) -> Result<Vec<Use>, TypeFault>
     requires front { IsFront (map view_stmt statements.now) front.count (map resolved front.all.items) front.fault }
     requires placed { IsPlaced 0 (listed (map view_stmt statements.now)) }

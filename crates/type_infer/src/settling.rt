@@ -16,8 +16,8 @@ use std::alloc::Global;
 use type_terms::{KindTerm, Subst, resolved_kind};
 use typing_rules::{KindOf, Use, UseKinds};
 
-/// The uses of all statements, in the order of the tokens, in a list that begins with room for so many. What was found
-/// is freed as it is turned into the answer, so that its memory is taken again at once.
+/// The uses of all statements under the default solution, in the order of the tokens, in a list with room for `room`
+/// uses at first. What was found is freed as it is turned into the answer, so that its memory is taken again at once.
 pub fn settled_uses(alloc: Global, typing: Typing<'_>, room: usize) -> Result<Vec<Use>, Memory>
     requires over { AreDonesOver typing.subst (dones typing) }
     ensures { IfOk result (λ us. AreDefaultOf typing.entry.subst (dones typing.entry) us.items) }
@@ -26,7 +26,7 @@ pub fn settled_uses(alloc: Global, typing: Typing<'_>, room: usize) -> Result<Ve
     steps_uses(alloc, &typing.subst, typing.defs.as_slice(), steps, room)
 }
 
-/// A kind where nothing binds its variable: stereo.
+/// A kind after all bindings were followed: a variable that nothing binds is stereo.
 fn free_kind(kind: KindTerm) -> Kind
     ensures { result ≡ the_free_kind kind }
 {
@@ -36,7 +36,7 @@ fn free_kind(kind: KindTerm) -> Kind
     }
 }
 
-/// A kind under the default solution.
+/// A kind under the default solution: a variable that nothing binds is stereo.
 fn settle_kind(subst: &Subst, kind: KindTerm) -> Kind
     requires over { IsKindOver subst.now kind }
     ensures { IsSettledKind subst.now kind result }
@@ -44,7 +44,7 @@ fn settle_kind(subst: &Subst, kind: KindTerm) -> Kind
     free_kind(resolved_kind(subst, kind))
 }
 
-/// The kinds of a use outside of defs.
+/// The kinds of a use outside of defs, under the default solution.
 fn settled_kinds(alloc: Global, subst: &Subst, kinds: &[KindTerm]) -> Result<UseKinds, Memory>
     requires over { AreKindsOver subst.now kinds.now }
     ensures { IfOk result (AreSettledKinds subst.now kinds.now) }
@@ -56,7 +56,7 @@ fn settled_kinds(alloc: Global, subst: &Subst, kinds: &[KindTerm]) -> Result<Use
     Ok(settled)
 }
 
-/// Adds the uses that were found outside of defs.
+/// Adds the uses that were found outside of defs, under the default solution.
 fn add_founds(
     alloc: Global,
     subst: &Subst,
@@ -77,7 +77,7 @@ fn add_founds(
     Ok(())
 }
 
-/// A kind in the text of a def.
+/// A kind in the text of a def under the default solution; an open kind keeps its number.
 fn settle_text(subst: &Subst, kind: TextKind) -> KindOf
     requires over { IsPendingOver subst.now (pending kind) }
     ensures { IsSettledText subst.now (pending kind) result }
@@ -88,7 +88,7 @@ fn settle_text(subst: &Subst, kind: TextKind) -> KindOf
     }
 }
 
-/// The kinds of a use in the text of a def.
+/// The kinds of a use in the text of a def, under the default solution.
 fn settled_texts(alloc: Global, subst: &Subst, kinds: &[TextKind]) -> Result<UseKinds, Memory>
     requires over { ArePendingOver subst.now (map pending kinds.now) }
     ensures { IfOk result (AreSettledTexts subst.now (map pending kinds.now)) }
@@ -100,7 +100,7 @@ fn settled_texts(alloc: Global, subst: &Subst, kinds: &[TextKind]) -> Result<Use
     Ok(settled)
 }
 
-/// Adds the uses in the text of a def.
+/// Adds the uses in the text of a def, under the default solution.
 fn add_texts(
     alloc: Global,
     subst: &Subst,
@@ -121,7 +121,7 @@ fn add_texts(
     Ok(())
 }
 
-/// Adds the uses of a def, if there is one.
+/// Adds the uses in the text of a def, if there is one, under the default solution.
 fn add_def(
     alloc: Global,
     subst: &Subst,
@@ -138,7 +138,7 @@ fn add_def(
     }
 }
 
-/// Adds the uses of what a statement has left.
+/// Adds the uses of what one statement has left, under the default solution.
 fn add_step(
     alloc: Global,
     subst: &Subst,
@@ -156,7 +156,7 @@ fn add_step(
     }
 }
 
-/// The uses of what statements have left, one after another, in a list that begins with room for so many.
+/// The uses of what statements have left, one after another, in a list with room for `room` uses at first.
 fn steps_uses(
     alloc: Global,
     subst: &Subst,

@@ -18,7 +18,7 @@ use std::alloc::Global;
 use type_terms::{Subst, Ty};
 use typing_rules::Target;
 
-/// One statement more: whether there is a typing with it.
+/// Types one statement more; false where there is no typing with it.
 pub fn type_part<'a>(
     alloc: Global,
     typing: &mut Typing<'a>,
@@ -37,7 +37,7 @@ pub fn type_part<'a>(
     }
 }
 
-/// What is seen outside of defs.
+/// What an expression outside of defs sees: the meanings of names, what statements have bound, and their defs.
 fn outside<'n, 'a>(
     targets: &'n TokenTable<Target>,
     before: &'n Bindings,
@@ -56,7 +56,7 @@ fn outside<'n, 'a>(
     }
 }
 
-/// Adds what further values hold, whose types are these variables.
+/// Adds to `held` what values hold whose types are these type variables.
 fn add_values(alloc: Global, subst: &Subst, held: &mut Held, values: &[u64]) -> Result<(), Memory>
     requires there { AreValues subst.now values.now }
     ensures { OnOk result (AddsValues subst.now values.now held.old held.new) }
@@ -67,8 +67,8 @@ fn add_values(alloc: Global, subst: &Subst, held: &mut Held, values: &[u64]) -> 
     Ok(())
 }
 
-/// What the values hold now that more is bound, with the pending ones, of which none is left. Where memory runs out,
-/// some of it may have been done.
+/// Brings what the values hold up to the substitution, and adds the pending values, of which none is left. Where memory
+/// runs out, some of it may have been done.
 fn catch_up(
     alloc: Global,
     subst: &Subst,
@@ -86,7 +86,8 @@ fn catch_up(
     Ok(())
 }
 
-/// Keeps a binding at a token, with the uses in its value. Where memory runs out, some of it may have been kept.
+/// Keeps a binding of the name at token `at`, with the uses in its value. Where memory runs out, some of it may have
+/// been kept.
 fn keep_value(typing: &mut Typing<'_>, at: u32, typed: TypedExpr) -> Result<(), Memory>
     ensures { OnOk result (IsValueKept at typed typing.old typing.new) }
 {
@@ -97,7 +98,7 @@ fn keep_value(typing: &mut Typing<'_>, at: u32, typed: TypedExpr) -> Result<(), 
     Ok(())
 }
 
-/// Keeps the uses of what runs.
+/// Keeps the uses of a call or an `if` that runs as a statement.
 fn keep_run(typing: &mut Typing<'_>, typed: TypedExpr) -> Result<(), Memory>
     ensures { OnOk result (IsRunKept typed typing.old typing.new) }
 {
@@ -116,7 +117,7 @@ fn keep_def<'a>(typing: &mut Typing<'a>, def: KnownDef<'a>) -> Result<(), Memory
     Ok(())
 }
 
-/// A binding.
+/// Types a binding and keeps it; false where its value has no type.
 fn type_bind(
     alloc: Global,
     typing: &mut Typing<'_>,
@@ -137,7 +138,7 @@ fn type_bind(
     }
 }
 
-/// A call.
+/// Types a call that is a statement and keeps its uses; false where it has no type.
 fn type_run(
     alloc: Global,
     typing: &mut Typing<'_>,
@@ -158,7 +159,7 @@ fn type_run(
     }
 }
 
-/// An `if`.
+/// Types an `if` that is a statement and keeps its uses; false where it has no type.
 fn type_branch(
     alloc: Global,
     typing: &mut Typing<'_>,
@@ -179,7 +180,7 @@ fn type_branch(
     }
 }
 
-/// A def.
+/// Types a def and keeps it; false where it has no typing.
 fn type_function<'a>(
     alloc: Global,
     typing: &mut Typing<'a>,

@@ -1,17 +1,17 @@
-// The statements that were typed so far.
+// What typing keeps of the statements that it has typed.
 use expression_types::{Bindings, Defs, FoundUse, TypedName};
 use general_types::Held;
 use type_terms::Subst;
 
-/// The variable that is the type of a value, and the uses in it.
+/// The number of the type variable of an expression, and the uses in it.
 #[derive(Drop)]
 pub struct TypedExpr {
     pub var: u64,
     pub uses: Vec<FoundUse>,
 }
 
-/// What a statement has left: a binding and the uses in its value, a def by its place among the defs, or the uses of
-/// what runs.
+/// What a statement has left: a binding and the uses in its value, a def by its index among the defs, or the uses of a
+/// call or an `if` that runs.
 #[derive(Drop)]
 pub enum Step {
     Bound(TypedName, Vec<FoundUse>),

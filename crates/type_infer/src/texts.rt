@@ -11,7 +11,7 @@ use std::alloc::Global;
 use std::cmp::min;
 use type_terms::{KindTerm, Ty};
 
-/// Adds variables as types to an empty list.
+/// Adds type variables, by their numbers, as types to an empty list.
 pub fn push_variables(types: &mut Vec<Ty>, numbers: &[u64]) -> Result<(), Memory>
     requires { types.old.items ≡ [] }
     ensures { OnOk result (map term_of types.new.items ≡ map variable numbers.now) }
@@ -22,7 +22,7 @@ pub fn push_variables(types: &mut Vec<Ty>, numbers: &[u64]) -> Result<(), Memory
     Ok(())
 }
 
-/// Adds the kinds of uses, one after another, to an empty list.
+/// Adds the kinds of these uses, use by use, to an empty list.
 pub fn push_all_kinds(kinds: &mut Vec<KindTerm>, uses: &[FoundUse]) -> Result<(), Memory>
     requires { kinds.old.items ≡ [] }
     ensures { OnOk result (kinds.new.items ≡ kinds_in (founds uses.now)) }
@@ -33,7 +33,7 @@ pub fn push_all_kinds(kinds: &mut Vec<KindTerm>, uses: &[FoundUse]) -> Result<()
     Ok(())
 }
 
-/// The uses of the text: each takes as many of these kinds as it has.
+/// The uses of a def's text: each takes as many of the kinds in `text` as it has, from the front on.
 pub fn text_of_uses(
     alloc: Global,
     uses: &[FoundUse],
@@ -51,14 +51,14 @@ pub fn text_of_uses(
     Ok(done)
 }
 
-/// A variable as a type.
+/// The type variable of this number as a type.
 fn variable_type(number: u64) -> Ty
     ensures { term_of result ≡ variable number }
 {
     Ty::Var(number)
 }
 
-/// Adds the kinds of a use.
+/// Adds the kinds of one use.
 fn push_kinds(kinds: &mut Vec<KindTerm>, found: &FoundUse) -> Result<(), Memory>
     ensures { OnOk result (kinds.new.items ≡ kinds.old.items ++ found.now.kinds.items) }
 {
@@ -66,7 +66,7 @@ fn push_kinds(kinds: &mut Vec<KindTerm>, found: &FoundUse) -> Result<(), Memory>
     Ok(())
 }
 
-/// A kind of the text as the uses have it.
+/// A kind in the text of a general type as a use in the text has it.
 fn kind_of(kind: KindInText) -> TextKind
     ensures { pending result ≡ pending_of kind }
 {
@@ -76,7 +76,7 @@ fn kind_of(kind: KindInText) -> TextKind
     }
 }
 
-/// Kinds of the text as a use has them.
+/// Kinds in the text of a general type as a use in the text has them.
 fn kinds_of(alloc: Global, text: &[KindInText]) -> Result<Vec<TextKind>, Memory>
     ensures { IfOk result (λ ks. map pending ks.items ≡ map pending_of text.now) }
 {
@@ -87,7 +87,7 @@ fn kinds_of(alloc: Global, text: &[KindInText]) -> Result<Vec<TextKind>, Memory>
     Ok(kinds)
 }
 
-/// A use in the text, with these kinds.
+/// A use in the text of a def, with the kinds in `text` in place of its own.
 fn use_with(alloc: Global, one: &FoundUse, text: &[KindInText]) -> Result<TextUse, Memory>
     ensures { IfOk result (λ u. text_use u ≡ use_of (found one.now) text.now) }
 {

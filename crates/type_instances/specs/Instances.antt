@@ -14,6 +14,7 @@ pub record Grows (s s' : Table) : Type 0 where
   pub follows : Follows s s'
   pub each : (a : Assignment) → Solves a s → (b : Assignment) × Solves b s' × Agrees s a b
 
+-- the types of the parameters of a call, as plain data
 abbrev pub instance_params : Instance → List Term
 instance_params i = map term_of i.params.items
 

@@ -12,20 +12,23 @@ use Rattle.type_instances.specs.declared.general.KindParameter.{KindParameter}
 use Rattle.type_instances.specs.declared.general.KindParameter.TheVariants.{Open, Unread, Outer as OuterKind}
 use Rattle.type_instances.specs.Schemes.{MayBe, KindMayBe}
 
--- the outer variables of a list are there
+-- the outer type variables of a list are there
 abbrev pub HasOuterTypes : Table → List TypeParameter → Type 0
 HasOuterTypes s xs = (i k : ℕ) → slice_get xs i ≡ Some (OuterType k) → k < length s.types
 
+-- the outer kind variables of a list are there
 abbrev pub HasOuterKinds : Table → List KindParameter → Type 0
 HasOuterKinds s xs = (i k : ℕ) → slice_get xs i ≡ Some (OuterKind k) → k < length s.kinds
 
+-- the outer type variable is there, if the parameter is one
 abbrev pub HasOuterType : Table → TypeParameter → Type 0
 HasOuterType s x = (k : ℕ) → x ≡ OuterType k → k < length s.types
 
+-- the outer kind variable is there, if the parameter is one
 abbrev pub HasOuterKind : Table → KindParameter → Type 0
 HasOuterKind s x = (k : ℕ) → x ≡ OuterKind k → k < length s.kinds
 
--- between s and s' the variable n stands for what x may stand for
+-- between s and s' the type variable n stands for what x may stand for
 pub record IsNewType (s s' : Table) (x : TypeParameter) (n : ℕ) : Type 0 where
   pub inside : n < length s'.types
   pub follows : Follows s s'
@@ -33,6 +36,7 @@ pub record IsNewType (s s' : Table) (x : TypeParameter) (n : ℕ) : Type 0 where
   pub complete : (a : Assignment) → Solves a s → (g : Ground) → MayBe a x g
       → (b : Assignment) × Solves b s' × Agrees s a b × (b.type_of n ≡ g)
 
+-- between s and s' the kind variable n stands for what x may stand for
 pub record IsNewKind (s s' : Table) (x : KindParameter) (n : ℕ) : Type 0 where
   pub inside : n < length s'.kinds
   pub follows : Follows s s'
@@ -48,7 +52,7 @@ open_terms (Open ∷ xs) (n ∷ ns) = Var n ∷ open_terms xs ns
 open_terms (Unread ∷ xs) (n ∷ ns) = open_terms xs ns
 open_terms (OuterKind k ∷ xs) (n ∷ ns) = open_terms xs ns
 
--- the same of a list of variables
+-- between s and s' each of the type variables ns stands for what its parameter of xs may stand for
 pub record AreNewTypes (s s' : Table) (xs : List TypeParameter) (ns : List ℕ) : Type 0 where
   pub many : length ns ≡ length xs
   pub inside : (i n : ℕ) → slice_get ns i ≡ Some n → n < length s'.types
@@ -59,6 +63,7 @@ pub record AreNewTypes (s s' : Table) (xs : List TypeParameter) (ns : List ℕ) 
       → ((i : ℕ) (x : TypeParameter) → slice_get xs i ≡ Some x → MayBe a x (f i)) →
       (b : Assignment) × Solves b s' × Agrees s a b × ((i n : ℕ) → slice_get ns i ≡ Some n → b.type_of n ≡ f i)
 
+-- between s and s' each of the kind variables ns stands for what its parameter of xs may stand for
 pub record AreNewKinds (s s' : Table) (xs : List KindParameter) (ns : List ℕ) : Type 0 where
   pub many : length ns ≡ length xs
   pub inside : (i n : ℕ) → slice_get ns i ≡ Some n → n < length s'.kinds

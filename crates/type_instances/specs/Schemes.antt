@@ -36,12 +36,14 @@ MayBe a Any g = ⊤
 MayBe a Number g = IsNumber g
 MayBe a (OuterType k) g = g ≡ a.type_of k
 
+-- What a kind variable of a scheme may stand for, where the variables outside of it are as in `a`: either kind, or what
+-- the outer variable is.
 abbrev pub KindMayBe : Assignment → KindParameter → Kind → Type 0
 KindMayBe a Open k = ⊤
 KindMayBe a Unread k = ⊤
 KindMayBe a (OuterKind n) k = k ≡ a.kind_of n
 
--- the numbers of the open kind variables, where the first of the list has this number
+-- the numbers of the open kind variables among these, of which the first has the number n
 abbrev pub open_numbers : ℕ → List KindParameter → List ℕ
 open_numbers n [] = []
 open_numbers n (Open ∷ ks) = n ∷ open_numbers (suc n) ks
@@ -71,7 +73,7 @@ builtin_scheme b = record {
 abbrev pub AreAmong : ℕ → ℕ → List Term → Type 0
 AreAmong m n ts = InTerms (λ k. k < m) (λ k. k < n) (terms_of ts)
 
--- A scheme that says of each of its variables what it may stand for; the outer ones are there.
+-- A scheme says of each of its variables what it may stand for, and the outer ones are there.
 pub record IsSchemeOver (table : Table) (s : Scheme) : Type 0 where
   pub params : AreAmong (length s.types) (length s.kinds) s.params
   pub result : InTerm (λ n. n < length s.types) (λ n. n < length s.kinds) s.result

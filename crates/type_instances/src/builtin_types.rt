@@ -63,7 +63,7 @@ fn new_row_kind(subst: &mut Subst, builtin: Builtin) -> Result<u64, Memory>
     Ok(number)
 }
 
-/// The builtin's row with these numbers for its variables.
+/// The builtin's row, in which the type variable has the number `any` and the kind variable the number `kind`.
 fn row_instance(alloc: Global, builtin: Builtin, any: u64, kind: u64) -> Result<Instance, Memory>
     ensures params { IfOk result (λ i. map term_of i.params.items
         ≡ map (instance (any ∷ []) (kind ∷ [])) (builtin_scheme builtin).params) }
@@ -104,7 +104,7 @@ fn has_kind_variable(builtin: Builtin) -> bool
     }
 }
 
-/// The kind that is open in a call of the builtin, if one is.
+/// The kind that is open in a call of the builtin, if one is: the variable of this number.
 fn row_kinds(alloc: Global, builtin: Builtin, kind: u64) -> Result<Vec<KindTerm>, Memory>
     ensures { IfOk result (λ ks. ks.items ≡ replicate (signature builtin).kinds (Var kind)) }
 {
@@ -124,7 +124,7 @@ fn sources(alloc: Global, kind: KindTerm) -> Result<Ty, Memory>
     Ok(Ty::List(item))
 }
 
-/// A pair of a predicate and a source.
+/// A pair of a predicate and a source of this kind.
 fn pair(alloc: Global, kind: KindTerm) -> Result<Ty, Memory>
     ensures { IfOk result (λ t. term_of t
         ≡ tuple_term (one_more (base_term Pred) (one_more (source_term kind) no_terms))) }
@@ -135,7 +135,7 @@ fn pair(alloc: Global, kind: KindTerm) -> Result<Ty, Memory>
     Ok(Ty::Tuple(parts))
 }
 
-/// A list of such pairs.
+/// A list of pairs of a predicate and a source of this kind.
 fn pairs(alloc: Global, kind: KindTerm) -> Result<Ty, Memory>
     ensures { IfOk result (λ t. term_of t
         ≡ list_term (tuple_term (one_more (base_term Pred) (one_more (source_term kind) no_terms)))) }
@@ -145,7 +145,7 @@ fn pairs(alloc: Global, kind: KindTerm) -> Result<Ty, Memory>
     Ok(Ty::List(item))
 }
 
-/// A type of the table with these numbers for its variables.
+/// A type of the table, in which the type variable has the number `any` and the kind variable the number `kind`.
 fn row_type(alloc: Global, ty: RowType, any: u64, kind: u64) -> Result<Ty, Memory>
     ensures { IfOk result (λ t. term_of t ≡ numbered_row any kind ty) }
 {
@@ -165,7 +165,7 @@ fn row_type(alloc: Global, ty: RowType, any: u64, kind: u64) -> Result<Ty, Memor
     }
 }
 
-/// Types of the table with these numbers for their variables.
+/// Types of the table, in which the type variable has the number `any` and the kind variable the number `kind`.
 fn row_types(alloc: Global, row: &[RowType], any: u64, kind: u64) -> Result<Vec<Ty>, Memory>
     ensures { IfOk result (λ ts. map term_of ts.items ≡ map (numbered_row any kind) row.now) }
 {

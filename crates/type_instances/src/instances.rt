@@ -40,7 +40,7 @@ pub fn instantiate(alloc: Global, subst: &mut Subst, general: &General) -> Resul
     Ok(call)
 }
 
-/// The general type with these numbers for its variables.
+/// The general type with these numbers for its type variables and kind variables.
 fn instance_with(
     alloc: Global,
     general: &General,
@@ -86,7 +86,7 @@ fn rename(
     Ok(call)
 }
 
-/// The number of a new type variable.
+/// The number of a new type variable, which is a number variable if `number` is true.
 pub fn fresh_number(subst: &mut Subst, number: bool) -> Result<u64, Memory>
     ensures free { IfOk result (λ n. HasNewType subst.old subst.new (IsTrue number) n) }
     ensures grows { Grows subst.old subst.new }
@@ -110,7 +110,7 @@ pub fn fresh_kind_number(subst: &mut Subst) -> Result<u64, Memory>
     }
 }
 
-/// The number of a variable that stands for what the parameter may stand for.
+/// The number of a type variable that stands for what the parameter may stand for.
 fn new_type(subst: &mut Subst, parameter: TypeParameter) -> Result<u64, Memory>
     requires { HasOuterType subst.old parameter }
     ensures new { IfOk result (λ n. IsNewType subst.old subst.new parameter n) }
@@ -136,7 +136,7 @@ fn new_kind(subst: &mut Subst, parameter: KindParameter) -> Result<u64, Memory>
     }
 }
 
-/// The same of all parameters.
+/// For each parameter the number of a type variable that stands for what it may stand for.
 fn new_types(
     alloc: Global,
     subst: &mut Subst,
@@ -154,7 +154,7 @@ fn new_types(
     Ok(numbers)
 }
 
-/// The same of all kind parameters.
+/// For each parameter the number of a kind variable that stands for what it may stand for.
 fn new_kinds(
     alloc: Global,
     subst: &mut Subst,

@@ -13,29 +13,30 @@ use Rattle.type_instances.specs.Schemes.{Scheme, IsInstance, IsSchemeOver}
 use Rattle.general_types.specs.Holding.{HeldVariables, IsHeldBy, SameTypes}
 use Rattle.type_steps.specs.Environment.{CallTakes, Env, IsTextOver, Known, TextTakes, TextUse, entries_under, function, settled_use, texts_under, value}
 
--- what is seen outside of defs
+-- what an expression outside of defs sees: the meanings of names and what statements have bound
 abbrev pub outside : Targets → List Known → Env
 outside targets before = record { targets = targets; before = before; inner = [] }
 
--- the types of the values that are bound
+-- the types of the values that statements have bound, the newest first
 abbrev pub terms_before : List Known → List Term
 terms_before [] = []
 terms_before (value t u ∷ ks) = u ∷ terms_before ks
 terms_before (function d us ∷ ks) = terms_before ks
 
--- The values hold exactly these variables, and the texts of the defs hold no others: they are the same where the values
--- have the same types.
+-- The bound values hold exactly the variables h, and the texts of the defs hold no others: where the values have the
+-- same types, the texts have the same uses.
 pub record HoldsBefore (s : Table) (before : List Known) (h : HeldVariables) : Type 0 where
   pub held : IsHeldBy s (terms_before before) h
   pub texts : (a b : Assignment) → Solves a s → Solves b s → SameTypes (terms_before before) a b
       → texts_under a before ≡ texts_under b before
 
--- the kinds at the places of a def's text are those of its uses, with these open kinds
+-- at the places of a def's text, the kinds are those that its uses say, with these for the def's open kinds
 abbrev pub IsTextTaken : Assignment → Places → List Known → List Kind → List TextUse → Type 0
 IsTextTaken a kinds before opens us = TextTakes (CallTakes (texts_under a before) kinds) kinds [] opens
     (map (settled_use a) us)
 
--- At each solution the typings of the def are the instances of the scheme, with the kinds of the text's uses.
+-- At each solution the typings of the def d are the instances of its general type g, with kinds at the places as the
+-- uses us in its text say.
 pub record IsTypingOf (s : Table) (targets : Targets) (before : List Known) (d : Tree ADef) (g : Scheme)
     (us : List TextUse) : Type 0 where
   pub over : IsSchemeOver s g
@@ -47,7 +48,7 @@ pub record IsTypingOf (s : Table) (targets : Targets) (before : List Known) (d :
       → DefHas (sight targets kinds (entries_under a before) []) d ts r →
       (opens : List Kind) × IsInstance g a ts r opens × IsTextTaken a kinds before opens us
 
--- each solution of s at which the def has a typing is one of s' on the variables of s
+-- each solution of s at which the def has a typing agrees with a solution of s' on the variables of s
 abbrev pub KeepsTypings : Table → Table → Targets → List Known → Tree ADef → Type 0
 KeepsTypings s s' targets before d = (a : Assignment) → Solves a s → HasSome targets (entries_under a before) d
     → (b : Assignment) × Solves b s' × Agrees s a b

@@ -22,19 +22,19 @@ pub data Pending : Type 0 where
   of_term : KindTerm → Pending
   of_def : ℕ → Pending
 
--- a use in the text of a def
+-- a use of a name in the text of a def: its token, what it means, and its kinds
 pub record TextUse : Type 0 where
   pub at : ℕ
   pub target : Target
   pub kinds : List Pending
 
--- a use in what is being typed
+-- a use of a name in the expression that is being typed: its token, what it means, and its kinds
 pub record Found : Type 0 where
   pub at : ℕ
   pub target : Target
   pub kinds : List KindTerm
 
--- what a statement has bound: a value with its type, or a def with the uses in its text
+-- what a statement has bound: a value by its token with its type, or a def with the uses in its text
 pub data Known : Type 0 where
   value : ℕ → Term → Known
   function : Tree ADef → List TextUse → Known
@@ -48,40 +48,48 @@ pub record Env : Type 0 where
 
 -- ---- what is known of the binding at a token
 
+-- the type of the first parameter or inner binding whose name stands at token t
 abbrev pub term_at : ℕ → List (ℕ × Term) → Option Term
 term_at t [] = None
 term_at t (b ∷ bs) = cond (nat_eq b.0 t) (Some b.1) (term_at t bs)
 
+-- the type of the newest value whose name stands at token t
 abbrev pub term_before : ℕ → List Known → Option Term
 term_before t [] = None
 term_before t (value x u ∷ ks) = cond (nat_eq x t) (Some u) (term_before t ks)
 term_before t (function d us ∷ ks) = term_before t ks
 
+-- the first of two terms, or the second where there is no first
 abbrev pub or_else : Option Term → Option Term → Option Term
 or_else (Some u) o = Some u
 or_else None o = o
 
--- its type
+-- the type of the binding whose name stands at token t: an inner one, or one of a statement
 abbrev pub term_seen : ℕ → Env → Option Term
 term_seen t env = or_else (term_at t env.inner) (term_before t env.before)
 
--- ---- the same under an assignment to the variables
+-- ---- what is seen, under an assignment to the variables
 
+-- a pending kind under an assignment: a kind, or the number of an open kind
 abbrev pub settled : Assignment → Pending → KindOf
 settled a (of_term k) = Fixed (kind_meaning a k)
 settled a (of_def j) = Given j
 
+-- a use in a text under an assignment
 abbrev pub settled_use : Assignment → TextUse → Use
 settled_use a u = record { at = u.at; target = u.target; kinds = map (settled a) u.kinds }
 
+-- what statements have bound under an assignment: values with their types, and defs
 abbrev pub entries_under : Assignment → List Known → List Entry
 entries_under a [] = []
 entries_under a (value t u ∷ ks) = entry.value t (meaning a u) ∷ entries_under a ks
 entries_under a (function d us ∷ ks) = entry.function d ∷ entries_under a ks
 
+-- parameters and inner bindings under an assignment, by their tokens
 abbrev pub types_under : Assignment → List (ℕ × Term) → TypesByToken
 types_under a ts = map (λ x. (x.0, meaning a x.1)) ts
 
+-- what an expression sees under an assignment, with these kinds at the places
 abbrev pub sight_under : Env → Assignment → Places → Sight
 sight_under env a kinds = within (types_under a env.inner) (sight env.targets kinds (entries_under a env.before) [])
 
@@ -91,24 +99,27 @@ sight_under env a kinds = within (types_under a env.inner) (sight env.targets ki
 abbrev pub Texts : Type 0
 Texts = List (ℕ × List Use)
 
+-- the uses in the texts of the defs under an assignment, each text by the token of its def
 abbrev pub texts_under : Assignment → List Known → Texts
 texts_under a [] = []
 texts_under a (value t u ∷ ks) = texts_under a ks
 texts_under a (function d us ∷ ks) = (def_token d, map (settled_use a) us) ∷ texts_under a ks
 
--- A use with these open kinds, at a token behind a chain of calls. A call of a def leads to the places of its text.
+-- A use of a target at token `at` behind a chain of calls has the open kinds ks: at a builtin's place are these, and a
+-- call of a def leads to the places of its text.
 abbrev pub Takes : (List ℕ → ℕ → List Kind → Type 0) → Places → List ℕ → ℕ → Target → List Kind → Type 0
 Takes calls kinds chain at (target.Slot t) ks = ⊤
 Takes calls kinds chain at (target.Def t) ks = (js : List Kind) × (kinds chain at ≡ Some js) × calls (at ∷ chain) t ks
 Takes calls kinds chain at (target.Builtin b) ks = kinds chain at ≡ Some ks
 
--- the uses in a text whose own open kinds are given
+-- each use in a text has its kinds at the places behind a chain of calls, where the text's own open kinds are given
 abbrev pub TextTakes : (List ℕ → ℕ → List Kind → Type 0) → Places → List ℕ → List Kind → List Use → Type 0
 TextTakes calls kinds chain given [] = ⊤
 TextTakes calls kinds chain given (u ∷ us) = ((ks : List Kind) × (kinds_of given u.kinds ≡ Some ks)
     × Takes calls kinds chain u.at u.target ks) × TextTakes calls kinds chain given us
 
--- the places behind a chain that ends in a call of a def, whose open kinds are these
+-- the places behind a chain that ends in a call of the def at token t, with the open kinds ks, have the kinds of the
+-- uses in its text; of a def that is not among the texts there is no call
 abbrev pub CallTakes : Texts → Places → List ℕ → ℕ → List Kind → Type 0
 CallTakes [] kinds chain t ks = ⊥
 CallTakes (x ∷ xs) kinds chain t ks =
@@ -117,6 +128,7 @@ CallTakes (x ∷ xs) kinds chain t ks =
       | false ↦ CallTakes xs kinds chain t ks
     ]
 
+-- each use that was found has its kinds at the places, under an assignment
 abbrev pub EachTakes : Texts → Places → Assignment → List Found → Type 0
 EachTakes xs kinds a [] = ⊤
 EachTakes xs kinds a (f ∷ fs) = Takes (CallTakes xs kinds) kinds [] f.at f.target (map (kind_meaning a) f.kinds)
@@ -126,44 +138,53 @@ EachTakes xs kinds a (f ∷ fs) = Takes (CallTakes xs kinds) kinds [] f.at f.tar
 abbrev pub AreFound : Env → Assignment → Places → List Found → Type 0
 AreFound env a kinds fs = EachTakes (texts_under a env.before) kinds a fs
 
--- with one more use
+-- the uses with one more, of this target at token `at` with these kinds
 abbrev pub with_use : List Found → ℕ → Target → List KindTerm → List Found
 with_use fs at t ks = fs ++ record { at = at; target = t; kinds = ks } ∷ []
 
 -- ---- over the variables of a substitution
 
+-- a kind term has only variables of the substitution
 abbrev pub IsKindOver : Table → KindTerm → Type 0
 IsKindOver s k = InKind (λ n. n < length s.kinds) k
 
+-- each kind term has only variables of the substitution
 abbrev pub AreKindsOver : Table → List KindTerm → Type 0
 AreKindsOver s [] = ⊤
 AreKindsOver s (k ∷ ks) = IsKindOver s k × AreKindsOver s ks
 
+-- the kinds of each use that was found have only variables of the substitution
 abbrev pub AreUsesOver : Table → List Found → Type 0
 AreUsesOver s [] = ⊤
 AreUsesOver s (f ∷ fs) = AreKindsOver s f.kinds × AreUsesOver s fs
 
+-- a pending kind has only variables of the substitution
 abbrev pub IsPendingOver : Table → Pending → Type 0
 IsPendingOver s (of_term k) = IsKindOver s k
 IsPendingOver s (of_def j) = ⊤
 
+-- each pending kind has only variables of the substitution
 abbrev pub ArePendingOver : Table → List Pending → Type 0
 ArePendingOver s [] = ⊤
 ArePendingOver s (k ∷ ks) = IsPendingOver s k × ArePendingOver s ks
 
+-- the kinds of each use in a text have only variables of the substitution
 abbrev pub IsTextOver : Table → List TextUse → Type 0
 IsTextOver s [] = ⊤
 IsTextOver s (u ∷ us) = ArePendingOver s u.kinds × IsTextOver s us
 
+-- the types of values and the kinds in the texts of defs have only variables of the substitution
 abbrev pub AreKnownOver : Table → List Known → Type 0
 AreKnownOver s [] = ⊤
 AreKnownOver s (value t u ∷ ks) = IsOver s u × AreKnownOver s ks
 AreKnownOver s (function d us ∷ ks) = IsTextOver s us × AreKnownOver s ks
 
+-- the types of parameters and inner bindings have only variables of the substitution
 abbrev pub AreTypesOver : Table → List (ℕ × Term) → Type 0
 AreTypesOver s [] = ⊤
 AreTypesOver s (x ∷ xs) = IsOver s x.1 × AreTypesOver s xs
 
+-- all types and kinds that are seen have only variables of the substitution
 pub record IsEnvOver (s : Table) (env : Env) : Type 0 where
   pub before : AreKnownOver s env.before
   pub inner : AreTypesOver s env.inner

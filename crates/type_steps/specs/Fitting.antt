@@ -8,23 +8,24 @@ use Rattle.name_scope.specs.Seen.{left_of, seen_label}
 use Rattle.name_scope.specs.declared.labels.Labels.{Labels}
 use Rattle.type_steps.specs.declared.arguments.Argument.{Argument}
 
--- an argument as its label and its variable
+-- an argument as its label and its type variable
 abbrev pub seen_argument : Argument → GivenArgument ℕ
 seen_argument g = (seen_label g.label, g.var)
 
--- A parameter takes an argument of its type, or takes none and need not.
+-- A parameter of type t takes an argument of this type, or it takes none and need not have one.
 abbrev pub FitsOne : Parameter → Option Ground → Ground → Type 0
 FitsOne p None t = is_needed p.form ≡ false
 FitsOne p (Some g) t = g ≡ t
 
+-- a type variable, if there is one, is one of the substitution
 abbrev pub IsInside : Table → Option ℕ → Type 0
 IsInside s None = ⊤
 IsInside s (Some n) = n < length s.types
 
--- the variable of the argument at a place
+-- the type variable of the argument at index i; 0 if there is none
 abbrev pub var_at : List Argument → ℕ → ℕ
 var_at gs i = get_or (map (λ g. g.var) gs) i 0
 
--- the arguments that are left in a table of the labels of these
+-- the arguments gs that are left in a table of their labels
 abbrev pub left_given : List Argument → Labels → List (GivenArgument ℕ)
 left_given gs t = map (on (var_at gs)) (left_of t)

@@ -21,17 +21,20 @@ pub record Reached (s s' : Table) (a : Assignment) (Q : Assignment → Type 0) :
   pub agrees : Agrees s a at
   pub holds : Q at
 
--- the type and the uses that are found, at an assignment
+-- at an assignment, the term u is the type g and the uses fs have their kinds at the places
 abbrev pub FoundAs : Env → Places → Term → Ground → List Found → Assignment → Type 0
 FoundAs env kinds u g fs b = (meaning b u ≡ g) × AreFound env b kinds fs
 
+-- at an assignment, the uses fs have their kinds at the places
 abbrev pub Uses : Env → Places → List Found → Assignment → Type 0
 Uses env kinds fs b = AreFound env b kinds fs
 
+-- at an assignment, the terms us are the types gs and the uses fs have their kinds at the places
 abbrev pub AllAs : Env → Places → Terms → Grounds → List Found → Assignment → Type 0
 AllAs env kinds us gs fs b = (meanings b us ≡ gs) × AreFound env b kinds fs
 
--- From s to s' an expression was found to have the type u, and the uses in its text came to those known before it.
+-- The expression e has the type u in s', which follows from s; the uses in its text were added to `old`, which gives
+-- `new`.
 pub record Infers (s s' : Table) (env : Env) {r : Sort} (e : Tree r) (u : Term) (old new : List Found) : Type 0 where
   pub over : IsOver s' u
   pub uses : AreUsesOver s' new
@@ -42,12 +45,13 @@ pub record Infers (s s' : Table) (env : Env) {r : Sort} (e : Tree r) (u : Term) 
       → AreFound env a kinds old →
       Reached s s' a (FoundAs env kinds u g new)
 
--- at no solution, with the kinds at the places that the uses so far say, the expression has a type
+-- at no solution of s, with kinds at the places as the old uses say, the expression has a type
 abbrev pub HasNoType : Table → Env → {r : Sort} → Tree r → List Found → Type 0
 HasNoType s env e old = (a : Assignment) → Solves a s → (kinds : Places) (g : Ground)
     → Has (sight_under env a kinds) e g → AreFound env a kinds old → ⊥
 
--- the same of several expressions of the one type u
+-- Several expressions all have the type u in s', which follows from s; the uses in their texts were added to `old`,
+-- which gives `new`.
 pub record InfersEach (s s' : Table) (env : Env) {r : Sort} (es : Tree (Many r)) (u : Term)
     (old new : List Found) : Type 0 where
   pub uses : AreUsesOver s' new
@@ -58,11 +62,13 @@ pub record InfersEach (s s' : Table) (env : Env) {r : Sort} (es : Tree (Many r))
       → AreFound env a kinds old →
       Reached s s' a (Uses env kinds new)
 
+-- at no solution of s, with kinds at the places as the old uses say, these expressions all have the type u
 abbrev pub HaveNoType : Table → Env → {r : Sort} → Tree (Many r) → Term → List Found → Type 0
 HaveNoType s env es u old = (a : Assignment) → Solves a s → (kinds : Places)
     → EachHas (sight_under env a kinds) es (meaning a u) → AreFound env a kinds old → ⊥
 
--- the same of several expressions, each of its own type
+-- Several expressions have the types us in s', each its own; the uses in their texts were added to `old`, which gives
+-- `new`.
 pub record InfersAll (s s' : Table) (env : Env) (es : Tree (Many AFull)) (us : Terms) (old new : List Found) : Type 0
   where
     pub over : IsOver s' (tuple_term us)
@@ -74,23 +80,27 @@ pub record InfersAll (s s' : Table) (env : Env) (es : Tree (Many AFull)) (us : T
         → HaveAll (sight_under env a kinds) es gs → AreFound env a kinds old →
         Reached s s' a (AllAs env kinds us gs new)
 
+-- at no solution of s, with kinds at the places as the old uses say, these expressions all have types
 abbrev pub HaveNoTypes : Table → Env → Tree (Many AFull) → List Found → Type 0
 HaveNoTypes s env es old = (a : Assignment) → Solves a s → (kinds : Places) (gs : Grounds)
     → HaveAll (sight_under env a kinds) es gs → AreFound env a kinds old → ⊥
 
--- the arguments of a call by their labels and the variables that are their types
+-- the arguments of a call by label, each with the type that its variable has under an assignment
 abbrev pub given_under : Assignment → List (GivenArgument ℕ) → List (GivenArgument Ground)
 given_under a gs = map (λ g. (g.0, a.type_of g.1)) gs
 
+-- at an assignment, the arguments gs have the types in hs and the uses fs have their kinds at the places
 abbrev pub GivenAs : Env → Places → List (GivenArgument ℕ) → List (GivenArgument Ground) → List Found → Assignment
     → Type 0
 GivenAs env kinds gs hs fs b = (given_under b gs ≡ hs) × AreFound env b kinds fs
 
+-- the type variable of each argument is one of the substitution
 abbrev pub AreInside : Table → List (GivenArgument ℕ) → Type 0
 AreInside s [] = ⊤
 AreInside s (g ∷ gs) = (g.1 < length s.types) × AreInside s gs
 
--- the same of arguments
+-- The arguments es of a call have the labels and type variables gs in s'; the uses in their texts were added to `old`,
+-- which gives `new`.
 pub record InfersGiven (s s' : Table) (env : Env) (es : Tree (Many AnArg)) (gs : List (GivenArgument ℕ))
     (old new : List Found) : Type 0 where
   pub over : AreInside s' gs
@@ -102,47 +112,49 @@ pub record InfersGiven (s s' : Table) (env : Env) (es : Tree (Many AnArg)) (gs :
       → AreGiven (sight_under env a kinds) es hs → AreFound env a kinds old →
       Reached s s' a (GivenAs env kinds gs hs new)
 
+-- at no solution of s, with kinds at the places as the old uses say, these arguments all have types
 abbrev pub HaveNoGiven : Table → Env → Tree (Many AnArg) → List Found → Type 0
 HaveNoGiven s env es old = (a : Assignment) → Solves a s → (kinds : Places) (hs : List (GivenArgument Ground))
     → AreGiven (sight_under env a kinds) es hs → AreFound env a kinds old → ⊥
 
 -- ---- a fact of types that is made to hold
 
--- the solutions of s' are those of s at which C holds
+-- from s to s' the condition C was made to hold: the solutions of s' are those of s at which C holds
 pub record Restricts (s s' : Table) (C : Assignment → Type 0) : Type 0 where
   pub follows : Follows s s'
   pub sound : (a : Assignment) → Solves a s' → C a
   pub complete : (a : Assignment) → Solves a s → C a → (b : Assignment) × Solves b s' × Agrees s a b
 
--- C holds at no solution
+-- the condition C holds at no solution of s
 abbrev pub Never : Table → (Assignment → Type 0) → Type 0
 Never s C = (a : Assignment) → Solves a s → C a → ⊥
 
--- whether C could be made to hold
+-- C was made to hold from s to s' if the answer is true; if it is false, C holds at no solution of s
 abbrev pub IsMade : Bool → Table → Table → (Assignment → Type 0) → Type 0
 IsMade true s s' C = Restricts s s' C
 IsMade false s s' C = Never s C
 
--- variable n is new, and bound to t
+-- type variable n of s' is bound to the term t, and s' follows from s with no solution lost
 pub record Defines (s s' : Table) (n : ℕ) (t : Term) : Type 0 where
   pub inside : n < length s'.types
   pub follows : Follows s s'
   pub sound : (a : Assignment) → Solves a s' → a.type_of n ≡ meaning a t
   pub complete : (a : Assignment) → Solves a s → (b : Assignment) × Solves b s' × Agrees s a b
 
--- a fact that is asked for where there are any
+-- P is asked for only if there are any more operands
 abbrev pub IfMany : ℕ → Type 0 → Type 0
 IfMany zero P = ⊤
 IfMany (suc n) P = P
 
 -- ---- calls
 
+-- each term has only variables of the substitution
 abbrev pub AreTermsOver : Table → List Term → Type 0
 AreTermsOver s [] = ⊤
 AreTermsOver s (t ∷ ts) = IsOver s t × AreTermsOver s ts
 
--- What a name may call at a token: the calls are those with arguments that match parameters ps of types ts, a result g
--- and open kinds ks, for the ts, g and ks that I says.
+-- What t means at token `at` may be called: its calls are those whose arguments match parameters ps of types ts, with a
+-- result g and open kinds ks, for all ts, g and ks that I allows.
 pub record IsCallable (s : Table) (env : Env) (at : ℕ) (t : Target) (ps : List Parameter) (I : Assignment → List Ground
     → Ground → List Kind → Type 0) : Type 0 where
   pub calls : (a : Assignment) → Solves a s
@@ -154,7 +166,8 @@ pub record IsCallable (s : Table) (env : Env) (at : ℕ) (t : Target) (ps : List
       (ts : List Ground) × (ks : List Kind) × Matched ps gs ts × I a ts g ks
       × Takes (CallTakes (texts_under a env.before) kinds) kinds [] at t ks
 
--- from s to s' what may be called was given these types and kinds
+-- from s to s' new variables were given: us are the types of the parameters, v that of the result, ws the open kinds,
+-- and I says which they may be
 pub record IsInstantiated (s s' : Table) (I : Assignment → List Ground → Ground → List Kind
     → Type 0) (us : List Term) (v : Term) (ws : List KindTerm) : Type 0 where
   pub params : AreTermsOver s' us
@@ -166,32 +179,35 @@ pub record IsInstantiated (s s' : Table) (I : Assignment → List Ground → Gro
       (b : Assignment) × Solves b s' × Agrees s a b × (map (meaning b) us ≡ ts) × (meaning b v ≡ g)
       × (map (kind_meaning b) ws ≡ ks)
 
--- no call of what a name means
+-- at no solution of s, no call at token `at` of what a name means there has a type
 abbrev pub HasNoCall : Table → Env → ℕ → Target → Type 0
 HasNoCall s env at t = (a : Assignment) → Solves a s → (kinds : Places) (gs : List (GivenArgument Ground)) (g : Ground)
     → Applied (sight_under env a kinds) at (Some t) gs g → ⊥
 
 -- ---- what is answered: a variable, or nothing where there is no type
 
+-- by an answer: e has the type variable n as its type, or without a number no type at all
 abbrev pub IsTypeOf : Table → Table → Env → {r : Sort} → Tree r → List Found → List Found → Option ℕ → Type 0
 IsTypeOf s s' env e old new None = HasNoType s env e old
 IsTypeOf s s' env e old new (Some n) = Infers s s' env e (variable n) old new
 
--- whether expressions have the type that is a variable
+-- whether expressions were all made to have type variable n as their type
 abbrev pub AreJoined : Table → Table → Env → {r : Sort} → Tree (Many r) → ℕ → List Found → List Found → Bool → Type 0
 AreJoined s s' env es n old new false = HaveNoType s env es (variable n) old
 AreJoined s s' env es n old new true = InfersEach s s' env es (variable n) old new
 
+-- by an answer: expressions have these type variables as their types, or without an answer not all have types
 abbrev pub AreTypesOf : Table → Table → Env → Tree (Many AFull) → List Found → List Found → Option (List ℕ) → Type 0
 AreTypesOf s s' env es old new None = HaveNoTypes s env es old
 AreTypesOf s s' env es old new (Some ns) = InfersAll s s' env es (terms_of (map variable ns)) old new
 
+-- by an answer: arguments have these labels and type variables, or without an answer not all have types
 abbrev pub AreGivenOf : Table → Table → Env → Tree (Many AnArg) → List Found → List Found
     → Option (List (GivenArgument ℕ)) → Type 0
 AreGivenOf s s' env es old new None = HaveNoGiven s env es old
 AreGivenOf s s' env es old new (Some gs) = InfersGiven s s' env es gs old new
 
--- the number where the answer is yes
+-- the number n if the answer is true, and otherwise nothing
 abbrev pub if_yes : Bool → ℕ → Option ℕ
 if_yes true n = Some n
 if_yes false n = None

@@ -15,7 +15,7 @@ use Rattle.type_steps.specs.Counts.{scheme_count, text_count}
 use Rattle.type_steps.specs.Defs.{IsTypingOf}
 
 -- what a statement has left: a value by its token with its type and the uses in it, a def with the uses in its text, or
--- the uses of what runs
+-- the uses of a call or an `if` that runs
 pub data Done : Type 0 where
   bound : ℕ → Term → List Found → Done
   defined : Tree ADef → List TextUse → Done
@@ -23,24 +23,28 @@ pub data Done : Type 0 where
 
 -- ---- what is known behind statements, the newest first
 
+-- what is known behind a statement that left this
 abbrev pub known_with : Done → List Known → List Known
 known_with (bound t u fs) ks = value t u ∷ ks
 known_with (defined d us) ks = function d us ∷ ks
 known_with (ran fs) ks = ks
 
+-- what is known behind statements that left these, where ks was known before
 abbrev pub known_after : List Known → List Done → List Known
 known_after ks [] = ks
 known_after ks (x ∷ xs) = known_after (known_with x ks) xs
 
+-- what is known behind statements that left these, with nothing before
 abbrev pub known_of : List Done → List Known
 known_of xs = known_after [] xs
 
--- no def of these has its name at the same token
+-- no def among these has its name at the token of the name of d
 abbrev pub IsNewDef : List Known → Tree ADef → Type 0
 IsNewDef [] d = ⊤
 IsNewDef (value t u ∷ ks) d = IsNewDef ks d
 IsNewDef (function e us ∷ ks) d = (def_token e ≢ def_token d) × IsNewDef ks d
 
+-- no two defs among these have their names at one token
 abbrev pub AreApart : List Known → Type 0
 AreApart [] = ⊤
 AreApart (value t u ∷ ks) = AreApart ks
@@ -48,63 +52,74 @@ AreApart (function d us ∷ ks) = IsNewDef ks d × AreApart ks
 
 -- ---- the uses of statements
 
+-- the uses outside of defs that a statement has left
 abbrev pub founds_of : Done → List Found
 founds_of (bound t u fs) = fs
 founds_of (defined d us) = []
 founds_of (ran fs) = fs
 
+-- the token of a use that was found, with what it means
 abbrev pub found_said : Found → Meaning
 found_said f = (f.at, Some f.target)
 
+-- the token of a use in a text, with what it means
 abbrev pub text_said : TextUse → Meaning
 text_said u = (u.at, Some u.target)
 
+-- a use that was found, with its kinds under an assignment
 abbrev pub found_use : Assignment → Found → Use
 found_use a f = record { at = f.at; target = f.target; kinds = map (λ k. Fixed (kind_meaning a k)) f.kinds }
 
+-- the uses that a statement has left, under an assignment
 abbrev pub uses_in : Assignment → Done → List Use
 uses_in a (bound t u fs) = map (found_use a) fs
 uses_in a (defined d us) = map (settled_use a) us
 uses_in a (ran fs) = map (found_use a) fs
 
+-- all uses that statements have left, under an assignment, in order
 abbrev pub uses_under : Assignment → List Done → List Use
 uses_under a xs = flat_map (uses_in a) xs
 
 -- ---- scripts that go on
 
+-- a script with one more statement at its end
 abbrev pub with_last : Script → Tree AStmt → Script
 with_last none s = more s none
 with_last (more q rest) s = more q (with_last rest s)
 
+-- the scope behind a script that begins in the scope sc
 abbrev pub scope_after : Scope → Script → Scope
 scope_after sc none = sc
 scope_after sc (more s rest) = scope_after (with_statement s sc) rest
 
 -- ---- the typings of statements
 
--- outside of defs the kinds at the places are those of the uses
+-- the uses that statements left outside of defs have their kinds at the places, where ks is known before
 abbrev pub AreTaken : Assignment → Places → List Known → List Done → Type 0
 AreTaken a kinds ks [] = ⊤
 AreTaken a kinds ks (x ∷ xs) = EachTakes (texts_under a ks) kinds a (founds_of x)
     × AreTaken a kinds (known_with x ks) xs
 
+-- the kinds of all uses outside of defs have only variables of the substitution
 abbrev pub AreFoundsOver : Table → List Done → Type 0
 AreFoundsOver s [] = ⊤
 AreFoundsOver s (x ∷ xs) = AreUsesOver s (founds_of x) × AreFoundsOver s xs
 
--- A general type gives the typings of the def, and has as many open kinds as its text.
+-- A general type gives the typings of the def d, and has as many open kinds as the text of d.
 pub record IsDefKnown (s : Table) (targets : Targets) (ks : List Known) (d : Tree ADef) (us : List TextUse) : Type 0
   where
     pub general : Scheme
     pub typing : IsTypingOf s targets ks d general us
     pub numbered : text_count us ≡ Some (scheme_count general)
 
+-- each def among these is known with a general type
 abbrev pub AreDefsKnown : Table → Targets → List Known → Type 0
 AreDefsKnown s targets [] = ⊤
 AreDefsKnown s targets (value t u ∷ ks) = AreDefsKnown s targets ks
 AreDefsKnown s targets (function d us ∷ ks) = IsDefKnown s targets ks d us × AreDefsKnown s targets ks
 
--- The typings of a script are exactly the solutions of the substitution, with kinds at the places as the uses say.
+-- The typings of a script are exactly the solutions of the substitution, with kinds at the places as the uses say;
+-- there is a typing.
 pub record AreTypings (s : Table) (targets : Targets) (script : Script) (xs : List Done) : Type 0 where
   pub some : (a : Assignment) × Solves a s
   pub over : AreKnownOver s (known_of xs)
@@ -115,6 +130,6 @@ pub record AreTypings (s : Table) (targets : Targets) (script : Script) (xs : Li
   pub complete : (kinds : Places) (es : List Entry) → IsTypedTo targets kinds [] script es →
       (a : Assignment) × Solves a s × AreTaken a kinds [] xs × (entries_under a (known_of xs) ≡ es)
 
--- there is no typing
+-- the script has no typing
 abbrev pub HasNoTypings : Targets → Script → Type 0
 HasNoTypings targets script = (kinds : Places) (es : List Entry) → IsTypedTo targets kinds [] script es → ⊥

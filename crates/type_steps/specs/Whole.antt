@@ -8,7 +8,7 @@ use Rattle.type_steps.specs.Environment.{Known}
 use Rattle.type_steps.specs.Counts.{AreCounted, IsTextCounted, text_count}
 use Rattle.type_steps.specs.Statements.{Done, bound, defined, found_said, known_with, ran, text_said}
 
--- this is left of the statement, and its uses are its names
+-- this is what the statement leaves, and its uses are the names in its text, in order
 abbrev pub IsDoneOf : Scope → Tree AStmt → Done → Type 0
 IsDoneOf sc (Stmt (BindPart (Bind at name f)) semicolon) (bound t u fs) = (t ≡ at)
     × (map found_said fs ≡ map meant (names sc f))
@@ -24,23 +24,26 @@ IsDoneOf sc (Stmt (IfPart i) semicolon) (bound t u fs) = ⊥
 IsDoneOf sc (Stmt (IfPart i) semicolon) (defined d us) = ⊥
 IsDoneOf sc (Stmt (IfPart i) semicolon) (ran fs) = map found_said fs ≡ map meant (names sc i)
 
+-- each statement of a script that begins in the scope sc has left its item
 abbrev pub AreDone : Scope → Script → List Done → Type 0
 AreDone sc none [] = ⊤
 AreDone sc none (x ∷ xs) = ⊥
 AreDone sc (more s rest) [] = ⊥
 AreDone sc (more s rest) (x ∷ xs) = IsDoneOf sc s x × AreDone (with_statement s sc) rest xs
 
--- where this is known, each use has as many kinds as what it means has open ones; a def numbers its own as its text
--- names them first
+-- where ks is known, each use has as many kinds as its target has open ones; a def numbers its open kinds in the order
+-- in which its text has them
 abbrev pub IsDoneCounted : List Known → Done → Type 0
 IsDoneCounted ks (bound t u fs) = AreCounted ks fs
 IsDoneCounted ks (defined d us) = ((n : ℕ) × (text_count us ≡ Some n)) × IsTextCounted ks us
 IsDoneCounted ks (ran fs) = AreCounted ks fs
 
+-- each use that statements have left has as many kinds as its target has open ones, where ks is known before
 abbrev pub AreDonesCounted : List Known → List Done → Type 0
 AreDonesCounted ks [] = ⊤
 AreDonesCounted ks (x ∷ xs) = IsDoneCounted ks x × AreDonesCounted (known_with x ks) xs
 
+-- the tokens of a script are in place, and what its statements left has the uses of their names with all kinds
 pub record AreWhole (script : Script) (xs : List Done) : Type 0 where
   pub placed : IsPlaced 0 script
   pub done : AreDone [] script xs

@@ -13,17 +13,18 @@ use name_scope::{Labels, Parameter, is_label, is_needed, label_of};
 use std::alloc::Global;
 use type_terms::{Subst, Ty};
 
-/// So many arguments of a call are looked through for each parameter; more of them by a table.
+/// Up to this many arguments of a call are searched anew for each parameter; of more a table is made.
 const FEW_ARGUMENTS: usize = 16;
 
-/// An argument of a call: its label, and the variable that is its type.
+/// An argument of a call: its label, if it has one, and the number of the type variable that is its type.
 #[derive(Clone, Copy, Debug)]
 pub struct Argument<'a> {
     pub label: Option<&'a str>,
     pub var: u64,
 }
 
-/// Makes the arguments match parameters of these types, if they can.
+/// Makes the arguments match parameters of these types, if they can; false if they cannot. Arguments that are taken may
+/// leave `given`.
 pub fn fit(
     alloc: Global,
     subst: &mut Subst,
@@ -54,7 +55,7 @@ pub fn fit(
     Ok(given.is_empty())
 }
 
-/// The same with many arguments, which are found by a table of their labels.
+/// Makes many arguments match parameters of these types, if they can, by a table of the arguments' labels.
 fn fit_many(
     alloc: Global,
     subst: &mut Subst,
@@ -73,7 +74,7 @@ fn fit_many(
     fit_labelled(alloc, subst, params, types, given, &mut labels)
 }
 
-/// The same with the table of their labels.
+/// Makes the arguments that are left in the table `labels` match parameters of these types, if they can.
 fn fit_labelled(
     alloc: Global,
     subst: &mut Subst,
@@ -101,7 +102,7 @@ fn fit_labelled(
     Ok(labels.is_empty())
 }
 
-/// The labels of arguments, in order.
+/// The labels of arguments, in order; `None` for one without a label.
 fn labels_of<'a>(alloc: Global, given: &[Argument<'a>]) -> Result<Vec<Option<&'a str>>, Memory>
     ensures same { IfOk result (λ ls. map seen_label ls.items ≡ map (λ g. seen_label g.label) given.now) }
 {
@@ -112,7 +113,8 @@ fn labels_of<'a>(alloc: Global, given: &[Argument<'a>]) -> Result<Vec<Option<&'a
     Ok(labels)
 }
 
-/// Takes the first of these arguments with this label, or the first without one, out of the table of their labels.
+/// Takes the first argument left in the table with this label, or the first without one. Returns its type variable;
+/// `None` if there is no such argument.
 fn take_labelled(
     labels: &mut Labels<'_>,
     given: &[Argument<'_>],
@@ -130,7 +132,7 @@ fn take_labelled(
     }
 }
 
-/// The variable of the argument at a place, if there is one.
+/// The type variable of the argument at index `place`; 0 if there is none.
 fn var_of(given: &[Argument<'_>], place: usize) -> u64
     ensures at { result ≡ var_at given.now place }
 {
@@ -140,7 +142,8 @@ fn var_of(given: &[Argument<'_>], place: usize) -> u64
     }
 }
 
-/// Takes out the first argument with this label, or the first without one.
+/// Takes the first argument with this label, or the first without one, out of `given`. Returns its type variable;
+/// `None` if there is no such argument.
 fn take_argument(given: &mut Vec<Argument<'_>>, label: Option<&str>) -> Option<u64>
     ensures taken { result ≡ option_map (λ x. x.0)
         (argument (seen_label label.entry) (map seen_argument given.old.items)) }
@@ -158,7 +161,8 @@ fn take_argument(given: &mut Vec<Argument<'_>>, label: Option<&str>) -> Option<u
     None
 }
 
-/// Makes what a parameter takes have its type, if it can be; or it takes nothing and need not.
+/// Makes the type variable `taken`, that of a parameter's argument, have the parameter's type; false if it cannot.
+/// Without an argument it is true if the parameter need not have one.
 fn fit_one(
     alloc: Global,
     subst: &mut Subst,
@@ -177,7 +181,7 @@ fn fit_one(
     }
 }
 
-/// The parameter at an index.
+/// Parameter `i` of these, counted from 0.
 fn param_at<'a>(params: &[Parameter<'a>], i: usize) -> Parameter<'a>
     requires inside { i < length params.now }
     ensures at { result ≡ get_or params.now i result }

@@ -11,7 +11,7 @@ use liq_base::Memory;
 use std::alloc::Global;
 use type_terms::{Subst, Ty, unify};
 
-/// Makes a variable a type, if it can be.
+/// Binds type variable `n` to a type, if it can be; false if they clash.
 pub fn is_type(alloc: Global, subst: &mut Subst, n: u64, ty: &Ty) -> Result<bool, Memory>
     requires inside { n < length subst.old.types }
     requires over { IsOver subst.old (term_of ty.now) }
@@ -21,7 +21,7 @@ pub fn is_type(alloc: Global, subst: &mut Subst, n: u64, ty: &Ty) -> Result<bool
     unify(alloc, subst, &variable, ty)
 }
 
-/// Makes two variables the same, if they can be.
+/// Makes two type variables the same, if they can be; false if they clash.
 pub fn same(alloc: Global, subst: &mut Subst, left: u64, right: u64) -> Result<bool, Memory>
     requires left { left < length subst.old.types }
     requires right { right < length subst.old.types }
@@ -31,7 +31,7 @@ pub fn same(alloc: Global, subst: &mut Subst, left: u64, right: u64) -> Result<b
     is_type(alloc, subst, left, &right)
 }
 
-/// Makes a variable bool, if it can be.
+/// Makes type variable `n` bool, if it can be.
 pub fn is_truth(alloc: Global, subst: &mut Subst, n: u64) -> Result<bool, Memory>
     requires inside { n < length subst.old.types }
     ensures { IfOk result (λ yes. IsMade yes subst.old subst.new (λ a. a.type_of n ≡ truth)) }
@@ -39,7 +39,7 @@ pub fn is_truth(alloc: Global, subst: &mut Subst, n: u64) -> Result<bool, Memory
     is_type(alloc, subst, n, &Ty::Bool)
 }
 
-/// A new variable: one that can only be int or decimal, where `number` is true.
+/// The number of a new type variable, which can only be int or decimal if `number` is true.
 pub fn new_var(subst: &mut Subst, number: bool) -> Result<u64, Memory>
     ensures { IfOk result (λ n. HasNewType subst.old subst.new (IsTrue number) n) }
 {
@@ -50,7 +50,7 @@ pub fn new_var(subst: &mut Subst, number: bool) -> Result<u64, Memory>
     }
 }
 
-/// Makes a variable int or decimal, if it can be.
+/// Makes type variable `n` int or decimal, if it can be.
 pub fn is_number(alloc: Global, subst: &mut Subst, n: u64) -> Result<bool, Memory>
     requires inside { n < length subst.old.types }
     ensures { IfOk result (λ yes. IsMade yes subst.old subst.new (λ a. IsNumber (a.type_of n))) }
@@ -60,7 +60,7 @@ pub fn is_number(alloc: Global, subst: &mut Subst, n: u64) -> Result<bool, Memor
     Ok(yes)
 }
 
-/// A new variable that is bound to a type.
+/// The number of a new type variable that is bound to a type.
 pub fn new_type(subst: &mut Subst, ty: Ty) -> Result<u64, Memory>
     requires over { IsOver subst.old (term_of ty) }
     ensures { IfOk result (λ n. Defines subst.old subst.new n (term_of ty)) }
@@ -69,7 +69,7 @@ pub fn new_type(subst: &mut Subst, ty: Ty) -> Result<u64, Memory>
     Ok(n)
 }
 
-/// A new variable that is bound to a list of a variable.
+/// The number of a new type variable that is bound to a list; type variable `item` is the type of its items.
 pub fn new_list(alloc: Global, subst: &mut Subst, item: u64) -> Result<u64, Memory>
     requires inside { item < length subst.old.types }
     ensures { IfOk result (λ n. Defines subst.old subst.new n (list_term (variable item))) }
@@ -80,7 +80,7 @@ pub fn new_list(alloc: Global, subst: &mut Subst, item: u64) -> Result<u64, Memo
     Ok(n)
 }
 
-/// A new variable that is bound to a tuple of variables.
+/// The number of a new type variable that is bound to a tuple; these type variables are the types of its parts.
 pub fn new_tuple(alloc: Global, subst: &mut Subst, parts: &[u64]) -> Result<u64, Memory>
     requires over { IsOver subst.old (tuple_term (terms_of (map variable parts.now))) }
     ensures { IfOk result (λ n. Defines subst.old subst.new n (tuple_term (terms_of (map variable parts.now)))) }
@@ -91,7 +91,8 @@ pub fn new_tuple(alloc: Global, subst: &mut Subst, parts: &[u64]) -> Result<u64,
     Ok(n)
 }
 
-/// Makes a variable bool, if it can be, where there are several operands.
+/// Makes type variable `n`, the type of the first operand, bool, if it can be and there are `others` besides; true if
+/// there are none.
 pub fn is_truth_of_many(
     alloc: Global,
     subst: &mut Subst,
@@ -108,7 +109,8 @@ pub fn is_truth_of_many(
     }
 }
 
-/// Makes a variable int or decimal, if it can be, where there are several operands.
+/// Makes type variable `n`, the type of the first operand, int or decimal, if it can be and there are `others` besides;
+/// true if there are none.
 pub fn is_number_of_many(
     alloc: Global,
     subst: &mut Subst,
@@ -125,14 +127,14 @@ pub fn is_number_of_many(
     }
 }
 
-/// A type variable as a type.
+/// The type variable of this number as a type.
 fn var(n: u64) -> Ty
     ensures { term_of result ≡ variable n }
 {
     Ty::Var(n)
 }
 
-/// The variables as types.
+/// These type variables as types.
 fn vars(alloc: Global, parts: &[u64]) -> Result<Vec<Ty>, Memory>
     ensures { IfOk result (λ ts. map term_of ts.items ≡ map variable parts.now) }
 {

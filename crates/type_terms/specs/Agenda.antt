@@ -15,7 +15,7 @@ abbrev pub pairs_of : List (Ty × Ty) → List (Term × Term)
 pairs_of [] = []
 pairs_of (p ∷ ps) = (term_of p.0, term_of p.1) ∷ pairs_of ps
 
--- pairs of variables
+-- pairs of variables, by their numbers
 abbrev pub variable_pairs : List (ℕ × ℕ) → List (Term × Term)
 variable_pairs [] = []
 variable_pairs (p ∷ ps) = (variable p.0, variable p.1) ∷ variable_pairs ps
@@ -24,6 +24,7 @@ variable_pairs (p ∷ ps) = (variable p.0, variable p.1) ∷ variable_pairs ps
 abbrev pub EqualBelow : Assignment → ℕ → Term → Term → Type 0
 EqualBelow a n t u = size (meaning a t) < n + extra t → meaning a t ≡ meaning a u
 
+-- the two of each pair are equal, if the first has fewer than n nodes, or at most n where it is no variable
 abbrev pub AllEqualBelow : Assignment → ℕ → List (Term × Term) → Type 0
 AllEqualBelow a n [] = Unit {0}
 AllEqualBelow a n (p ∷ ps) = EqualBelow a n p.0 p.1 × AllEqualBelow a n ps
@@ -33,6 +34,7 @@ pub record Agenda : Type 0 where
   pub todo : List (Term × Term)
   pub seen : List (Term × Term)
 
+-- the plain data of the pairs to compare, and of the pairs of variables that were taken apart
 abbrev pub agenda : List (Ty × Ty) → List (ℕ × ℕ) → Agenda
 agenda work seen = record { todo = pairs_of work; seen = variable_pairs seen }
 
@@ -44,8 +46,8 @@ agenda_of lists = agenda lists.work.items lists.seen.keys
 abbrev pub empty_agenda : Agenda
 empty_agenda = record { todo = []; seen = [] }
 
--- at each solution the two are equal where the agenda says so, which asks for no more than that and what it asked for
--- before
+-- two types were taken up: at each solution they are equal where the new agenda's pairs are, and these are where the
+-- two types and the old agenda's pairs are
 pub record IsTakenUp (s : Table) (old new : Agenda) (left right : Term) : Type 0 where
   pub over : AllOver s old.todo → AllOver s new.todo
   pub needed : (a : Assignment) → Solves a s → meaning a left ≡ meaning a right → AllEqual a old.todo
@@ -59,13 +61,15 @@ pub record IsTakenUp (s : Table) (old new : Agenda) (left right : Term) : Type 0
   pub learnt : (a : Assignment) (n : ℕ) → Solves a s → AllEqualBelow a n new.todo → AllEqualBelow a n new.seen
       → AllEqualBelow a (suc n) old.seen → AllEqualBelow a (suc n) new.seen
 
+-- a difference is right for two types: they were taken up, they are equal at no solution, or they are equal exactly
+-- where the variable has this value, and the agenda is as it was
 abbrev pub TakesUp : Table → Agenda → Agenda → Term → Term → Difference → Type 0
 TakesUp s old new left right Same = IsTakenUp s old new left right
 TakesUp s old new left right Clash = AreNeverSame s left right
 TakesUp s old new left right (Bind x t) = IsForced s left right x (term_of t.now) × (new ≡ old)
 TakesUp s old new left right (BindKind x t) = IsKindForced s left right x t × (new ≡ old)
 
--- the two were taken up, or differ in shape
+-- two types were taken up, or are equal at no solution
 abbrev pub IsTaken : Table → Agenda → Agenda → Term → Term → Bool → Type 0
 IsTaken s old new left right true = IsTakenUp s old new left right
 IsTaken s old new left right false = AreNeverSame s left right

@@ -6,11 +6,12 @@ use Rattle.type_terms.specs.Term.{Term, meaning}
 use Rattle.type_terms.specs.declared.ty.KindTerm.{KindTerm}
 use Rattle.liq_base.specs.declared.memory.Kind.{Kind}
 
+-- two assignments agree on the variables of a substitution
 pub record Agrees (s : Table) (a b : Assignment) : Type 0 where
   pub types : (k : ℕ) → k < length s.types → a.type_of k ≡ b.type_of k
   pub kinds : (k : ℕ) → k < length s.kinds → a.kind_of k ≡ b.kind_of k
 
--- what variables were bound to they are bound to still
+-- the later substitution binds what the earlier one binds, to the same
 pub record KeepsBound (s s' : Table) : Type 0 where
   pub types : (k : ℕ) (t : Term) → bound_at s.types k ≡ Some t → bound_at s'.types k ≡ Some t
   pub kinds : (k : ℕ) (t : KindTerm) → kind_at s.kinds k ≡ Some t → kind_at s'.kinds k ≡ Some t
@@ -22,7 +23,7 @@ pub record Follows (s s' : Table) : Type 0 where
   pub bound : KeepsBound s s'
   pub solves : (a : Assignment) → Solves a s' → Solves a s
 
--- with a new type variable, which may be anything, or any number
+-- s' is s with the new type variable n, which may be anything, or any number
 pub record HasNewType (s s' : Table) (number : Type 0) (n : ℕ) : Type 0 where
   pub inside : n < length s'.types
   pub follows : Follows s s'
@@ -30,21 +31,21 @@ pub record HasNewType (s s' : Table) (number : Type 0) (n : ℕ) : Type 0 where
   pub each : (a : Assignment) → Solves a s → (g : Ground) → (number → IsNumber g)
       → (b : Assignment) × Solves b s' × Agrees s a b × (b.type_of n ≡ g)
 
--- with a new type variable, which is bound to t
+-- s' is s with the new type variable n, which is bound to t
 pub record HasBoundType (s s' : Table) (n : ℕ) (t : Term) : Type 0 where
   pub inside : n < length s'.types
   pub follows : Follows s s'
   pub exactly : (a : Assignment) → Solves a s' ↔ (Solves a s × (a.type_of n ≡ meaning a t))
   pub each : (a : Assignment) → Solves a s → (b : Assignment) × Solves b s' × Agrees s a b
 
--- with a new kind variable, which may be either kind
+-- s' is s with the new kind variable n, which may be either kind
 pub record HasNewKind (s s' : Table) (n : ℕ) : Type 0 where
   pub inside : n < length s'.kinds
   pub follows : Follows s s'
   pub each : (a : Assignment) → Solves a s → (k : Kind)
       → (b : Assignment) × Solves b s' × Agrees s a b × (b.kind_of n ≡ k)
 
--- no variable is new or changed whether it is a number variable, and bound ones are bound still
+-- the new substitution has the old one's variables and number variables, and binds what that one binds
 pub record SameVariables (old new : Table) : Type 0 where
   pub types : length new.types ≡ length old.types
   pub kinds : length new.kinds ≡ length old.kinds

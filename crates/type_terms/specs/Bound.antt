@@ -2,6 +2,6 @@
 use Rattle.type_terms.specs.Table.{Table, table}
 use Rattle.type_terms.specs.declared.table.Bindings.{Bindings}
 
--- the substitution, without the marks
+-- the substitution that bindings are, without the marks
 abbrev pub table_of : Bindings → Table
 table_of b = table b.types.items b.kinds.items

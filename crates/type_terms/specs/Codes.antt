@@ -13,24 +13,29 @@ use Rattle.liq_base.specs.declared.memory.Kind.TheVariants.{Mono, Stereo}
 use Rattle.type_terms.specs.declared.ty.KindTerm.{KindTerm}
 use Rattle.type_terms.specs.declared.ty.KindTerm.TheVariants.{Fixed, Var}
 
+-- a kind term as a tree of numbers
 abbrev pub tree_of_kind : KindTerm → Gv
 tree_of_kind (Fixed Mono) = gcons (gnum 0) (gnum 0)
 tree_of_kind (Fixed Stereo) = gcons (gnum 0) (gnum 1)
 tree_of_kind (Var n) = gnum n
 
+-- the kind term that has this tree
 abbrev pub kind_of_tree : Gv → KindTerm
 kind_of_tree (gcons a (gnum zero)) = Fixed Mono
 kind_of_tree (gcons a b) = Fixed Stereo
 kind_of_tree g = Var (num g)
 
+-- a kind term comes back from its tree
 pub kind_of_tree_of : (k : KindTerm) → kind_of_tree (tree_of_kind k) ≡ k
 kind_of_tree_of (Fixed Mono) = refl
 kind_of_tree_of (Fixed Stereo) = refl
 kind_of_tree_of (Var n) = refl
 
+-- kind terms code to trees of numbers
 abbrev pub kind_code : Coded KindTerm
 kind_code = code_by Gv itself tree_of_kind kind_of_tree kind_of_tree_of
 
+-- the number of a base type
 abbrev pub number_of_base : Base → ℕ
 number_of_base Int = 0
 number_of_base Decimal = 1
@@ -40,6 +45,7 @@ number_of_base UnitType = 4
 number_of_base Format = 5
 number_of_base Pred = 6
 
+-- the base type that has this number
 abbrev pub base_of_number : ℕ → Base
 base_of_number zero = Int
 base_of_number (suc zero) = Decimal
@@ -49,6 +55,7 @@ base_of_number (suc (suc (suc (suc zero)))) = UnitType
 base_of_number (suc (suc (suc (suc (suc zero))))) = Format
 base_of_number _ = Pred
 
+-- a base type comes back from its number
 pub base_of_number_of : (b : Base) → base_of_number (number_of_base b) ≡ b
 base_of_number_of Int = refl
 base_of_number_of Decimal = refl
@@ -95,9 +102,11 @@ mutual
   of_trees_of no_terms = refl
   of_trees_of (one_more t ts) = ap₂ one_more (of_tree_of t) (of_trees_of ts)
 
+-- terms code to trees of numbers
 abbrev pub term_code : Coded Term
 term_code = code_by Gv itself tree_of of_tree of_tree_of
 
+-- a type variable as a pair, which codes to numbers
 abbrev pub variable_code : Coded Variable
 variable_code =
     code_by (Bool × Option Term) (coded× coded_bool (coded_option term_code)) (λ v. (v.number, v.bound)) (λ p. record {
@@ -105,6 +114,7 @@ variable_code =
       bound = p.1;
     }) (λ _. refl)
 
+-- a substitution as a pair of lists, which codes to numbers
 abbrev pub table_code : Coded Table
 table_code =
     code_by (List Variable × List (Option KindTerm))

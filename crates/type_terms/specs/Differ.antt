@@ -14,7 +14,7 @@ use Rattle.type_terms.specs.declared.differ.Difference.TheVariants.{Same, Clash,
 abbrev pub AreSame : Table → Term → Term → Type 0
 AreSame s left right = (a : Assignment) → Solves a s → meaning a left ≡ meaning a right
 
--- they are at none
+-- the two are equal at no solution
 abbrev pub AreNeverSame : Table → Term → Term → Type 0
 AreNeverSame s left right = (a : Assignment) → Solves a s → meaning a left ≢ meaning a right
 
@@ -28,7 +28,7 @@ pub record IsForced (s : Table) (left right : Term) (x : ℕ) (t : Term) : Type 
   pub forced : (a : Assignment) → Solves a s → meaning a left ≡ meaning a right → a.type_of x ≡ meaning a t
   pub enough : (a : Assignment) → Solves a s → a.type_of x ≡ meaning a t → meaning a left ≡ meaning a right
 
--- the same of a kind variable
+-- the two are equal exactly where the free kind variable x is t, to which it may be bound
 pub record IsKindForced (s : Table) (left right : Term) (x : ℕ) (t : KindTerm) : Type 0 where
   pub inside : x < length s.kinds
   pub free : kind_at s.kinds x ≡ None
@@ -36,13 +36,15 @@ pub record IsKindForced (s : Table) (left right : Term) (x : ℕ) (t : KindTerm)
   pub forced : (a : Assignment) → Solves a s → meaning a left ≡ meaning a right → a.kind_of x ≡ kind_meaning a t
   pub enough : (a : Assignment) → Solves a s → a.kind_of x ≡ kind_meaning a t → meaning a left ≡ meaning a right
 
+-- a difference is right for two types: they are equal at each solution, at none, or exactly where the variable has this
+-- value
 abbrev pub Settles : Table → Term → Term → Difference → Type 0
 Settles s left right Same = AreSame s left right
 Settles s left right Clash = AreNeverSame s left right
 Settles s left right (Bind x t) = IsForced s left right x (term_of t.now)
 Settles s left right (BindKind x t) = IsKindForced s left right x t
 
--- int or decimal
+-- a base type, if there is one, is int or decimal
 abbrev pub is_number_base : Option Base → Bool
 is_number_base (Some Int) = true
 is_number_base (Some Decimal) = true

@@ -7,7 +7,7 @@ use Rattle.liq_base.specs.declared.memory.Kind.TheVariants.{Mono, Stereo}
 use Rattle.type_terms.specs.declared.ty.KindTerm.{KindTerm}
 use Rattle.type_terms.specs.Table.{Table, Solves, bound_at, kind_at}
 
--- a solution that is as meaning at every free variable
+-- a solves s, and is as p at every variable that is bound to nothing
 pub record Extends (s : Table) (p a : Assignment) : Type 0 where
   pub solves : Solves a s
   pub types : (k : ℕ) → bound_at s.types k ≡ None → a.type_of k ≡ p.type_of k

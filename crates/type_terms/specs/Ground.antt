@@ -22,7 +22,7 @@ pub record Assignment : Type 0 where
   pub type_of : ℕ → Ground
   pub kind_of : ℕ → Kind
 
--- int or decimal
+-- a base type is int or decimal
 abbrev pub IsNumberBase : Base → Type 0
 IsNumberBase Int = Unit {0}
 IsNumberBase Decimal = Unit {0}

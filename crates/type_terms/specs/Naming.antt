@@ -18,12 +18,13 @@ abbrev mutual
   all_type_variables no_terms = []
   all_type_variables (one_more t ts) = type_variables t ++ all_type_variables ts
 
+-- the number of the variable that a kind term is, if it is one
 abbrev pub variable_of_kind : KindTerm → List ℕ
 variable_of_kind (Fixed k) = []
 variable_of_kind (Var n) = n ∷ []
 
 abbrev mutual
-  -- the same of its kind variables
+  -- the kind variables of a type, in the order in which they stand and as often
   pub kind_variables : Term → List ℕ
   kind_variables (base_term b) = []
   kind_variables (list_term t) = kind_variables t
@@ -35,6 +36,7 @@ abbrev mutual
   all_kind_variables no_terms = []
   all_kind_variables (one_more t ts) = kind_variables t ++ all_kind_variables ts
 
+-- a number, or n where there is none
 abbrev pub number_or : ℕ → Option ℕ → ℕ
 number_or n None = n
 number_or n (Some m) = m
@@ -43,6 +45,7 @@ number_or n (Some m) = m
 abbrev pub new_number : List ℕ → ℕ → ℕ
 new_number news n = number_or n (slice_get news n)
 
+-- the kind term in which a variable has its new number
 abbrev pub kind_instance : List ℕ → KindTerm → KindTerm
 kind_instance news (Fixed k) = Fixed k
 kind_instance news (Var n) = Var (new_number news n)
@@ -60,7 +63,7 @@ abbrev mutual
   instances types kinds no_terms = no_terms
   instances types kinds (one_more t ts) = one_more (instance types kinds t) (instances types kinds ts)
 
--- each variable is what `a` makes of its new number
+-- the assignment that gives each variable what `a` gives to its new number
 abbrev pub behind : List ℕ → List ℕ → Assignment → Assignment
 behind types kinds a = record {
   type_of = λ n. a.type_of (new_number types n);

@@ -28,7 +28,7 @@ pub record IsNarrowed (left right : Term) (old new : Table) (marks marks' : List
   pub kept : (a : Assignment) → Solves a old → meaning a left ≡ meaning a right → Solves a new
   pub same_variables : SameVariables old new
 
--- the same of all that variables are bound to, with its marks
+-- the new bindings and their marks are sound, and solutions were lost only where the two differ
 abbrev pub Narrows : Term → Term → Bindings → Bindings → Type 0
 Narrows left right old new = IsNarrowed left right (table_of old) (table_of new) old.nested.items new.nested.items
 
@@ -46,7 +46,7 @@ pub record IsTrailed (old new : Table) (trail trail' : Trail) : Type 0 where
   pub told : (s : Table) → Tells trail s old → Tells trail' s new
   pub free : free_count new + trail_len trail' ≡ free_count old + trail_len trail
 
--- whether the two are the same now
+-- an answer is right: the two are equal at each solution, or at none
 abbrev pub IsAnswer : Table → Term → Term → Bool → Type 0
 IsAnswer s left right true = AreSame s left right
 IsAnswer s left right false = AreNeverSame s left right

@@ -8,10 +8,12 @@ use Rattle.type_terms.specs.Variables.{Variable}
 use Rattle.type_terms.specs.Table.{Table, IsSound, bound_at}
 use Rattle.type_terms.specs.declared.ty.Ty.{Ty}
 
+-- a mark, where there is one
 abbrev pub mark_in : Option Bool → Bool
 mark_in None = false
 mark_in (Some b) = b
 
+-- whether variable k is marked
 abbrev pub mark_at : List Bool → ℕ → Bool
 mark_at marks k = mark_in (slice_get marks k)
 
@@ -24,12 +26,12 @@ pub record AreMarked (vs : List Variable) (marks : List Bool) : Type 0 where
   pub enough : length vs ≤ length marks
   pub marked : (k : ℕ) (t : Term) → bound_at vs k ≡ Some t → IsMarked marks t
 
--- what holds of a substitution and its marks
+-- a substitution is sound, and its marks are right
 pub record IsWhole (s : Table) (marks : List Bool) : Type 0 where
   pub sound : IsSound s
   pub marked : AreMarked s.types marks
 
--- what holds of a substitution with its marks and the number of its free variables
+-- a substitution is sound, its marks are right, and so is the number of its free variables
 pub record IsKept (s : Table) (marks : List Bool) (free : ℕ) : Type 0 where
   pub whole : IsWhole s marks
   pub counted : free ≡ free_count s
@@ -43,14 +45,17 @@ abbrev pub terms : List (Bor Ty) → List Term
 terms [] = []
 terms (p ∷ ps) = term_of p.now ∷ terms ps
 
+-- the parts of a tuple, as a list
 abbrev pub parts : Terms → List Term
 parts no_terms = []
 parts (one_more t ts) = t ∷ parts ts
 
+-- what a variable is bound to, as a list of one term or none
 abbrev pub bound_list : Option Term → List Term
 bound_list None = []
 bound_list (Some t) = t ∷ []
 
+-- what a variable is bound to, as a list, if that is asked for
 abbrev pub reached_by : Bool → Option Term → List Term
 reached_by true o = bound_list o
 reached_by false o = []

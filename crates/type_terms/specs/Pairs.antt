@@ -11,14 +11,17 @@ abbrev pub pairs : List (Bor Ty × Bor Ty) → List (Term × Term)
 pairs [] = []
 pairs (p ∷ ps) = (term_of p.0.now, term_of p.1.now) ∷ pairs ps
 
+-- the two of each pair are equal under an assignment
 abbrev pub AllEqual : Assignment → List (Term × Term) → Type 0
 AllEqual a [] = Unit {0}
 AllEqual a (p ∷ ps) = (meaning a p.0 ≡ meaning a p.1) × AllEqual a ps
 
+-- the variables of each pair are there
 abbrev pub AllOver : Table → List (Term × Term) → Type 0
 AllOver s [] = Unit {0}
 AllOver s (p ∷ ps) = (IsOver s p.0 × IsOver s p.1) × AllOver s ps
 
+-- the parts of two tuples side by side, as far as both go
 abbrev pub zipped : Terms → Terms → List (Term × Term)
 zipped no_terms us = []
 zipped (one_more t ts) no_terms = []
@@ -30,6 +33,7 @@ parts_of (list_term t) (list_term u) = (t, u) ∷ []
 parts_of (tuple_term ts) (tuple_term us) = zipped ts us
 parts_of _ _ = []
 
+-- how many parts a tuple has
 abbrev pub part_count : Terms → ℕ
 part_count no_terms = 0
 part_count (one_more t ts) = suc (part_count ts)

@@ -4,6 +4,7 @@ use Rattle.type_terms.specs.Term.{Term, height}
 use Rattle.type_terms.specs.Variables.{Variable}
 use Rattle.type_terms.specs.Table.{bound_at}
 
+-- 1 for a variable that is bound, else 0
 abbrev pub one_if_bound : Option Term → ℕ
 one_if_bound None = 0
 one_if_bound (Some t) = 1
@@ -13,12 +14,14 @@ abbrev pub bound_count : List Variable → ℕ
 bound_count [] = 0
 bound_count (v ∷ vs) = one_if_bound v.bound + bound_count vs
 
--- the variable is bound no more
+-- the variables, of which variable k is bound to nothing
 abbrev pub erase : ℕ → List Variable → List Variable
 erase k [] = []
 erase zero (v ∷ vs) = record v { bound = None } ∷ vs
 erase (suc k) (v ∷ vs) = v ∷ erase k vs
 
+-- the rank of a variable by its binding, where w has the ranks of the others: 0 without a binding, else one more than
+-- the height of it
 abbrev pub rank_step : (ℕ → ℕ) → Option Term → ℕ
 rank_step w None = 0
 rank_step w (Some t) = suc (height w t)

@@ -6,13 +6,16 @@ use Rattle.type_terms.specs.Variables.{Variable}
 use Rattle.type_terms.specs.declared.ty.KindTerm.{KindTerm}
 use Rattle.type_terms.specs.declared.ty.KindTerm.TheVariants.{Var}
 
+-- a substitution: its type variables, and what its kind variables are bound to
 pub record Table : Type 0 where
   pub types : List Variable
   pub kinds : List (Option KindTerm)
 
+-- the substitution of these type variables and kind variables
 abbrev pub table : List Variable → List (Option KindTerm) → Table
 table vs ks = record { types = vs; kinds = ks }
 
+-- what a type variable is bound to, where there is one
 abbrev pub bound_in : Option Variable → Option Term
 bound_in None = None
 bound_in (Some x) = x.bound
@@ -21,13 +24,16 @@ bound_in (Some x) = x.bound
 abbrev pub bound_at : List Variable → ℕ → Option Term
 bound_at vs k = bound_in (slice_get vs k)
 
+-- whether a type variable is a number variable, where there is one
 abbrev pub number_in : Option Variable → Bool
 number_in None = false
 number_in (Some x) = x.number
 
+-- whether type variable k is a number variable
 abbrev pub number_at : List Variable → ℕ → Bool
 number_at vs k = number_in (slice_get vs k)
 
+-- what a kind variable is bound to, where there is one
 abbrev pub kind_in : Option (Option KindTerm) → Option KindTerm
 kind_in None = None
 kind_in (Some x) = x
@@ -73,7 +79,8 @@ pub record IsTriangular (vs : List Variable) : Type 0 where
   pub over : (k : ℕ) (t : Term) → bound_at vs k ≡ Some t → InTerm (λ n. n < length vs) (λ _. Unit {0}) t
   pub ranked : (w : ℕ → ℕ) × IsRank w vs
 
--- what holds of every substitution
+-- what holds of every substitution: bindings end, over variables that are there, a number variable is bound to a
+-- number, and a kind variable to a kind or to a variable of lesser number
 pub record IsSound (s : Table) : Type 0 where
   pub over : (k : ℕ) (t : Term) → bound_at s.types k ≡ Some t → IsOver s t
   pub ranked : (w : ℕ → ℕ) × IsRank w s.types
@@ -97,7 +104,7 @@ pub record Binds (x : ℕ) (t : Term) (old new : List Variable) : Type 0 where
   pub here : bound_at new x ≡ Some t
   pub elsewhere : (k : ℕ) → k ≢ x → bound_at new k ≡ bound_at old k
 
--- the same of a kind variable
+-- the new kind variables are the old ones, but that x, which was free, is bound to t
 pub record BindsKind (x : ℕ) (t : KindTerm) (old new : List (Option KindTerm)) : Type 0 where
   pub free : kind_at old x ≡ None
   pub same_length : length new ≡ length old

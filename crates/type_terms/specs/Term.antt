@@ -24,10 +24,12 @@ mutual
     no_terms : Terms
     one_more : Term → Terms → Terms
 
+-- a list of terms as the parts of a tuple
 abbrev pub terms_of : List Term → Terms
 terms_of [] = no_terms
 terms_of (t ∷ ts) = one_more t (terms_of ts)
 
+-- one node of a `Ty` as plain data; its parts are plain data already
 abbrev pub term_step : ty.Ty-F Term → Term
 term_step ty.Int = base_term base.Int
 term_step ty.Decimal = base_term base.Decimal
@@ -68,7 +70,7 @@ abbrev mutual
   meanings a no_terms = no_more
   meanings a (one_more t ts) = and_more (meaning a t) (meanings a ts)
 
--- a fact of the kind's variable, if it is one
+-- Q holds of the kind's variable, if it is one
 abbrev pub InKind : (ℕ → Type 0) → KindTerm → Type 0
 InKind Q (Fixed k) = Unit {0}
 InKind Q (Var n) = Q n

@@ -4,6 +4,7 @@ use Rattle.type_terms.specs.Variables.{Variable}
 use Rattle.type_terms.specs.Table.{bound_at, number_at, kind_at}
 use Rattle.type_terms.specs.declared.ty.KindTerm.{KindTerm}
 
+-- the number is one of the list
 abbrev pub Among : ℕ → List ℕ → Type 0
 Among k [] = ⊥
 Among k (x ∷ xs) = (k ≡ x) ⊎ Among k xs
@@ -16,19 +17,21 @@ pub record IsTrail (trail : List ℕ) (old new : List Variable) : Type 0 where
   pub free : (k : ℕ) → Among k trail → bound_at old k ≡ None
   pub inside : (k : ℕ) → Among k trail → k < length old
 
+-- the old kind variables are the new ones, where those of the trail are free
 pub record IsKindTrail (trail : List ℕ) (old new : List (Option KindTerm)) : Type 0 where
   pub same_length : length new ≡ length old
   pub bound : (k : ℕ) → (kind_at new k ≡ kind_at old k) ⊎ Among k trail
   pub free : (k : ℕ) → Among k trail → kind_at old k ≡ None
   pub inside : (k : ℕ) → Among k trail → k < length old
 
--- x is free now, and the others are as before
+-- type variable x is free now, and the others are as before
 pub record Frees (x : ℕ) (old new : List Variable) : Type 0 where
   pub same_length : length new ≡ length old
   pub same_numbers : (k : ℕ) → number_at new k ≡ number_at old k
   pub here : bound_at new x ≡ None
   pub elsewhere : (k : ℕ) → k ≢ x → bound_at new k ≡ bound_at old k
 
+-- kind variable x is free now, and the others are as before
 pub record FreesKind (x : ℕ) (old new : List (Option KindTerm)) : Type 0 where
   pub same_length : length new ≡ length old
   pub here : kind_at new x ≡ None

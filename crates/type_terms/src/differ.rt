@@ -27,7 +27,8 @@ use indexmap::IndexSet;
 use liq_base::Memory;
 use std::alloc::Global;
 
-/// The difference of two types, and the binding that takes it away.
+/// The difference of two types: there is none, no binding takes it away, or the variable of this number is to be bound
+/// to this type or kind.
 #[derive(Drop)]
 pub enum Difference<'a> {
     Same,
@@ -70,7 +71,7 @@ pub fn push_copies(
     Ok(())
 }
 
-/// Puts the parts of two lists or two tuples on the stack; `false` where the two are not of one such shape.
+/// Puts the parts of two lists, or of two tuples of one length, on the stack; `false` where the two are neither.
 pub fn push_split<'a>(
     work: &mut Vec<(&'a Ty, &'a Ty)>,
     s: &'a Ty,
@@ -105,9 +106,8 @@ pub fn push_split<'a>(
     }
 }
 
-/// The difference of two types, or what they are bound to put on the stack, where that can be taken apart.
-///
-/// Two variables for which that was done before are the same where those are: it is not done again.
+/// The difference of two types. What they are bound to is put on the agenda if it can be taken apart, and then the two
+/// count as the same. Two variables are put there once.
 pub fn differ<'a>(
     alloc: Global,
     bindings: &'a Bindings,
@@ -189,7 +189,8 @@ fn is_number(ty: &Ty) -> bool
     }
 }
 
-/// The difference of a free variable and a type that is no variable.
+/// The difference of the free variable `x` and a type that is no variable. `nested` marks the variables that may stand
+/// in what others are bound to.
 fn differ_from_variable<'a>(
     alloc: Global,
     types: &[TypeVariable],
@@ -242,7 +243,7 @@ fn stays_free(types: &[TypeVariable], x: u64, y: u64) -> bool
     }
 }
 
-/// The difference of two free variables.
+/// The difference of two free variables: `left` has the number `x`, and `right` the number `y`.
 fn differ_variables<'a>(
     types: &[TypeVariable],
     x: u64,
@@ -294,7 +295,8 @@ fn differ_shapes<'a>(kinds: &[Option<KindTerm>], left: &'a Ty, right: &'a Ty) ->
     }
 }
 
-/// The difference of two resolved types that are neither two lists nor two tuples of one length.
+/// The difference of two resolved types that are neither two lists nor two tuples of one length. `nested` marks the
+/// variables that may stand in what others are bound to.
 fn differ_resolved<'a>(
     alloc: Global,
     types: &[TypeVariable],

@@ -64,9 +64,7 @@ pub fn spend(left: &mut u64, ty: &Ty) -> Result<(), Memory> {
     Ok(())
 }
 
-/// The same type once more.
-///
-/// A type of more than a thousand levels is given up as if memory had run out.
+/// A copy of the type. A type of more than a thousand levels is given up as if memory had run out.
 pub fn copy(alloc: Global, ty: &Ty) -> Result<Ty, Memory>
     ensures { IfOk result (λ u. term_of u ≡ term_of ty.now) }
 {
@@ -104,7 +102,7 @@ fn push_variables(
     }
 }
 
-/// A variable's new number.
+/// The new number of a variable: the entry of the list under its number, or that number where there is none.
 fn renumbered(news: &[u64], number: u64) -> u64
     ensures { result ≡ new_number news.now number }
 {
@@ -114,7 +112,7 @@ fn renumbered(news: &[u64], number: u64) -> u64
     }
 }
 
-/// A kind with its variable's new number.
+/// A kind in which the variable has its new number.
 fn renumbered_kind(news: &[u64], kind: KindTerm) -> KindTerm
     ensures { result ≡ kind_instance news.now kind }
 {
@@ -124,7 +122,7 @@ fn renumbered_kind(news: &[u64], kind: KindTerm) -> KindTerm
     }
 }
 
-/// The type with the new numbers, if it has at most so many levels.
+/// The type in which each variable has its new number, if it has at most so many levels.
 fn renamed_within(
     alloc: Global,
     types: &[u64],

@@ -59,10 +59,8 @@ pub fn mark(nested: &mut [bool], ty: &Ty)
     }
 }
 
-/// Whether the variable stands in the type, directly or through what variables are bound to.
-///
-/// A variable that stands in no binding needs no walk through the bindings: `nested` is false. A type without parts
-/// takes no memory.
+/// Whether the variable `x` stands in the type, directly or through what variables are bound to. A variable that stands
+/// in no binding needs no walk through the bindings: `nested` is false. A type without parts takes no memory.
 pub fn occurs_in(
     alloc: Global,
     types: &[TypeVariable],
@@ -85,7 +83,7 @@ pub fn occurs_in(
     search(&mut work, &mut seen, types, nested, x, ty)
 }
 
-/// Whether each variable of the type is one of these.
+/// Whether each type variable and each kind variable of the type is one of these.
 pub fn are_among(
     alloc: Global,
     types: &[TypeVariable],
@@ -99,7 +97,8 @@ pub fn are_among(
     all_among(&mut work, types, kinds, ty)
 }
 
-/// The search for the variable, with a stack and the variables that it went behind.
+/// Whether the variable `x` stands in the type, with a stack of what is still to be looked at, and the variables behind
+/// which it was looked.
 fn search<'a>(
     work: &mut Vec<&'a Ty>,
     seen: &mut IndexSet<u64>,
@@ -131,7 +130,7 @@ fn search<'a>(
     Err(Memory)
 }
 
-/// The walk through a type that looks at each of its variables, with a stack.
+/// Whether each variable of the type is one of these, with a stack of what is still to be looked at.
 fn all_among<'a>(
     work: &mut Vec<&'a Ty>,
     types: &[TypeVariable],
@@ -155,7 +154,7 @@ fn all_among<'a>(
     Err(Memory)
 }
 
-/// Whether the type is this variable.
+/// Whether the type is the variable `x`.
 fn is_variable(ty: &Ty, x: u64) -> bool
     ensures yes { OnTrue result (term_of ty.now ≡ variable x) }
     ensures no { OnFalse result (term_of ty.now ≢ variable x) }
@@ -240,7 +239,7 @@ fn goes_on(seen: &mut IndexSet<u64>, nested: bool, ty: &Ty) -> Result<bool, Memo
     }
 }
 
-/// Whether the type's outermost node is no variable, or one of less than so many.
+/// Whether the type's outermost node is no variable, or one whose number is below that of these type or kind variables.
 fn is_among(ty: &Ty, types: usize, kinds: usize) -> bool
     ensures { IsTrue result ↔ IsAmong types kinds (term_of ty.now) }
 {

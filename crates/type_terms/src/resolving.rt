@@ -24,7 +24,8 @@ pub fn allow(left: &mut u64) {
     *left = left.saturating_add(PLACES_A_VARIABLE);
 }
 
-/// The type with all that is bound put in, if it has at most so many levels and nodes.
+/// The type with all that is bound put in, if it has at most so many levels, and at most as many nodes as are left in
+/// `nodes`, from which they are taken.
 pub fn settle(
     alloc: Global,
     types: &[TypeVariable],

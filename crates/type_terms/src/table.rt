@@ -37,7 +37,7 @@ impl Bindings {
         resolve(&self.types, ty)
     }
 
-    /// Binds a free type variable, and marks the variables that stand in what it is bound to.
+    /// Binds the free type variable `x`, and marks the variables that stand in what it is bound to.
     pub fn bind_type(&mut self, x: u64, ty: Ty)
         requires marked { AreMarked self.old.types.items self.old.nested.items }
         requires inside { x < length self.old.types.items }
@@ -52,7 +52,7 @@ impl Bindings {
         bind_type(&mut self.types, x, ty);
     }
 
-    /// Binds a free kind variable.
+    /// Binds the free kind variable `x` to `k`.
     pub fn bind_kind(&mut self, x: u64, k: KindTerm)
         requires inside { x < length self.old.kinds.items }
         requires free { kind_at self.old.kinds.items x ≡ None }
@@ -64,7 +64,7 @@ impl Bindings {
     }
 }
 
-/// Binds a free type variable.
+/// Binds the free type variable `x`.
 fn bind_type(types: &mut [TypeVariable], x: u64, ty: Ty)
     requires inside { x < length types.old }
     requires free { bound_at types.old x ≡ None }
@@ -74,7 +74,7 @@ fn bind_type(types: &mut [TypeVariable], x: u64, ty: Ty)
     variable.bind(ty);
 }
 
-/// Frees a type variable.
+/// Frees the type variable `x`.
 fn free_type(types: &mut [TypeVariable], x: u64)
     requires { x < length types.old }
     ensures { Frees x types.old types.new }
@@ -83,7 +83,7 @@ fn free_type(types: &mut [TypeVariable], x: u64)
     variable.free();
 }
 
-/// Frees a kind variable.
+/// Frees the kind variable `x`.
 fn free_kind(kinds: &mut [Option<KindTerm>], x: u64)
     requires { x < length kinds.old }
     ensures { FreesKind x kinds.old kinds.new }

@@ -27,7 +27,7 @@ impl Model for TypeVariable {
 }
 
 impl TypeVariable {
-    /// A variable that is bound to nothing.
+    /// A variable that is bound to nothing; a number variable if `number` is true.
     pub fn new(number: bool) -> TypeVariable
         ensures { result ≡ record { number = number; bound = None } }
     {

@@ -26,7 +26,7 @@ struct Trail {
 }
 
 impl Trail {
-    /// None.
+    /// A trail of no variables.
     fn new(alloc: Global) -> Trail
         ensures types { result.types.items ≡ [] }
         ensures kinds { result.kinds.items ≡ [] }
@@ -72,7 +72,8 @@ pub fn unify_in(
     }
 }
 
-/// Makes two types the same where neither is to be taken apart: with one binding, or none.
+/// Makes two types the same where neither is to be taken apart: with one binding, or none. `free` counts the variables
+/// that are bound to nothing.
 fn unify_directly(
     alloc: Global,
     bindings: &mut Bindings,
@@ -109,7 +110,8 @@ fn unify_directly(
     }
 }
 
-/// Binds as `solve` does, and frees again what was bound where the types differ in shape or memory runs out.
+/// Binds variables until the two types are the same; what was bound is freed again where they differ in shape or memory
+/// runs out. `free` counts the variables that are bound to nothing.
 fn unify_deeply(
     alloc: Global,
     bindings: &mut Bindings,
@@ -153,7 +155,7 @@ fn undo(bindings: &mut Bindings, trail: &Trail)
     free_kinds(&mut bindings.kinds, &trail.kinds);
 }
 
-/// Takes the places of the pairs behind the first so many from those that are left.
+/// Takes the places of the pairs from number `first` on from those that are left.
 fn spend_behind(left: &mut u64, pairs: &[(Ty, Ty)], first: usize) -> Result<(), Memory> {
     for i in first..pairs.len() {
         spend(left, &pairs[i].0)?;
@@ -201,8 +203,8 @@ fn take_up(
     }
 }
 
-/// Takes up two types: they are taken apart with a stack of references, and the pairs of parts that are not both lists
-/// or both tuples are taken up.
+/// Takes two types apart, with a stack of references, and takes up the pairs of parts that are not both lists or both
+/// tuples of one length; `false` where a pair differs in shape.
 fn take_apart(
     alloc: Global,
     bindings: &mut Bindings,
@@ -253,7 +255,8 @@ fn solve(
     compare(alloc, bindings, trail, &mut agenda, left, right)
 }
 
-/// The same with an agenda, on which nothing stands at first.
+/// Binds variables until the two types are the same, or differ in shape, with an agenda on which nothing stands at
+/// first.
 fn compare(
     alloc: Global,
     bindings: &mut Bindings,

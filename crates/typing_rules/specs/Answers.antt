@@ -10,7 +10,7 @@ use Rattle.typing_rules.specs.NameFaults.{first_fault, name_fault_in}
 use Rattle.typing_rules.specs.Scripts.{Entry, Places, IsTypedTo, HasTyping, IsClash, first_of}
 use Rattle.typing_rules.specs.Kinds.{said, target_at, read, blocks, IsLess, IsLessInside, AreKindsNumbered, IsOpen, Stands}
 
--- a typing with what the uses say, which is what evaluation needs
+-- a script has a typing in which names mean, and have the kinds, that the uses say
 abbrev pub IsTypedScript : Script → List Use → Type 0
 IsTypedScript script uses = (es : List Entry) × IsTypedTo (target_at uses) (read [] uses) [] script es
 
@@ -44,7 +44,7 @@ pub record IsTypeClash (script : Script) (n : ℕ) : Type 0 where
   pub names : first_fault 1 [] (first_of n script) ≡ None
   pub clash : IsClash script n
 
--- what each fault of names and types means
+-- the script has this fault of names or of types
 abbrev pub IsTypeFault : Script → TypeFault → Type 0
 IsTypeFault script (fault.UnknownName n at) = IsNameFault script (fault.UnknownName n at)
 IsTypeFault script (fault.MissingArgument n at label) = IsNameFault script (fault.MissingArgument n at label)

@@ -57,7 +57,7 @@ is_needed InPlace = true
 is_needed ByLabel = true
 is_needed Perhaps = false
 
--- the first parameter without a default for which nothing was given
+-- the first missing parameter: this one, if it has no default and nothing was given, or else a later one
 abbrev pub missing_or : {T : Type 0} → Parameter → Option (T × List (GivenArgument T)) → Option (List ℕ)
     → Option (List ℕ)
 missing_or p (Some x) later = later
@@ -75,7 +75,7 @@ arguments_taken [] gs = []
 arguments_taken (p ∷ ps) gs = option_map (λ x. x.0) (argument (label_of p) gs)
     ∷ arguments_taken ps (others gs (argument (label_of p) gs))
 
--- what is taken is what stands in its place; what is not may be any
+-- what each parameter takes is the entry in its place; where it takes nothing, the entry may be any
 abbrev pub TakenAs : {T : Type 0} → List (Option T) → List T → Type 0
 TakenAs [] [] = ⊤
 TakenAs [] (t ∷ ts) = ⊥
@@ -87,13 +87,13 @@ TakenAs (Some x ∷ os) (t ∷ ts) = (x ≡ t) × TakenAs os ts
 abbrev pub Matched : {T : Type 0} → List Parameter → List (GivenArgument T) → List T → Type 0
 Matched ps gs ts = (first_missing ps gs ≡ None) × (left_over ps gs ≡ []) × TakenAs (arguments_taken ps gs) ts
 
--- the parameters of a def
+-- a parameter of a def, as a call sees it
 abbrev pub parameter_of : Tree AParam → Parameter
 parameter_of (Param at name) = record { name = name; form = InPlace }
 parameter_of (Labelled at name) = record { name = name; form = ByLabel }
 parameter_of (Optional at name default) = record { name = name; form = Perhaps }
 
--- the parameters of a def
+-- the parameters of a def, as a call sees them
 abbrev pub parameters_of : Tree (Many AParam) → List Parameter
 parameters_of none = []
 parameters_of (more p ps) = parameter_of p ∷ parameters_of ps

@@ -24,7 +24,8 @@ def_at t (more (Stmt (BindPart b) semicolon) rest) = def_at t rest
 def_at t (more (Stmt (CallPart c) semicolon) rest) = def_at t rest
 def_at t (more (Stmt (IfPart i) semicolon) rest) = def_at t rest
 
--- a def, its environment, and the typing of its text there
+-- a call at token `at` of the def with token t leads to this def, to the entries before it and to a typing of its text
+-- there
 pub record Leads (ts : Targets) (kinds : Places) (es : List Entry) (chain : List ℕ) (at t : ℕ)
     (gs : List (GivenArgument Ground)) (g : Ground) : Type 0 where
   pub def : Tree ADef
@@ -39,7 +40,7 @@ pub record Leads (ts : Targets) (kinds : Places) (es : List Entry) (chain : List
 abbrev pub AreDefsOf : Script → List Entry → Type 0
 AreDefsOf script es = (d : Tree ADef) (before : List Entry) → Stands es d before → IsDefOf script d
 
--- what a call leads to, the def by its token, in an environment whose defs are the script's
+-- a call leads to a def that the search by its token finds in the script, and all defs before it are the script's
 pub record LeadsInto (script : Script) (ts : Targets) (kinds : Places) (es : List Entry) (chain : List ℕ) (at t : ℕ)
     (gs : List (GivenArgument Ground)) (g : Ground) : Type 0 where
   pub call : Leads ts kinds es chain at t gs g

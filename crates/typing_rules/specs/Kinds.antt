@@ -18,12 +18,12 @@ use Rattle.typing_rules.specs.Scoping.{Name, Scope, names, with_statement, Meani
 use Rattle.typing_rules.specs.Typing.{DefHas}
 use Rattle.typing_rules.specs.Scripts.{Entry, function, Targets, Places, def_token, sight}
 
--- the kinds of a use, where the def around has these
+-- a kind of a use, where the def around it has these open kinds
 abbrev pub known_kind : List Kind → KindOf → Option Kind
 known_kind given (Fixed k) = Some k
 known_kind given (Given j) = slice_get given j
 
--- one more kind, where all are known
+-- a kind before others, where all are known
 abbrev pub put : Option Kind → Option (List Kind) → Option (List Kind)
 put None ks = None
 put (Some k) None = None
@@ -34,7 +34,7 @@ abbrev pub kinds_of : List Kind → List KindOf → Option (List Kind)
 kinds_of given [] = Some []
 kinds_of given (w ∷ ws) = put (known_kind given w) (kinds_of given ws)
 
--- the kinds of a use that may not be there
+-- the kinds of a use within a call, where the use is there and all its kinds are known
 abbrev pub kinds_in : Option Use → List Kind → Option (List Kind)
 kinds_in None given = None
 kinds_in (Some u) given = kinds_of given u.kinds
@@ -44,11 +44,11 @@ abbrev pub around : List Kind → List Use → List ℕ → Option (List Kind)
 around given uses [] = Some given
 around given uses (at ∷ chain) = option_and_then (kinds_in (use_at at uses)) (around given uses chain)
 
--- read along the calls
+-- the kinds of the use at a token behind a chain of calls, read from the uses along the calls
 abbrev pub read : List Kind → List Use → Places
 read given uses chain at = around given uses (at ∷ chain)
 
--- what each name means, by the uses
+-- a use's token, and what its name means
 abbrev pub said : Use → Meaning
 said u = (u.at, Some u.target)
 
@@ -60,7 +60,7 @@ target_said o = option_map (λ u. u.target) o
 abbrev pub target_at : List Use → Targets
 target_at uses = target_in (map said uses)
 
--- the names that each statement uses, and the def whose text it is
+-- the names that a statement uses, with the def that the statement is, if it is one
 abbrev pub Block : Type 0
 Block = Option ℕ × List Name
 
@@ -86,13 +86,13 @@ abbrev pub IsUsedIn : List Block → Option ℕ → Name → Type 0
 IsUsedIn [] def n = ⊥
 IsUsedIn (b ∷ bs) def n = ((b.0 ≡ def) × IsOneOf b.1 n) ⊎ IsUsedIn bs def n
 
--- a place of the expansion of a def's text, or of the script's
+-- a place of the expansion of a def's text, or of the script's: a chain of calls, and a name that is used behind it
 abbrev pub IsPlace : List Block → Option ℕ → List ℕ → Name → Type 0
 IsPlace bs def [] n = IsUsedIn bs def n
 IsPlace bs def (at ∷ chain) n = (c : Name) × (t : ℕ) × IsPlace bs def chain c × (c.at ≡ at)
     × (target_of c.meant ≡ Some (target.Def t)) × IsUsedIn bs (Some t) n
 
--- where the first list is mono the second is
+-- the lists are of one length, and where the first is mono the second is
 abbrev pub MonoWhere : List Kind → List Kind → Type 0
 MonoWhere [] [] = Unit {0}
 MonoWhere [] (k ∷ ks) = ⊥
@@ -115,12 +115,12 @@ abbrev pub AreSame : List Block → ℕ → Places → Places → Type 0
 AreSame bs def first second = (chain : List ℕ) (n : Name) (b : Builtin) → IsPlace bs (Some def) chain n
     → target_of n.meant ≡ Some (target.Builtin b) → first chain n.at ≡ second chain n.at
 
--- numbers of open kinds in the order of tokens
+-- the number of an open kind, if the kind is open
 abbrev pub number_of : KindOf → List ℕ
 number_of (Fixed k) = []
 number_of (Given j) = j ∷ []
 
--- the kinds of a use that may not be there
+-- the kinds of a use, or none where it is not there
 abbrev pub kinds_listed : Option Use → List KindOf
 kinds_listed None = []
 kinds_listed (Some u) = u.kinds
@@ -129,12 +129,12 @@ kinds_listed (Some u) = u.kinds
 abbrev pub numbers_in : List Use → List Name → List ℕ
 numbers_in uses ns = flat_map number_of (flat_map (λ n. kinds_listed (use_at n.at uses)) ns)
 
--- How many numbers there are beside the first n, if each new one is the next.
+-- how many numbers there are, with n before these, if each new one is the next; else None
 abbrev pub numbered_on : ℕ → List ℕ → Option ℕ
 numbered_on n [] = Some n
 numbered_on n (j ∷ js) = cond (nat_lt j n) (numbered_on n js) (cond (nat_eq j n) (numbered_on (suc n) js) None)
 
--- the number of a def's open kinds
+-- the names of a block, or none where it is not there
 abbrev pub block_names : Option Block → List Name
 block_names None = []
 block_names (Some b) = b.1
@@ -148,7 +148,7 @@ is_of t (Some u) = nat_eq u t
 abbrev pub open_kinds : List Block → List Use → ℕ → Option ℕ
 open_kinds bs uses t = numbered_on 0 (numbers_in uses (block_names (find (λ b. is_of t b.0) bs)))
 
--- as many kinds as what is meant has open ones; none for a value
+-- a use has as many kinds as what it means has open ones; a value has none
 abbrev pub HasKinds : List Block → List Use → Target → List KindOf → Type 0
 HasKinds bs uses (target.Slot t) ks = ks ≡ []
 HasKinds bs uses (target.Def t) ks = open_kinds bs uses t ≡ Some (length ks)
@@ -164,7 +164,7 @@ abbrev pub IsInOrder : List Block → List Use → Block → Type 0
 IsInOrder bs uses (None, ns) = numbers_in uses ns ≡ []
 IsInOrder bs uses (Some t, ns) = (n : ℕ) × (open_kinds bs uses t ≡ Some n)
 
--- so it is in each block
+-- in each block the kinds are fixed outside of defs, and in a def the numbers of the open ones are in order
 abbrev pub AreInOrder : List Block → List Use → List Block → Type 0
 AreInOrder bs uses [] = Unit {0}
 AreInOrder bs uses (b ∷ rest) = IsInOrder bs uses b × AreInOrder bs uses rest
@@ -196,7 +196,8 @@ IsLessKind (Fixed j) (Given n) = ⊥
 IsLessKind (Given m) (Fixed k) = ⊥
 IsLessKind (Given m) (Given n) = m ≡ n
 
--- no kind of the one row is greater than that of the other in its place
+-- each kind of the first row is the same open kind as the one in its place in the second row, or mono only where that
+-- is
 abbrev pub AreLessKinds : List KindOf → List KindOf → Type 0
 AreLessKinds [] [] = Unit {0}
 AreLessKinds [] (w ∷ ws) = ⊥

@@ -10,26 +10,26 @@ use Rattle.typing_rules.specs.Arguments.{Parameter, GivenArgument, left_over, fi
 pub use Rattle.typing_rules.specs.Arguments.{token_of}
 use Rattle.typing_rules.specs.Scoping.{Name, Scope, names, with_statement}
 
--- what orders the faults of a statement
+-- the token of a fault, by which the faults of a statement are ordered
 abbrev pub token : NameFault → ℕ
 token (Unknown at) = at
 token (Missing at label) = at
 token (Extra at) = at
 token (Repeated at) = at
 
--- the order of faults at one token
+-- the number of a fault, by which those at one token are ordered
 abbrev pub number : NameFault → ℕ
 number (Unknown at) = 1
 number (Missing at label) = 2
 number (Extra at) = 3
 number (Repeated at) = 4
 
--- the fault of a missing argument, if one is missing
+-- the fault of the call at a token of which an argument is missing, if one is
 abbrev pub missing_at : ℕ → Option (List ℕ) → List NameFault
 missing_at at None = []
 missing_at at (Some label) = Missing at label ∷ []
 
--- the faults of one name that is used
+-- the faults of the name at a token: unknown, or with arguments that do not match
 abbrev pub faults_as : ℕ → Option (Target × List Parameter) → List (GivenArgument ℕ) → List NameFault
 faults_as at None given = Unknown at ∷ []
 faults_as at (Some x) given = missing_at at (first_missing x.1 given) ++ map (λ g. Extra g.1) (left_over x.1 given)
@@ -39,7 +39,7 @@ abbrev pub all_faults : List Name → List NameFault
 all_faults [] = []
 all_faults (n ∷ ns) = faults_as n.at n.meant n.given ++ all_faults ns
 
--- parameters of a name that an earlier parameter has
+-- the name of a parameter
 abbrev pub param_name : Tree AParam → List ℕ
 param_name (Param at name) = name
 param_name (Labelled at name) = name
@@ -50,7 +50,7 @@ abbrev pub is_among : List ℕ → List (List ℕ) → Bool
 is_among name [] = false
 is_among name (n ∷ ns) = cond (bytes_eq name n) true (is_among name ns)
 
--- the fault of a repeated name, if it is repeated
+-- the fault of the name at a token, if it is repeated
 abbrev pub repeated_at : ℕ → Bool → List NameFault
 repeated_at at true = Repeated at ∷ []
 repeated_at at false = []
@@ -72,7 +72,7 @@ repeats_in (Stmt (IfPart i) semicolon) = []
 abbrev pub faults_in : Scope → Tree AStmt → List NameFault
 faults_in sc s = repeats_in s ++ all_faults (names sc s)
 
--- by the token, then by the number
+-- the first fault is told before the second: by the token, then by the number
 abbrev pub is_before : NameFault → NameFault → Bool
 is_before f g = cond (nat_eq (token f) (token g)) (nat_le (number f) (number g)) (nat_le (token f) (token g))
 
@@ -81,7 +81,7 @@ abbrev pub earlier : NameFault → Option NameFault → NameFault
 earlier f None = f
 earlier f (Some g) = cond (is_before f g) f g
 
--- the one that is told
+-- of these faults the one that is told
 abbrev pub reported_fault : List NameFault → Option NameFault
 reported_fault [] = None
 reported_fault (f ∷ fs) = Some (earlier f (reported_fault fs))
@@ -98,7 +98,8 @@ abbrev pub or_later : ℕ → Option NameFault → Option (ℕ × NameFault) →
 or_later n None later = later
 or_later n (Some f) later = Some (n, f)
 
--- the first statement that has such a fault, and the one that is told, where the first statement has this number
+-- the first statement that has a fault of names, by its number, and the fault that is told of it; n is the number of
+-- the first statement here
 abbrev pub first_fault : ℕ → Scope → Script → Option (ℕ × NameFault)
 first_fault n sc none = None
 first_fault n sc (more s rest) = or_later n (reported_fault (faults_in sc s))

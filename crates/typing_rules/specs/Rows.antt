@@ -11,14 +11,15 @@ use Rattle.typing_rules.specs.declared.builtins.RowType.{RowType}
 use Rattle.typing_rules.specs.declared.builtins.RowType.TheVariants as row
 use Rattle.typing_rules.specs.Arguments.{Parameter}
 
+-- a parameter of the program, as plain data
 abbrev pub seen_parameter : AParameter → Parameter
 seen_parameter p = record { name = p.name.now; form = p.form }
 
--- a builtin by its name
+-- a builtin with its name
 abbrev pub seen_row : Row → List ℕ × Builtin
 seen_row r = (r.name.now, r.builtin)
 
--- a type over the variables of its row, which are 0 of each sort
+-- a type of the table, in which the variable of each sort has the number 0
 abbrev pub row_term : RowType → Term
 row_term row.Int = base_term base.Int
 row_term row.Text = base_term base.Text

@@ -27,7 +27,7 @@ value_meant (Some (bound_value t)) = Some (target.Slot t)
 value_meant (Some (bound_function t ps)) = None
 value_meant None = None
 
--- what a call's name means, and its parameters
+-- a builtin, as what a call means, with its parameters
 abbrev pub builtin_meant : Option Builtin → Option (Target × List Parameter)
 builtin_meant None = None
 builtin_meant (Some b) = Some (target.Builtin b, params_of_builtin b)
@@ -55,7 +55,7 @@ abbrev pub tokens_given : Tree (Many AnArg) → List (GivenArgument ℕ)
 tokens_given none = []
 tokens_given (more (Arg at label f) rest) = (label, at) ∷ tokens_given rest
 
--- the scope behind parameters, an inner binding, and a statement
+-- the scope behind a parameter
 abbrev pub with_param : Tree AParam → Scope → Scope
 with_param (Param at name) sc = (name, bound_value at) ∷ sc
 with_param (Labelled at name) sc = (name, bound_value at) ∷ sc

@@ -41,8 +41,8 @@ def_token (Def at name ps equals is e) = at
 abbrev pub params_of : Tree ADef → List Parameter
 params_of (Def at name ps equals is e) = parameters_of ps
 
--- Calls from the places behind a chain of calls. What a def's text sees is what stands before the def, and its calls
--- are one longer.
+-- A call at token `at` of the def with token t, behind a chain of calls, may with these arguments have the type g. What
+-- the def's text sees is what stands before the def, and its own calls are behind a chain longer by this one.
 abbrev pub calls_behind : Targets → Places → List Entry → List ℕ → ℕ → ℕ → List (GivenArgument Ground) → Ground → Type 0
 calls_behind target kinds [] chain at t gs g = ⊥
 calls_behind target kinds (value u h ∷ es) chain at t gs g = calls_behind target kinds es chain at t gs g
@@ -70,7 +70,7 @@ sight target kinds es chain = record {
 abbrev pub HasSome : Targets → List Entry → Tree ADef → Type 0
 HasSome target es d = (kinds : Places) × (ts : List Ground) × (g : Ground) × DefHas (sight target kinds es []) d ts g
 
--- from one list of entries to another
+-- behind the entries es the script's statements have types, and then the entries are fs
 abbrev pub IsTypedTo : Targets → Places → List Entry → Script → List Entry → Type 0
 IsTypedTo target kinds es none fs = fs ≡ es
 IsTypedTo target kinds es (more (Stmt (BindPart (Bind at name f)) semicolon) rest) fs = (g : Ground)
@@ -86,7 +86,7 @@ IsTypedTo target kinds es (more (Stmt (IfPart i) semicolon) rest) fs = ((g : Gro
 abbrev pub HasTyping : Targets → Script → Type 0
 HasTyping target script = (kinds : Places) × (es : List Entry) × IsTypedTo target kinds [] script es
 
--- the first statements
+-- the first n statements of a script
 abbrev pub first_of : ℕ → Script → Script
 first_of zero script = none
 first_of (suc n) none = none

@@ -15,8 +15,8 @@ use Rattle.typing_rules.specs.Arguments.{Parameter, GivenArgument, Matched}
 abbrev pub TypedParameter : Type 0
 TypedParameter = Parameter × Term
 
--- The types are over variables of the row's own, from 0: so many type variables, and so many kind variables, which are
--- the open kinds.
+-- The parameters of a builtin, and the type of its call. The types are over variables of the row's own, from 0: so many
+-- type variables, and so many kind variables, which are the open kinds.
 pub record Signature : Type 0 where
   pub params : List TypedParameter
   pub result : Term

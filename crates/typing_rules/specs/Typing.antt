@@ -18,8 +18,8 @@ abbrev pub TypesByToken : Type 0
 TypesByToken = List (ℕ × Ground)
 
 -- What is known where an expression stands: what the name at a token means, the type of the binding at a token, the
--- kinds of the use at a token, and what a call may be: the token of the call, that of the def, the arguments' types and
--- the result's.
+-- kinds of the use at a token, and what a call may be, by its token, the token of the def, the types of the arguments
+-- and that of the result.
 pub record Sight : Type 1 where
   pub target : ℕ → Option Target
   pub types : TypesByToken
@@ -40,21 +40,21 @@ abbrev pub type_at : ℕ → TypesByToken → Option Ground
 type_at t [] = None
 type_at t (b ∷ bs) = cond (nat_eq b.0 t) (Some b.1) (type_at t bs)
 
--- a name outside a call
+-- a name outside a call that means this may have the type g
 abbrev pub NameHas : Sight → Option Target → Ground → Type 0
 NameHas s (Some (target.Slot t)) g = type_at t s.types ≡ Some g
 NameHas s (Some (target.Def t)) g = ⊥
 NameHas s (Some (target.Builtin b)) g = ⊥
 NameHas s None g = ⊥
 
--- a call of what its name means, at a token
+-- a call at a token, of what its name means, may with these arguments have the type g
 abbrev pub Applied : Sight → ℕ → Option Target → List (GivenArgument Ground) → Ground → Type 0
 Applied s at (Some (target.Slot t)) gs g = ⊥
 Applied s at (Some (target.Def t)) gs g = (ks : List Kind) × (s.kinds at ≡ Some ks) × s.call at t gs g
 Applied s at (Some (target.Builtin b)) gs g = (ks : List Kind) × (s.kinds at ≡ Some ks) × IsCallOf b gs ks g
 Applied s at None gs g = ⊥
 
--- where there are further operands
+-- P holds where there are further operands
 abbrev pub IfAny : {s : Sort} → Tree (Many s) → Type 0 → Type 0
 IfAny none P = ⊤
 IfAny (more x xs) P = P
@@ -106,7 +106,7 @@ abbrev mutual
   AreGiven s (more (Arg at label f) rest) gs = (t : Ground) × (us : List (GivenArgument Ground))
       × (gs ≡ (label, t) ∷ us) × Has s f t × AreGiven s rest us
 
--- the same with bindings of a def before the others
+-- what is known behind the bindings us of a def
 abbrev pub within : TypesByToken → Sight → Sight
 within us s = record s { types = us ++ s.types }
 
@@ -116,7 +116,7 @@ typed_params none ts = []
 typed_params (more p ps) [] = []
 typed_params (more p ps) (t ∷ ts) = (token_of p, t) ∷ typed_params ps ts
 
--- each parameter has a type, and each default has that of its parameter
+-- a parameter's default, if it has one, has the type of the parameter
 abbrev pub DefaultHas : Sight → Tree AParam → Ground → Type 0
 DefaultHas s (Param at name) t = ⊤
 DefaultHas s (Labelled at name) t = ⊤
@@ -128,7 +128,7 @@ DefaultsHave s none ts = ts ≡ []
 DefaultsHave s (more p ps) [] = ⊥
 DefaultsHave s (more p ps) (t ∷ ts) = DefaultHas s p t × DefaultsHave s ps ts
 
--- inner bindings, each behind the ones before it
+-- inner bindings have types, each behind the ones before it: with them the bindings us become vs
 abbrev pub InnersHave : Sight → Tree (Many AnInner) → TypesByToken → TypesByToken → Type 0
 InnersHave s none us vs = vs ≡ us
 InnersHave s (more (Inner (Bind at name f) semicolon) is) us vs = (t : Ground) × Has (within us s) f t

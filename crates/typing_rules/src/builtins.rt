@@ -100,7 +100,7 @@ pub fn is_same_name(name: &str, other: &str) -> bool
     name.len() == other.len() && name == other
 }
 
-/// The builtin of a name in a table.
+/// The builtin of this name in a table, if one has it.
 fn named_in(rows: &[Row], name: &str) -> Option<Builtin>
     ensures same { result ≡ the_named_in name.now (map seen_row rows.now) }
 {

@@ -29,7 +29,7 @@ pub fn one_fault()
         → (f ≡ fault.Memory) ⊎ ((g ≡ fault.Memory) ⊎ (f ≡ g)) }
 {}
 
-/// The first statements of a script with a typing have it too, and so have fewer of them.
+/// If the first statements of a script have a typing, so have fewer of them.
 pub fn fewer_statements()
     ensures first { (n : ℕ) (ts : Targets) (kinds : Places) (script : Script) (es fs : List Entry)
         → IsTypedTo ts kinds es script fs → (gs : List Entry) × IsTypedTo ts kinds es (first_of n script) gs }

@@ -3,7 +3,7 @@
 use crate::use_kinds::UseKinds;
 use liq_base::Kind;
 
-/// What a name token stands for, and the kinds that its use fixes.
+/// What the name at token `at` stands for, and the kinds that its use fixes.
 #[derive(Drop)]
 pub struct Use {
     pub at: u32,
@@ -19,7 +19,7 @@ pub enum Target {
     Builtin(Builtin),
 }
 
-/// A kind, or an open kind of the def around the use.
+/// A kind, or an open kind of the def around the use, by its number among them.
 #[derive(Clone, Copy, Debug, PartialEq, Eq)]
 pub enum KindOf {
     Fixed(Kind),

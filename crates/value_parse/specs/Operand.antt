@@ -28,7 +28,7 @@ holds_values k = false
 abbrev pub no_value : Reader (Tree AFull)
 no_value w = Err (length w)
 
--- a predicate and the bracket behind it
+-- a predicate and the bracket behind it; `at` is the index of the one before it
 abbrev pub braces_at : ℕ → Reader (Tree AnOperand)
 braces_at at w = both por (expect is_close_curly) w >>= made (λ x. Braces at x.0)
 
@@ -36,48 +36,53 @@ braces_at at w = both por (expect is_close_curly) w >>= made (λ x. Braces at x.
 abbrev pub chained : {s : Sort} → (TokenKind → Bool) → Reader (Tree s) → Reader (Tree (Many s))
 chained comma item w = chain comma item w >>= made (λ x. more x.0 x.1)
 
--- the operand that the values of a bracket make
+-- the operand that values in round brackets make; `at` is the index of the first bracket
 abbrev pub as_round : ℕ → Read (Tree (Many AFull)) → Read (Tree AnOperand)
 as_round at read = read >>= made (round_or_unit at)
 
+-- the operand that values in square brackets make; `at` is the index of the first bracket
 abbrev pub as_list : ℕ → Read (Tree (Many AFull)) → Read (Tree AnOperand)
 as_list at read = read >>= made (Listed at)
 
--- the call that arguments make
+-- the call that arguments make; `at` is the index of its name
 abbrev pub as_call : ℕ → List ℕ → Read (Tree (Many AnArg)) → Read (Tree ACall)
 as_call at name read = read >>= made (NamedCall at name)
 
--- what was read is not there: want of memory, or the fault of that reading
+-- this is why nothing was read: want of memory, or the fault of that reading
 abbrev pub IsFaultOf : {X : Type 0} → Result X Fault → Fault → Type 0
 IsFaultOf read faults.Memory = Unit {0}
 IsFaultOf read (faults.Syntax left) = read ≡ Err (faults.Syntax left)
 
--- one item more stands in the list, which is what reading gives; and a fault is the one of reading
+-- the new list is the old one and the item that reading gives; a fault is the one of reading
 abbrev pub Pushes : {X Y : Type 0} → (X → Y) → List X → List X → Result (Bor (List Token)) Fault → Read Y → Type 0
 Pushes {X = X} view old new (Ok rest) read = (x : X) × (new ≡ old ++ x ∷ []) × (read ≡ Ok (view x, kinds rest.now))
 Pushes view old new (Err e) read = Fails e read
 
--- the parts of an `if` behind its condition: what is read, and what is made of its values
+-- an `if` from its `else` on
 abbrev pub otherwise : Reader (Tree AFull) → Reader (Unit {0} × (Tree AFull × Unit {0}))
 otherwise full w = both (expect is_else) (both full (expect is_end)) w
 
+-- an `if` from its `then` on
 abbrev pub branches : Reader (Tree AFull) → Reader (Unit {0} × (Tree AFull × (Unit {0} × (Tree AFull × Unit {0}))))
 branches full w = both (expect is_then) (both full (otherwise full)) w
 
+-- what is read of an `if` from its `else` on, where its value is f
 abbrev pub seen_otherwise : Tree AFull → Unit {0} × (Tree AFull × Unit {0})
 seen_otherwise f = (tt, (f, tt))
 
+-- what is read of an `if` from its `then` on, where its values are f and g
 abbrev pub seen_branches : Tree AFull → Tree AFull → Unit {0} × (Tree AFull × (Unit {0} × (Tree AFull × Unit {0})))
 seen_branches f g = (tt, (f, seen_otherwise g))
 
--- an `if` behind that word
+-- an `if` from its condition on; `at` is the index of its first token
 abbrev pub chosen : ℕ → Reader (Tree AFull) → Reader (Tree AnIf)
 chosen at full w = both full (branches full) w >>= made (λ x. If at x.0 x.1.1.0 x.1.1.1.1.0)
 
--- a value that does not begin with "-", of the expression that was read
+-- the value that an expression is
 abbrev pub as_plain : Read (Tree AnExpr) → Read (Tree AFull)
 as_plain read = read >>= made Plain
 
+-- a value that does not begin with "-"
 abbrev pub plain : Bool → (ℕ → ℕ) → Reader (Tree AFull) → Reader (Tree AFull)
 plain loose stamp full w = as_plain (expr loose stamp full w)
 
@@ -107,11 +112,11 @@ is_bare w = true
 abbrev pub lone : Bool → Tree AnOperand → Tree AFull
 lone negated p = Plain (lone_expr negated p)
 
--- what was read, behind what was read before
+-- what was read, with what was read before it
 abbrev pub paired : {A B : Type 0} → A → Read B → Read (A × B)
 paired first read = read >>= λ y. Ok ((first, y.0), y.1)
 
--- a comparison that was read, behind `not` or not
+-- the comparison that was read, with whether `not` stands before it
 abbrev pub behind_not : Bool → Read (Tree ACompare) → Read (Tree ANot)
 behind_not negated read = paired negated read >>= made (λ x. Not x.0 x.1)
 
@@ -120,19 +125,21 @@ abbrev pub label_of : List TokenKind → Option (List ℕ) × List TokenKind
 label_of (Name n ∷ Symbol sign.Assign ∷ r) = (Some n, r)
 label_of w = (None, w)
 
--- an argument behind its label, of the value that was read
+-- the argument of this label and of the value that was read; `at` is the index of its first token
 abbrev pub as_argument : ℕ → Option (List ℕ) → Read (Tree AFull) → Read (Tree AnArg)
 as_argument at label read = read >>= made (Arg at label)
 
+-- an argument from its value on; `at` is the index of its first token
 abbrev pub labelled : ℕ → Option (List ℕ) → Reader (Tree AFull) → Reader (Tree AnArg)
 labelled at label full w = as_argument at label (full w)
 
--- `+` or `-`, where the second is true, and `*` or `/`
+-- whether a sum goes on by `-`, not `+`
 abbrev pub sum_sign : Reader Bool
 sum_sign (Symbol sign.Plus ∷ r) = Ok (false, r)
 sum_sign (Symbol sign.Minus ∷ r) = Ok (true, r)
 sum_sign w = Err (length w)
 
+-- whether a product goes on by `/`, not `*`
 abbrev pub product_sign : Reader Bool
 product_sign (Symbol sign.Star ∷ r) = Ok (false, r)
 product_sign (Symbol sign.Slash ∷ r) = Ok (true, r)

@@ -61,7 +61,8 @@ pub fn call(
     }
 }
 
-// The same, once the arguments are read.
+// The call of a name with these arguments, and the tokens behind it. `at` is the index of its first token, and `read`
+// what reading the arguments answered.
 #[inline(never)]
 fn call_of<'a>(
     alloc: Global,
@@ -177,7 +178,7 @@ fn arg<'a>(
     labelled(alloc, total, levels, at, label, items, rest)
 }
 
-// value, behind the label of an argument or without one.
+// value, behind the label of an argument or without one. The argument is pushed; `at` is the index of its first token.
 #[cycle(value)]
 fn labelled<'a>(
     alloc: Global,
@@ -219,8 +220,8 @@ fn labelled<'a>(
     }
 }
 
-// How many levels may nest in a value that begins with its first operand; none where it does not, or may not stand
-// here.
+// How many levels may nest in a value that begins with its first operand; `None` where it does not, or where no level
+// is left.
 fn bare_levels(levels: usize, tokens: &[Token]) -> Option<usize>
     ensures bare { IfSome result (λ below. (levels ≡ below + 1) × (is_bare (kinds tokens.now) ≡ true)) }
 {
@@ -231,8 +232,8 @@ fn bare_levels(levels: usize, tokens: &[Token]) -> Option<usize>
     }
 }
 
-// The same, once the first operand of the value is read. That is mostly all of the value, which is then made where it
-// stays.
+// Pushes an argument whose first operand was read at these tokens, and answers the tokens behind it. The operand is
+// mostly all of the value, which is then made where it stays.
 #[inline(never)]
 #[cycle(value)]
 fn push_operand<'a>(
@@ -278,7 +279,7 @@ fn push_operand<'a>(
     }
 }
 
-// An argument that is one operand.
+// Pushes an argument that is one operand. `at` is the index of its first token.
 fn push_lone(alloc: Global, at: u32, label: Option<Text>, items: &mut Vec<Arg>, operand: Operand)
     requires room { vec_len items.old < vec_capacity items.old }
     ensures pushed { (x : Arg) × (items.new.items ≡ items.old.items ++ x ∷ [])
@@ -288,7 +289,8 @@ fn push_lone(alloc: Global, at: u32, label: Option<Text>, items: &mut Vec<Arg>, 
     items.push_reserved(argument(at, label, lone(alloc, false, operand)));
 }
 
-// The same, once the value is read.
+// Pushes an argument with the value that was read, and answers the tokens behind it. `at` is the index of its first
+// token.
 #[inline(never)]
 fn push_arg<'a>(
     at: u32,
@@ -308,7 +310,7 @@ fn push_arg<'a>(
     Ok(rest)
 }
 
-// An argument of its parts.
+// An argument of its parts. `at` is the index of its first token.
 fn argument(at: u32, label: Option<Text>, value: Full) -> Arg
     ensures made { view_arg result ≡ an_argument at label (view_full value) }
     ensures whole { IsWholeFull value → IsWholeArg result }

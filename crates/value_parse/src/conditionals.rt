@@ -37,7 +37,7 @@ pub fn choice(
     chosen(alloc, total, levels, at, rest)
 }
 
-// value `then` value `else` value `end`, behind the `if`.
+// value `then` value `else` value `end`, behind the `if`, whose index is `at`.
 #[cycle(value)]
 fn chosen(
     alloc: Global,

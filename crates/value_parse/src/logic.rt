@@ -41,7 +41,7 @@ pub fn expr<'a>(at: At<'a>) -> Result<(Expr, &'a [Token]), Fault>
     )
 }
 
-/// The same, once its first operand is read, which stands behind `not` or not.
+/// An expression whose first operand was read at `inner`: at its first token, or behind the `not` there.
 #[inline(never)]
 #[cycle(value)]
 #[tactic(auto, unfolding(script_grammar::specs::ReadValue::not_))]
@@ -69,7 +69,7 @@ pub fn expr_from<'a>(
     expr_of(at, first)
 }
 
-// The same, once the first part is read.
+// An expression whose first part was read at these tokens.
 #[inline(never)]
 #[cycle(value)]
 #[tactic(auto, unfolding(script_grammar::specs::ReadValue::expr, script_grammar::specs::Read::chain))]
@@ -209,7 +209,7 @@ fn not_term<'a>(at: At<'a>) -> Result<(Not, &'a [Token]), Fault>
     )
 }
 
-// The same behind `not` or not, once the first operand of the comparison is read.
+// A comparison whose first operand was read at these tokens, with whether `not` stands before it.
 #[inline(never)]
 #[cycle(value)]
 fn negation_of<'a>(
@@ -265,7 +265,7 @@ fn negation_of<'a>(
     )
 }
 
-// The same, once the comparison is read.
+// The comparison that was read, with whether `not` stands before it.
 #[inline(never)]
 fn not_of<'a>(
     negated: bool,

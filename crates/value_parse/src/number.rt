@@ -15,7 +15,7 @@ use script_grammar::tree::{CompareOp, Literal};
 use script_lex::{Keyword, Symbol, Token, TokenKind};
 use std::alloc::Global;
 
-/// A number.
+/// The number that stands first, and the tokens behind it.
 #[tactic(auto, unfolding(script_grammar::specs::ReadValue::digits))]
 pub fn digits(tokens: &[Token]) -> Result<(Literal, &[Token]), Fault>
     ensures shorter { IfOk result (λ x. length x.1.now < length tokens.now) }
@@ -40,7 +40,8 @@ pub fn digits(tokens: &[Token]) -> Result<(Literal, &[Token]), Fault>
     }
 }
 
-/// What stands behind `%wav`: its option, or nothing.
+/// The option behind `%wav`, if there is one, and the tokens behind it. Where the value is loose, another `(` may stand
+/// there.
 #[tactic(auto, unfolding(script_grammar::specs::ReadValue::wav))]
 pub fn wav(loose: bool, tokens: &[Token]) -> Result<(Option<i64>, &[Token]), Fault>
     ensures shorter { IfOk result (λ x. length x.1.now ≤ length tokens.now) }
@@ -124,7 +125,7 @@ pub fn argument_label(alloc: Global, tokens: &[Token]) -> Result<(Option<Text>, 
     }
 }
 
-/// Whether a sum goes on by `-`, not `+`.
+/// Whether a sum goes on by `-`, not `+`, and the tokens behind the sign. Any other token is a fault.
 pub fn sum_sign(tokens: &[Token]) -> Result<(bool, &[Token]), Fault>
     ensures shorter { IfOk result (λ x. length x.1.now < length tokens.now) }
     ensures gives { Gives (λ x. (x.0, kinds x.1.now)) result (sum_sign (kinds tokens.now)) }
@@ -148,7 +149,7 @@ pub fn sum_sign(tokens: &[Token]) -> Result<(bool, &[Token]), Fault>
     }
 }
 
-/// Whether a product goes on by `/`, not `*`.
+/// Whether a product goes on by `/`, not `*`, and the tokens behind the sign. Any other token is a fault.
 pub fn product_sign(tokens: &[Token]) -> Result<(bool, &[Token]), Fault>
     ensures shorter { IfOk result (λ x. length x.1.now < length tokens.now) }
     ensures gives { Gives (λ x. (x.0, kinds x.1.now)) result (product_sign (kinds tokens.now)) }
@@ -172,6 +173,7 @@ pub fn product_sign(tokens: &[Token]) -> Result<(bool, &[Token]), Fault>
     }
 }
 
+// The number without a point that stands first, and the tokens behind it.
 #[tactic(auto, unfolding(script_grammar::specs::ReadValue::whole_number))]
 fn whole_number(tokens: &[Token]) -> Result<(i64, &[Token]), Fault>
     ensures shorter { IfOk result (λ x. length x.1.now < length tokens.now) }
@@ -189,6 +191,7 @@ fn whole_number(tokens: &[Token]) -> Result<(i64, &[Token]), Fault>
     }
 }
 
+// The tokens behind the name `samplesize`, which must stand first.
 #[tactic(auto, unfolding(script_grammar::specs::ReadValue::the_name))]
 fn the_name(tokens: &[Token]) -> Result<((), &[Token]), Fault>
     ensures shorter { IfOk result (λ x. length x.1.now < length tokens.now) }
@@ -212,7 +215,7 @@ fn the_name(tokens: &[Token]) -> Result<((), &[Token]), Fault>
     }
 }
 
-// `samplesize` and `=`, at the front or not.
+// Whether `samplesize` and `=` stand first.
 fn at_option_name(tokens: &[Token]) -> bool
     ensures { result ≡ cond (opens_name (kinds tokens.now)) (binds (kinds tokens.now)) false }
 {
@@ -232,6 +235,7 @@ fn at_option_name(tokens: &[Token]) -> bool
     }
 }
 
+// Whether `(`, `samplesize` and `=` stand first.
 fn optional(tokens: &[Token]) -> bool
     ensures { result ≡ optional (kinds tokens.now) }
 {
@@ -247,6 +251,7 @@ fn optional(tokens: &[Token]) -> bool
     }
 }
 
+// Whether the option of `%wav` begins here: by `(samplesize =` where the value is loose, else by any `(`.
 fn takes_option(loose: bool, tokens: &[Token]) -> bool
     ensures { result ≡ takes_option loose (kinds tokens.now) }
 {
@@ -257,6 +262,7 @@ fn takes_option(loose: bool, tokens: &[Token]) -> bool
     }
 }
 
+// The number of the option `(samplesize = number)`, and the tokens behind it.
 #[tactic(auto, unfolding(script_grammar::specs::ReadValue::size))]
 fn size(tokens: &[Token]) -> Result<(i64, &[Token]), Fault>
     ensures shorter { IfOk result (λ x. length x.1.now < length tokens.now) }
@@ -270,6 +276,7 @@ fn size(tokens: &[Token]) -> Result<(i64, &[Token]), Fault>
     Ok((number, rest))
 }
 
+// Whether a token is an operator that stands between operands.
 fn is_operator(kind: &TokenKind) -> bool
     ensures { result ≡ is_operator kind.now }
 {
@@ -291,6 +298,7 @@ fn is_operator(kind: &TokenKind) -> bool
     )
 }
 
+// The comparing operator that a symbol is, if it is one.
 fn op_of(symbol: Symbol) -> Option<CompareOp>
     ensures { result ≡ op_of (a_symbol symbol) }
 {

@@ -90,7 +90,7 @@ pub fn operand<'a>(at: At<'a>) -> Result<(tree::Operand, &'a [Token]), Fault>
     }
 }
 
-// `)` | value `)` | value (`,` value)+ `)`, behind the `(`.
+// `)` | value `)` | value (`,` value)+ `)`, behind the `(`, whose index is `at`.
 #[cycle(value)]
 fn round(
     alloc: Global,
@@ -111,7 +111,7 @@ fn round(
     round_of(alloc, at, parts, read)
 }
 
-// (value (`,` value)*)? `]`, behind the `[`.
+// (value (`,` value)*)? `]`, behind the `[`, whose index is `at`.
 #[cycle(value)]
 fn list(
     alloc: Global,
@@ -132,7 +132,7 @@ fn list(
     list_of(at, parts, read)
 }
 
-// (value (`,` value)*)? and this bracket, whose values are pushed.
+// (value (`,` value)*)? and the bracket `close`. The values are pushed.
 #[cycle(value)]
 fn fulls<'a>(
     alloc: Global,
@@ -159,7 +159,7 @@ fn fulls<'a>(
     Ok(rest)
 }
 
-// value (`,` value)*
+// value (`,` value)*, whose values are pushed.
 #[cycle(value)]
 fn some_fulls<'a>(
     alloc: Global,
@@ -200,7 +200,8 @@ fn comma_full(
     full(alloc, total, levels, rest)
 }
 
-// Values in parentheses, once they are read.
+// The operand of these values in parentheses, and the tokens behind it. `at` is the index of the `(`, and `read` what
+// reading the values answered.
 #[inline(never)]
 fn round_of<'a>(
     alloc: Global,
@@ -218,7 +219,8 @@ fn round_of<'a>(
     Ok((in_round(alloc, at, parts)?, rest))
 }
 
-// Values in square brackets, once they are read.
+// The operand of these values in square brackets, and the tokens behind it. `at` is the index of the `[`, and `read`
+// what reading the values answered.
 #[inline(never)]
 fn list_of<'a>(
     at: u32,
@@ -235,7 +237,7 @@ fn list_of<'a>(
     Ok((make::list(at, parts), rest))
 }
 
-// No value, one, or a tuple in parentheses.
+// No value, one, or a tuple in parentheses. `at` is the index of the `(`.
 fn in_round(alloc: Global, at: u32, parts: Vec<Full>) -> Result<tree::Operand, Memory>
     ensures made { IfOk result (λ p. view_operand p ≡ round_or_unit at (listed (map view_full parts.items))) }
     ensures whole { IfOk result (λ p. All IsWholeFull parts.items → IsWholeOperand p) }

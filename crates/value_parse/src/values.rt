@@ -1,7 +1,7 @@
 // Values. Each function of the six files of this descent reads as the definition of its name does in `ReadValue` of
 // `script_grammar`, or in `specs/Operand.antt`; the production that it reads stands at its head, in the notation of
 // `docs/grammar.md`. A value counts down `levels`, so that it is the number of `full_by`; a caller gives as many as
-// there are tokens, which is always enough.
+// there are tokens, which is always enough. The tokens are the last of `total`, by which a field `at` is an index.
 //
 // So that a level takes little stack, a function hands what a nested call answered to a tail of its own: no frame then
 // keeps copies of a tree while others are read. A compiler may take a function that is called in one place into its
@@ -119,8 +119,8 @@ fn plain<'a>(at: At<'a>) -> Result<(Full, &'a [Token]), Fault>
     )
 }
 
-// The same, once its first operand is read, which stands behind `not` or not. That is mostly all of the value, whose
-// tree is then made at once.
+// A value that is an expression, whose first operand was read at `inner`: at its first token, or behind the `not`
+// there. The operand is mostly all of the value, whose tree is then made at once.
 #[inline(never)]
 #[cycle(value)]
 fn plain_of<'a>(
@@ -175,7 +175,7 @@ pub fn lone(alloc: Global, negated: bool, operand: Operand) -> Full
     })
 }
 
-/// An expression that was read, as a value.
+/// The expression that was read, as a value.
 #[inline(never)]
 pub fn in_full<'a>(read: Result<(Expr, &'a [Token]), Fault>) -> Result<(Full, &'a [Token]), Fault>
     ensures shorter { (n : ℕ) → IfOk read.entry (λ x. length x.1.now < n) → IfOk result (λ x. length x.1.now < n) }
@@ -187,7 +187,7 @@ pub fn in_full<'a>(read: Result<(Expr, &'a [Token]), Fault>) -> Result<(Full, &'
     Ok((Full::Plain(expr), rest))
 }
 
-// The same, once the value is read.
+// The value that was read, in a box.
 #[inline(never)]
 fn boxed<'a>(
     alloc: Global,

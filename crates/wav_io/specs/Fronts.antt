@@ -8,12 +8,12 @@ use Rattle.wav_io.specs.declared.chunks.Chunk.{Chunk}
 use Rattle.wav_io.specs.declared.head.Head.{Head}
 use Rattle.wav_io.specs.declared.fault.WavFault.{WavFault}
 
--- the bytes of the whole blocks that a data chunk holds in a file of so many bytes
+-- how many bytes the whole blocks have that a data chunk holds in a file of `size` bytes
 abbrev pub blocks_size : Bool → Kind → ℕ → Chunk → ℕ
 blocks_size wide kind size chunk =
     min chunk.size (size - (chunk.place + 8)) / block_align wide kind * block_align wide kind
 
--- what a file holds that has this head: its blocks stand where the head says
+-- what a file of this head holds: its blocks stand where the head says
 abbrev pub wav_at : List ℕ → Head → Wav
 wav_at bytes head = record {
   kind = head.kind;
@@ -22,13 +22,13 @@ wav_at bytes head = record {
   body = take head.size (drop head.at bytes);
 }
 
--- so many bytes are whole blocks, and at least one
+-- `size` bytes are whole blocks, and at least one
 pub record AreWhole (wide : Bool) (kind : Kind) (size : ℕ) : Type 0 where
   pub count : ℕ
   pub some : 0 < count
   pub whole : size ≡ count * block_align wide kind
 
--- the file is read, and this is its head
+-- these bytes are a WAV file that can be read, and this is its head
 pub record IsHeadOf (bytes : List ℕ) (head : Head) : Type 0 where
   pub read : read_of bytes ≡ Ok (wav_at bytes head)
   pub place : head.at ≡ place_of bytes
@@ -37,11 +37,11 @@ pub record IsHeadOf (bytes : List ℕ) (head : Head) : Type 0 where
   pub rate : 0 < head.rate
   pub blocks : AreWhole head.wide head.kind head.size
 
--- the head of the file, or the first fault that it has
+-- this is the head of a file, or the first fault that it has
 abbrev pub IsToldOf : List ℕ → Result Head WavFault → Type 0
 IsToldOf bytes (Ok head) = IsHeadOf bytes head
 IsToldOf bytes (Err fault) = read_of bytes ≡ Err fault
 
--- the same of each file of so many bytes that begins with these
+-- this is the head, or the first fault, of each file of `size` bytes that begins with these
 abbrev pub IsToldBy : (front : List ℕ) → (size : ℕ) → Result Head WavFault → Type 0
 IsToldBy front size told = (bytes : List ℕ) → IsPrefix front bytes → length bytes ≡ size → IsToldOf bytes told

@@ -4,27 +4,27 @@ use Rattle.byteorder.specs.Endian.{little_bytes}
 use Rattle.liq_base.specs.Kinds.{channels_of}
 use Rattle.liq_base.specs.declared.memory.Kind.{Kind}
 
--- the bytes of a block, which is one sample of each channel
+-- how many bytes a block of 16 bits has, which is one sample of each channel
 abbrev pub block_size : Kind → ℕ
 block_size kind = 2 * channels_of kind
 
--- the bytes of a block of a wide file, whose samples have 24 bits
+-- how many bytes a block of 24 bits has, which is one sample of each channel
 abbrev pub wide_block : Kind → ℕ
 wide_block kind = 3 * channels_of kind
 
--- the bytes of a block, which is a sample of each channel
+-- how many bytes a block has, which is one sample of each channel
 abbrev pub block_align : Bool → Kind → ℕ
 block_align wide kind = if wide then wide_block kind else block_size kind
 
--- a number in four bytes and in two, the lowest byte first
+-- a number in four bytes, the lowest one first
 abbrev pub four_bytes : ℕ → List ℕ
 four_bytes n = little_bytes 4 n
 
--- a number in two bytes, the low one first
+-- a number in two bytes, the lower one first
 abbrev pub two_bytes : ℕ → List ℕ
 two_bytes n = little_bytes 2 n
 
--- the 44 bytes before so many samples of each channel, at so many samples a second
+-- the 44 bytes before so many samples of 16 bits of each channel, at `rate` samples a second
 unfoldable pub header_bytes : Kind → ℕ → ℕ → List ℕ
 header_bytes kind rate samples =
     codes "RIFF" ++ four_bytes (36 + samples * block_size kind) ++ codes "WAVE"
@@ -32,16 +32,17 @@ header_bytes kind rate samples =
     ++ four_bytes rate ++ four_bytes (rate * block_size kind) ++ two_bytes (block_size kind) ++ two_bytes 16
     ++ codes "data" ++ four_bytes (samples * block_size kind)
 
--- the header, where its sizes fit in four bytes
+-- the header before so many samples of 16 bits of each channel, where its sizes fit in four bytes
 abbrev pub header_of : Kind → ℕ → ℕ → Option (List ℕ)
 header_of kind rate samples =
     if nat_lt (36 + samples * block_size kind) (2 ^ 32) then Some (header_bytes kind rate samples) else None
 
--- so many bytes, and one more where they are odd
+-- how many bytes so many take in a file: one more where they are odd
 abbrev pub padded : ℕ → ℕ
 padded size = size + size % 2
 
--- the 44 bytes before so many wide samples of each channel: their size in front counts the byte behind odd data
+-- the 44 bytes before so many samples of 24 bits of each channel, at `rate` samples a second; the size of the file
+-- counts the byte after odd data
 unfoldable pub wide_header_bytes : Kind → ℕ → ℕ → List ℕ
 wide_header_bytes kind rate samples =
     codes "RIFF" ++ four_bytes (36 + padded (samples * wide_block kind)) ++ codes "WAVE"
@@ -49,12 +50,12 @@ wide_header_bytes kind rate samples =
     ++ four_bytes rate ++ four_bytes (rate * wide_block kind) ++ two_bytes (wide_block kind) ++ two_bytes 24
     ++ codes "data" ++ four_bytes (samples * wide_block kind)
 
--- the wide header, where its sizes fit in four bytes
+-- the header before so many samples of 24 bits of each channel, where its sizes fit in four bytes
 abbrev pub wide_header_of : Kind → ℕ → ℕ → Option (List ℕ)
 wide_header_of kind rate samples =
     if nat_lt (36 + padded (samples * wide_block kind)) (2 ^ 32) then Some (wide_header_bytes kind rate samples)
     else None
 
--- the header of a file of either width
+-- the header before so many samples of either width, where its sizes fit in four bytes
 abbrev pub header_at : Bool → Kind → ℕ → ℕ → Option (List ℕ)
 header_at wide kind rate samples = if wide then wide_header_of kind rate samples else header_of kind rate samples

@@ -18,12 +18,12 @@ pub record Wav : Type 0 where
   pub wide : Bool
   pub body : List ℕ
 
--- `RIFF`, four bytes that are not looked at, and `WAVE`
+-- whether a file begins with `RIFF`, four bytes that are not looked at, and `WAVE`
 abbrev pub is_riff : List ℕ → Bool
 is_riff bytes = nat_le 12 (length bytes) && bytes_eq (take 4 bytes) (codes "RIFF")
     && bytes_eq (take 4 (drop 8 bytes)) (codes "WAVE")
 
--- the first `fmt ` chunk, unless a `data` stands before it
+-- the first `fmt ` chunk, unless a `data` chunk stands before it
 abbrev pub format_chunk : List Chunk → Option Chunk
 format_chunk chunks = first_named (codes "fmt ") (before_named (codes "data") chunks)
 
@@ -31,45 +31,46 @@ format_chunk chunks = first_named (codes "fmt ") (before_named (codes "data") ch
 abbrev pub body_of : List ℕ → Chunk → List ℕ
 body_of bytes chunk = take chunk.size (drop (chunk.place + 8) bytes)
 
--- the place behind the head of a chunk, and 0 where there is none
+-- the place of the first byte after the head of a chunk; 0 where there is no chunk
 abbrev pub behind_head : Option Chunk → ℕ
 behind_head None = 0
 behind_head (Some chunk) = chunk.place + 8
 
--- the place of the first byte of the samples: behind the head of the first data chunk
+-- the place of the first byte of the samples: after the head of the first data chunk
 abbrev pub place_of : List ℕ → ℕ
 place_of bytes = behind_head (first_named (codes "data") (chunks_of bytes))
 
--- a body of 16, 18 or 40 bytes that is not cut
+-- whether a format chunk of this size is read: it has 16, 18 or 40 bytes, and is not cut
 abbrev pub is_format_body : List ℕ → ℕ → Bool
 is_format_body body size = (nat_eq size 16 || nat_eq size 18 || nat_eq size 40) && nat_eq (length body) size
 
--- the number in so many bytes from a place of a body
+-- the number in `width` bytes from a place of a body, the lowest byte first
 abbrev pub field : List ℕ → ℕ → ℕ → ℕ
 field body place width = little_number width (drop place body)
 
--- the last 16 of 40 bytes, where they say that the samples are plain numbers
+-- the last 16 bytes of a body of the extensible form whose samples are whole numbers
 abbrev pub pcm_guid : List ℕ
 pcm_guid = 0x01 ∷ 0x00 ∷ 0x00 ∷ 0x00 ∷ 0x00 ∷ 0x00 ∷ 0x10 ∷ 0x00 ∷ 0x80 ∷ 0x00 ∷ 0x00 ∷ 0xaa ∷ 0x00 ∷ 0x38 ∷ 0x9b ∷ 0x71
     ∷ []
 
--- the extended format says that the samples are plain PCM
+-- whether a body of the extensible form says that the samples are whole numbers
 abbrev pub has_pcm_guid : List ℕ → Bool
 has_pcm_guid body = nat_eq (length body) 40 && bytes_eq (drop 24 body) pcm_guid
 
--- the tag 1, or the tag of the extensible form and its GUID
+-- whether a body says that its samples are whole numbers: by the tag 1, or by the extensible form's tag and GUID
 abbrev pub is_pcm : List ℕ → Bool
 is_pcm body = nat_eq (field body 0 2) 1 || (nat_eq (field body 0 2) 0xFFFE && has_pcm_guid body)
 
--- one channel or two
+-- the kind of so many channels, of which there are one or two
 abbrev pub kind_by_channels : ℕ → Option Kind
 kind_by_channels channels = if nat_eq channels 1 then Some Mono else if nat_eq channels 2 then Some Stereo else None
 
--- 16 bits or 24
+-- whether samples of so many bits are read: of 16 or 24
 abbrev pub is_width : ℕ → Bool
 is_width bits = nat_eq bits 16 || nat_eq bits 24
 
--- a kind and a rate, with the bytes of a block beside them, which are those of a sample for each channel
+-- the format of this kind and rate, if there is a kind, the rate is above 0, and `block` bytes are one sample for each
+-- channel
 abbrev pub checked_format : Bool → Option Kind → ℕ → ℕ → Result Format WavFault
 checked_format wide None rate block = Err BadFormat
 checked_format wide (Some kind) rate block =
@@ -79,7 +80,7 @@ checked_format wide (Some kind) rate block =
       wide = wide;
     }) else Err BadFormat
 
--- what the body of a `fmt ` chunk of this size says
+-- the format that the body of a `fmt ` chunk of this size gives, or its fault
 abbrev pub format_in : List ℕ → ℕ → Result Format WavFault
 format_in body size =
     if is_format_body body size then
@@ -93,13 +94,13 @@ format_in body size =
 abbrev pub whole_blocks : Bool → Kind → List ℕ → List ℕ
 whole_blocks wide kind body = take (length body / block_align wide kind * block_align wide kind) body
 
--- whole blocks, and at least one
+-- a body is whole blocks, and at least one
 pub record AreBlocks (wide : Bool) (kind : Kind) (body : List ℕ) : Type 0 where
   pub count : ℕ
   pub some : 0 < count
   pub whole : length body ≡ count * block_align wide kind
 
--- the whole blocks, of which there is at least one
+-- the file of this format and these blocks, of which there is at least one
 abbrev pub with_blocks : Format → List ℕ → Result Wav WavFault
 with_blocks format blocks = if nat_eq (length blocks) 0 then Err Empty else Ok (record {
   kind = format.kind;
@@ -108,22 +109,22 @@ with_blocks format blocks = if nat_eq (length blocks) 0 then Err Empty else Ok (
   body = blocks;
 })
 
--- the file, once its format is known: its samples are those of the first data chunk
+-- the file of this format whose first data chunk is this one
 abbrev pub data_step : List ℕ → Format → Option Chunk → Result Wav WavFault
 data_step bytes format None = Err NoData
 data_step bytes format (Some chunk) = with_blocks format (whole_blocks format.wide format.kind (body_of bytes chunk))
 
--- the file, once its format chunk was read
+-- the file whose first format chunk gives this format, and whose first data chunk is this one
 abbrev pub format_step : List ℕ → Result Format WavFault → Option Chunk → Result Wav WavFault
 format_step bytes (Err fault) samples = Err fault
 format_step bytes (Ok format) samples = data_step bytes format samples
 
--- the file, by its first format chunk and its first data chunk
+-- the file whose first format chunk and first data chunk are these
 abbrev pub chunk_step : List ℕ → Option Chunk → Option Chunk → Result Wav WavFault
 chunk_step bytes None samples = Err NoFormat
 chunk_step bytes (Some chunk) samples = format_step bytes (format_in (body_of bytes chunk) chunk.size) samples
 
--- the file, or the first fault that it has
+-- what a file holds, or the first fault that it has
 abbrev pub read_of : List ℕ → Result Wav WavFault
 read_of bytes = if is_riff bytes
     then chunk_step bytes (format_chunk (chunks_of bytes)) (first_named (codes "data") (chunks_of bytes))

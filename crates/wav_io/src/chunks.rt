@@ -6,10 +6,10 @@ ghost use Rattle.wav_io.specs.Reading.{format_chunk, body_of};
 
 use byteorder::{ByteOrder, LittleEndian};
 
-/// The bytes of a chunk's name and size.
+/// How many bytes a chunk's name and size have.
 const CHUNK_HEAD: usize = 8;
 
-/// Where the first chunk stands.
+/// The place of the first chunk in a file.
 const FIRST_CHUNK: usize = 12;
 
 /// A chunk: its name, the bytes of its body as its size field states them, and the place of its first byte in the file.
@@ -20,7 +20,7 @@ pub struct Chunk {
     pub place: usize,
 }
 
-/// The first `fmt ` chunk of the file, unless a `data` stands before it.
+/// The first `fmt ` chunk of the file, unless a `data` chunk stands before it.
 pub fn find_format(bytes: &[u8]) -> Option<Chunk>
     ensures first { result ≡ format_chunk (chunks_of bytes.now) }
     ensures there { IfSome result (λ chunk. chunk.place + 8 ≤ length bytes.now) }
@@ -63,7 +63,7 @@ pub fn chunk_body<'a>(bytes: &'a [u8], chunk: &Chunk) -> &'a [u8]
     &rest[..size]
 }
 
-/// The chunk at a place, if its name and its size stand in the file.
+/// The chunk whose first byte is at `place`, if its name and its size stand in the file.
 fn read_chunk(bytes: &[u8], place: usize) -> Option<Chunk>
     requires { place + 8 < 2 ^ 64 }
     ensures { SomeIff result (place + 8 ≤ length bytes.now) (chunk_at bytes.now place) }
@@ -81,7 +81,7 @@ fn read_chunk(bytes: &[u8], place: usize) -> Option<Chunk>
     Some(Chunk { name, size, place })
 }
 
-/// The place behind a chunk, its body and the pad byte of an odd size.
+/// The place of the first byte after a chunk, its body and the pad byte of an odd size.
 fn next_place(chunk: &Chunk) -> usize
     requires { chunk.now.place < 2 ^ 63 }
     ensures behind { result ≡ place_behind chunk.now }

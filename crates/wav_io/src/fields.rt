@@ -9,9 +9,8 @@ use byteorder::{ByteOrder, LittleEndian};
 use liq_base::Kind;
 use liq_base::limits::MAX_RATE;
 
-/// The header before so many samples of each channel, at `rate` samples a second, of at most
-/// 192000. `None` exactly where the file's size no longer fits in its field. The fields stand in
-/// `docs/formats.md`.
+/// The header before `samples` samples of each channel, of 16 bits, at `rate` samples a second, of at most 192000.
+/// `None` exactly where the file's size no longer fits in its field. The fields stand in `docs/formats.md`.
 pub fn header(kind: Kind, rate: u32, samples: u64) -> Option<[u8; 44]>
     requires { rate ≤ MAX_RATE }
     ensures header { result ≡ header_of kind rate samples }
@@ -22,9 +21,9 @@ pub fn header(kind: Kind, rate: u32, samples: u64) -> Option<[u8; 44]>
     Some(field_bytes(channels, rate, block, 16, 36 + size, size))
 }
 
-/// The header before so many samples of 24 bits of each channel, at `rate` samples a second, of at most
-/// 192000. Where its data are odd, a byte stands behind them, which the file's size counts. `None` exactly where this
-/// size no longer fits in its field.
+/// The header before `samples` samples of 24 bits of each channel, at `rate` samples a second, of at most 192000. Where
+/// its data are odd, a byte stands behind them, which the file's size counts. `None` exactly where this size no longer
+/// fits in its field.
 pub fn header_wide(kind: Kind, rate: u32, samples: u64) -> Option<[u8; 44]>
     requires { rate ≤ MAX_RATE }
     ensures header { result ≡ wide_header_of kind rate samples }
@@ -36,7 +35,7 @@ pub fn header_wide(kind: Kind, rate: u32, samples: u64) -> Option<[u8; 44]>
     Some(field_bytes(channels, rate, block, 24, whole, size))
 }
 
-/// The bytes of a block, which is one sample of each channel.
+/// How many bytes a block has, which is one sample of each channel: of 24 bits where it is wide, and else of 16.
 pub(crate) fn block_len(wide: bool, kind: Kind) -> u16
     ensures { result ≡ block_align wide kind }
 {
@@ -47,7 +46,7 @@ pub(crate) fn block_len(wide: bool, kind: Kind) -> u16
     }
 }
 
-/// The bytes of so many samples of each channel, if the file's size fits in its field.
+/// How many bytes so many samples of 16 bits of each channel have, if the file's size fits in its field.
 fn data_len(kind: Kind, samples: u64) -> Option<u32>
     ensures { SomeIff result (36 + samples * block_size kind < 2 ^ 32) (samples * block_size kind) }
 {
@@ -56,7 +55,7 @@ fn data_len(kind: Kind, samples: u64) -> Option<u32>
     Some(file_size - 36)
 }
 
-/// The bytes of so many samples of 24 bits of each channel, if the file's size fits in its field.
+/// How many bytes so many samples of 24 bits of each channel have, if the file's size fits in its field.
 fn wide_len(kind: Kind, samples: u64) -> Option<u32>
     ensures { SomeIff result (36 + padded (samples * wide_block kind) < 2 ^ 32) (samples * wide_block kind) }
 {
@@ -65,8 +64,8 @@ fn wide_len(kind: Kind, samples: u64) -> Option<u32>
     u32::try_from(size).ok()
 }
 
-/// The header of so many channels, samples a second, bytes of a block, bits of a sample, bytes behind the file's size,
-/// and bytes of samples.
+/// The header of a file of this many channels, with samples of `bits` bits, `rate` a second, and blocks of `block`
+/// bytes; `whole` bytes follow the field of the file's size, and `size` are samples.
 fn field_bytes(channels: u16, rate: u32, block: u16, bits: u16, whole: u32, size: u32) -> [u8; 44]
     requires block { block ≤ 6 }
     requires rate { rate ≤ MAX_RATE }

@@ -8,19 +8,21 @@ use crate::fields::block_len;
 use byteorder::{ByteOrder, LittleEndian};
 use liq_base::Kind;
 
-/// The size of a body of the extensible form.
+/// How many bytes a body of the extensible form has.
 const EXTENSIBLE_BYTES: usize = 40;
 
-/// The tag of samples that are whole numbers, and the tag of the extensible form.
+/// The tag of a format whose samples are whole numbers.
 const PCM_TAG: u16 = 1;
 
+/// The tag of the extensible form.
 const EXTENSIBLE_TAG: u16 = 0xFFFE;
 
-/// The bytes of an extensible body that say that its samples are whole numbers, and where they stand in it.
+/// The bytes of an extensible body that say that its samples are whole numbers.
 const PCM_GUID: [u8; 16] = [
     0x01, 0x00, 0x00, 0x00, 0x00, 0x00, 0x10, 0x00, 0x80, 0x00, 0x00, 0xaa, 0x00, 0x38, 0x9b, 0x71,
 ];
 
+/// Where these 16 bytes begin in an extensible body.
 const GUID_PLACE: usize = 24;
 
 /// What a `fmt ` chunk says: how many channels there are, the samples a second, and whether these have 24 bits.
@@ -48,7 +50,7 @@ pub fn read_format(body: &[u8], size: u32) -> Result<Format, WavFault>
     checked(bits == 24, kind_from(channels), rate, block)
 }
 
-/// Whether the size is one of those that are read, and the body is not cut.
+/// Whether a body of this size, as the chunk states it, is read and is not cut: it has 16, 18 or 40 bytes.
 fn is_sized(body: &[u8], size: u32) -> bool
     ensures sized { result ≡ is_format_body body.now size }
     ensures long { IsTrue result → 16 ≤ length body.now }
@@ -63,7 +65,7 @@ fn is_width(bits: u16) -> bool
     bits == 16 || bits == 24
 }
 
-/// Whether the tag is that of whole numbers, or that of the extensible form with the GUID of whole numbers.
+/// Whether a body has the tag of whole numbers, or that of the extensible form with the GUID of whole numbers.
 fn is_whole_numbers(body: &[u8]) -> bool
     requires { 16 ≤ length body.now }
     ensures { result ≡ is_pcm body.now }
@@ -72,7 +74,7 @@ fn is_whole_numbers(body: &[u8]) -> bool
     tag == PCM_TAG || (tag == EXTENSIBLE_TAG && has_guid(body))
 }
 
-/// Whether this is an extensible body with the GUID of whole numbers.
+/// Whether a body is of the extensible form with the GUID of whole numbers.
 fn has_guid(body: &[u8]) -> bool
     ensures { result ≡ has_pcm_guid body.now }
 {
@@ -83,7 +85,7 @@ fn has_guid(body: &[u8]) -> bool
     guid == PCM_GUID.as_slice()
 }
 
-/// The kind of so many channels, of which there are one or two.
+/// The kind of so many channels; nothing where they are neither one nor two.
 fn kind_from(channels: u16) -> Option<Kind>
     ensures { result ≡ kind_by_channels channels }
 {
@@ -94,7 +96,8 @@ fn kind_from(channels: u16) -> Option<Kind>
     }
 }
 
-/// A kind and a rate, beside the bytes of a block, which are those of a sample for each channel.
+/// The format of this kind and rate, if there is a kind, the rate is above 0, and a block of `block` bytes is one
+/// sample for each channel.
 fn checked(wide: bool, kind: Option<Kind>, rate: u32, block: u16) -> Result<Format, WavFault>
     ensures { result ≡ checked_format wide kind rate block }
 {

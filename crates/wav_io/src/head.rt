@@ -11,7 +11,7 @@ use crate::format::read_format;
 use crate::read::{is_riff, read_wav};
 use liq_base::Kind;
 
-/// The bytes in which `RIFF` and `WAVE` stand.
+/// How many bytes are read for `RIFF`, the file's size and `WAVE`.
 const RIFF_BYTES: usize = 12;
 
 /// What the head of a WAV file tells.
@@ -65,7 +65,8 @@ pub fn head_of(bytes: &[u8]) -> Result<Head, WavFault>
     })
 }
 
-/// The head of a longer file that begins with these bytes, among which stands the head of its first data chunk.
+/// The head of a file of `size` bytes, more than these or as many, which begins with these; its first data chunk is
+/// `data`, whose head is among them.
 fn head_before(front: &[u8], size: u64, data: &Chunk) -> Result<Head, WavFault>
     requires riff { is_riff front.now ≡ true }
     requires first { first_named (codes "data") (chunks_of front.now) ≡ Some data.now }
@@ -90,7 +91,7 @@ fn head_before(front: &[u8], size: u64, data: &Chunk) -> Result<Head, WavFault>
     })
 }
 
-/// The bytes of the whole blocks that a data chunk holds in a file of so many bytes.
+/// How many bytes the whole blocks have that a data chunk holds in a file of `size` bytes.
 fn held_blocks(wide: bool, kind: Kind, size: u64, data: &Chunk) -> u64
     requires { data.now.place + 8 ≤ size }
     ensures { result ≡ blocks_size wide kind size data.now }

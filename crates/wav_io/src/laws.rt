@@ -7,7 +7,7 @@ ghost use Rattle.wav_io.specs.Reading.{read_of};
 
 use liq_base::limits::MAX_RATE;
 
-/// The chunks of a file are all those that stand in it, one behind the other.
+/// The chunks of a file are all those that stand in it, one after the other.
 pub fn chunks_are_all()
     ensures { (bytes : List ℕ) → AreChunks bytes 12 (chunks_of bytes) }
 {}

@@ -22,12 +22,12 @@ pub struct Wav<'a> {
     /// Whole blocks: of each channel one signed sample, the lowest byte first, left before right.
     pub body: &'a [u8],
 
-    /// The place of the first of them in the file.
+    /// The place of the first block in the file.
     pub at: usize,
 }
 
 /// The kind, the rate in samples a second, the width of samples and the whole blocks of a WAV file, or the first fault
-/// of the table in `docs/formats.md`. It takes no memory, and what lies behind the first `data` chunk is not looked at.
+/// of the table in `docs/formats.md`. It takes no memory, and what comes after the first `data` chunk is not looked at.
 pub fn read_wav(bytes: &[u8]) -> Result<Wav<'_>, WavFault>
     ensures read { MatchResult result (λ wav. read_of bytes.now ≡ Ok (record {
       kind = wav.kind;
@@ -63,7 +63,7 @@ pub fn read_wav(bytes: &[u8]) -> Result<Wav<'_>, WavFault>
     })
 }
 
-/// Whether `RIFF` and `WAVE` stand at their places.
+/// Whether a file begins with `RIFF`, four bytes that are not looked at, and `WAVE`.
 pub(crate) fn is_riff(bytes: &[u8]) -> bool
     ensures { result ≡ is_riff bytes.now }
 {

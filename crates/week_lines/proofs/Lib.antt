@@ -3,3 +3,4 @@ mod Players
 mod Telling
 mod Chains
 mod Counting
+mod Kept

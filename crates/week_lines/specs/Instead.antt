@@ -33,24 +33,28 @@ child_behind number [] = None
 child_behind number (child ∷ children) =
     if nat_eq child number then first_other number children else child_behind number children
 
--- what a fallback goes on to
+-- what plays, if a fallback goes on to a source with this operator
 abbrev pub instead_by : Op → Instead
 instead_by (Blank track) = Silence
 instead_by _ = Next
 
+-- what plays, if a fallback goes on to this node; not known without one
 abbrev pub instead_found : Option Node → Instead
 instead_found None = Unknown
 instead_found (Some node) = instead_by node.op
 
+-- what plays, if a fallback goes on to the node of this number; not known without one
 abbrev pub instead_at : List Node → Option ℕ → Instead
 instead_at nodes None = Unknown
 instead_at nodes (Some n) = instead_found (slice_get nodes n)
 
--- the same of a source whose one player this is: of a fallback its next child, and of others it is not known
+-- what plays in the place of a source that one node alone plays: if that is a fallback, its next child, and else it is
+-- not known
 abbrev pub instead_below : List Node → (number : ℕ) → Op → (children : List ℕ) → Instead
 instead_below nodes number (Fallback sensitive) children = instead_at nodes (child_behind number children)
 instead_below nodes number _ children = Unknown
 
+-- what plays in the place of a source that these nodes play: it is known only if it is one node
 abbrev pub instead_among : List Node → (number : ℕ) → (players : List Node) → Instead
 instead_among nodes number (player ∷ []) = instead_below nodes number player.op player.children
 instead_among nodes number _ = Unknown
@@ -61,6 +65,7 @@ instead_of plan number =
     if is_written plan.sinks number then Unknown
     else instead_among plan.nodes number (players_of plan.nodes number)
 
+-- an operator is a crossfade
 abbrev pub is_crossfade : Op → Bool
 is_crossfade (Crossfade overlap) = true
 is_crossfade _ = false

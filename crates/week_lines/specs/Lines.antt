@@ -16,9 +16,11 @@ instead_text Silence = codes ": silence"
 instead_text Next = codes ": the fallback plays its next source"
 instead_text Unknown = codes ": it plays nothing"
 
+-- the track of a track-sensitive switch ends before anything else plays
 abbrev pub track_text : (sensitive : Bool) → List ℕ
 track_text sensitive = if sensitive then codes ", once the track has ended" else []
 
+-- below a crossfade its own clock counts, which is not that of the week
 abbrev pub below_text : (below : Bool) → List ℕ
 below_text below = if below then codes ", by the clock of the crossfade above" else []
 
@@ -38,6 +40,6 @@ sum_text seconds = (codes "in all up to " ++ decimal (seconds / 3600))
     ++ (part_text (seconds % 3600) (seconds / 60 % 60)
     ++ (part_text (seconds % 60) (seconds % 60) ++ codes " hours of silence a week\n"))
 
--- nothing is told of no second
+-- the line of how long it is silent in all, if it is at all
 abbrev pub sum_line : (seconds : ℕ) → List ℕ
 sum_line seconds = if nat_eq seconds 0 then [] else sum_text seconds

@@ -24,7 +24,7 @@ holes_text number [] daily instead sensitive below = []
 holes_text number (span ∷ spans) daily instead sensitive below =
     hole_line number (span ∷ spans) daily instead sensitive below
 
--- cases are counted from 1
+-- the front of the line of a case, which is counted from 1 there
 abbrev pub case_text : (number case : ℕ) → List ℕ
 case_text number case = switch_text number ++ (codes "case " ++ decimal (case + 1))
 
@@ -51,7 +51,7 @@ pub record IsSwitchText (number : ℕ) (instead : Instead) (sensitive below : Bo
   pub are_fates : AreFates preds sure fates
   pub lines : text ≡ holes_text number spans daily instead sensitive below ++ fates_text number 0 fates
 
--- the same of a switch of a plan, and whether it lies below a crossfade
+-- what is told of source `number` of a plan, a switch: by what plays in its place, and whether a crossfade is above it
 abbrev pub IsOfSwitch : Plan → (mark : ℕ → Bool) → (number : ℕ) → (sensitive : Bool) → List Predicate
     → (children : List ℕ) → (text : List ℕ) → Type 0
 IsOfSwitch plan mark number sensitive preds children text =

@@ -42,6 +42,7 @@ fn is_written(sinks: &[SinkPlan], number: usize) -> bool
     false
 }
 
+// The node that a sink takes.
 fn taken(sink: &SinkPlan) -> u32
     ensures { result ≡ sink_node sink.now }
 {
@@ -51,7 +52,7 @@ fn taken(sink: &SinkPlan) -> u32
     }
 }
 
-// The same where no sink takes it.
+// What plays in the place of source `number`, which no sink takes: known only if one node alone plays it.
 fn instead_among(nodes: &[Node], number: usize) -> Instead
     ensures { result ≡ instead_among nodes.now number (players_of nodes.now number) }
 {
@@ -70,6 +71,7 @@ fn instead_among(nodes: &[Node], number: usize) -> Instead
     instead
 }
 
+// Whether source `number` is among these children.
 fn plays(children: &[u32], number: usize) -> bool
     ensures { result ≡ list_any (λ child. nat_eq child number) children.now }
 {
@@ -81,7 +83,7 @@ fn plays(children: &[u32], number: usize) -> bool
     false
 }
 
-// What plays in the place of a source that this one alone plays.
+// What plays in the place of source `number`, which `player` alone plays.
 fn instead_below(nodes: &[Node], number: usize, player: &Node) -> Instead
     ensures { result ≡ instead_below nodes.now number player.now.op player.now.children }
 {
@@ -91,6 +93,7 @@ fn instead_below(nodes: &[Node], number: usize, player: &Node) -> Instead
     }
 }
 
+// What plays in the place of source `number` among the children of a fallback: the next other child behind it.
 fn next_of(nodes: &[Node], children: &[u32], number: usize) -> Instead
     ensures { result ≡ instead_at nodes.now (child_behind number children.now) }
 {
@@ -100,7 +103,7 @@ fn next_of(nodes: &[Node], children: &[u32], number: usize) -> Instead
     }
 }
 
-// The first other child behind this one.
+// The first other child behind source `number`; nothing if it is the last.
 fn child_behind(children: &[u32], number: usize) -> Option<u32>
     ensures { result ≡ child_behind number children.now }
 {
@@ -115,6 +118,7 @@ fn child_behind(children: &[u32], number: usize) -> Option<u32>
     None
 }
 
+// What source n is, as what plays in another one's place.
 fn kind_of(nodes: &[Node], n: u32) -> Instead
     ensures { result ≡ instead_at nodes.now (Some n) }
 {
@@ -124,6 +128,7 @@ fn kind_of(nodes: &[Node], n: u32) -> Instead
     }
 }
 
+// What a node with this operator is, as what plays in another one's place.
 fn kind_by(op: &Op) -> Instead
     ensures { result ≡ instead_by op.now }
 {

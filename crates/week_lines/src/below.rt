@@ -19,7 +19,8 @@ pub fn below_crossfades(alloc: Global, nodes: &[Node]) -> Result<Vec<bool>, Memo
     Ok(below)
 }
 
-// From the last source to the first: the children of a source are before it.
+// Marks each source below a crossfade: from the last source to the first, since the children of a source stand before
+// it.
 fn mark_below(below: &mut [bool], nodes: &[Node])
     requires nodes { AreNodes nodes.now }
     requires size { length below.old ≡ length nodes.now }
@@ -36,13 +37,14 @@ fn mark_below(below: &mut [bool], nodes: &[Node])
     }
 }
 
-// Whether a node is a crossfade, or lies below one.
+// Whether node n is a crossfade, or lies below one; then its children lie below one.
 fn is_over(below: &[bool], n: usize, node: &Node) -> bool
     ensures { result ≡ (is_crossfade node.now.op || get_or below.now n false) }
 {
     is_crossfade(&node.op) || is_marked(below, n)
 }
 
+// Whether an operator is a crossfade.
 fn is_crossfade(op: &Op) -> bool
     ensures { result ≡ is_crossfade op.now }
 {
@@ -52,6 +54,7 @@ fn is_crossfade(op: &Op) -> bool
     }
 }
 
+// Marks these children.
 fn mark_all(below: &mut [bool], children: &[u32])
     ensures size { length below.new ≡ length below.old }
     ensures marked { (n : ℕ) → n < length below.old → get_or below.new n false

@@ -16,6 +16,7 @@ pub fn push_cases(into: &mut Vec<u8>, number: usize, fates: &[Fate]) -> Result<(
     Ok(())
 }
 
+// Appends the line of case `case`, counted from 0, of switch `number`, if it is never chosen.
 fn push_case(into: &mut Vec<u8>, number: usize, case: usize, fate: Fate) -> Result<(), Memory>
     requires { case < 2 ^ 63 }
     ensures { OnOk result (into.new.items ≡ into.old.items ++ fate_text number case fate) }
@@ -36,6 +37,7 @@ fn push_case(into: &mut Vec<u8>, number: usize, case: usize, fate: Fate) -> Resu
     }
 }
 
+// Appends the front of a case's line. Cases are counted from 1 there.
 fn push_case_number(into: &mut Vec<u8>, number: usize, case: usize) -> Result<(), Memory>
     requires { case < 2 ^ 63 }
     ensures { OnOk result (into.new.items ≡ into.old.items ++ case_text number case) }

@@ -44,7 +44,7 @@ fn push_plan(alloc: Global, into: &mut Vec<u8>, plan: &Plan, marks: &[bool]) -> 
     Ok(())
 }
 
-// Appends what is told of each source, and adds to a table the seconds at which one is silent.
+// Appends what is told of each source, and adds to `silent` the seconds of the week at which one of them is silent.
 fn push_lines(
     alloc: Global,
     into: &mut Vec<u8>,

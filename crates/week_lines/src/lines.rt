@@ -50,6 +50,7 @@ pub fn push_hole(
     Ok(())
 }
 
+// What a line says of what plays in the place of a switch.
 fn words_of(instead: Instead) -> &'static [u8]
     ensures { result.now ≡ instead_text instead }
 {
@@ -60,6 +61,7 @@ fn words_of(instead: Instead) -> &'static [u8]
     }
 }
 
+// Appends, if the switch is track-sensitive, that its track ends first.
 fn push_track(into: &mut Vec<u8>, sensitive: bool) -> Result<(), Memory>
     ensures { OnOk result (into.new.items ≡ into.old.items ++ track_text sensitive) }
 {
@@ -70,6 +72,7 @@ fn push_track(into: &mut Vec<u8>, sensitive: bool) -> Result<(), Memory>
     }
 }
 
+// Appends, if a crossfade is above, that its clock counts.
 fn push_clock(into: &mut Vec<u8>, below: bool) -> Result<(), Memory>
     ensures { OnOk result (into.new.items ≡ into.old.items ++ below_text below) }
 {
@@ -95,7 +98,7 @@ pub fn push_sum(into: &mut Vec<u8>, seconds: u64) -> Result<(), Memory>
     Ok(())
 }
 
-// Appends a colon and two digits, unless what is counted is 0.
+// Appends a colon and the two digits of `number`, unless `rest`, what is left to be told, is 0.
 fn push_part(into: &mut Vec<u8>, rest: u64, number: u64) -> Result<(), Memory>
     ensures { OnOk result (into.new.items ≡ into.old.items ++ part_text rest number) }
 {

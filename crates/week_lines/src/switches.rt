@@ -1,5 +1,5 @@
 // What is told of the switches of a plan.
-ghost use Rattle.std.specs.Prelude.{◌≡◌, ◌↔◌, ◌++◌, [], ◌&&◌, ◌||◌, ℕ, Bool, List, Some, true, false, not, length};
+ghost use Rattle.std.specs.Prelude.{◌≡◌, ◌↔◌, ◌++◌, [], ◌&&◌, ◌||◌, ℕ, All, Bool, List, Some, true, false, not, length};
 ghost use Rattle.std.specs.Prelude.{get_or, map, slice_get, IfOk, OnOk};
 ghost use Rattle.fallible_infer.specs.Infallible.{mark_at};
 ghost use Rattle.plan_core.specs.Plans.{IsWellFormed};
@@ -20,7 +20,7 @@ use liq_base::Memory;
 use plan_core::{Node, Op, Plan};
 use std::alloc::Global;
 use time_pred::SharedPred;
-use week_plan::{Looked, Seen, Span, Way, is_daily, join, look_again, spans_of, unlooked};
+use week_plan::{Looked, Seen, Span, Way, is_daily, join, look_kept, spans_of};
 
 /// A switch: its number, what plays in its place, whether a track that runs ends first, and whether it follows the
 /// clock of a crossfade.
@@ -48,12 +48,13 @@ pub fn push_switches(
     ensures lines { OnOk result (AreLines plan.now (mark_at marks.now) into.new.items) }
     ensures silent { OnOk result (IsTableOf (some_silent plan.now (length plan.now.nodes)) silent.new) }
 {
-    let mut looked = unlooked(alloc)?;
-    push_each(alloc, into, silent, plan, marks, below, &mut looked)?;
+    let mut kept = Vec::new(alloc);
+    push_each(alloc, into, silent, plan, marks, below, &mut kept)?;
     Ok(())
 }
 
-// The same; what was told of the switch before is kept, since the next one may have the same cases.
+// Appends what is told of each source, and adds the seconds at which one is silent. What was told of switches is kept
+// in `looked`, since a later one may have the same cases.
 fn push_each<'a>(
     alloc: Global,
     into: &mut Vec<u8>,
@@ -61,13 +62,13 @@ fn push_each<'a>(
     plan: &'a Plan,
     marks: &[bool],
     below: &[bool],
-    looked: &mut Looked<'a>,
+    kept: &mut Vec<Looked<'a>>,
 ) -> Result<(), Memory>
     requires plan { IsWellFormed plan.now }
     requires empty { into.old.items ≡ [] }
     requires none { IsTableOf (λ at. false) silent.old }
     requires below { (number : ℕ) → (get_or below.now number false ≡ true) ↔ IsBelow plan.now.nodes number }
-    requires looked { IsLooked looked.old }
+    requires kept { All IsLooked kept.old.items }
     ensures lines { OnOk result (AreLines plan.now (mark_at marks.now) into.new.items) }
     ensures silent { OnOk result (IsTableOf (some_silent plan.now (length plan.now.nodes)) silent.new) }
 {
@@ -82,7 +83,7 @@ fn push_each<'a>(
             marks,
             below,
             number,
-            looked,
+            kept,
         )?;
     }
     Ok(())
@@ -97,19 +98,19 @@ fn push_node<'a>(
     marks: &[bool],
     below: &[bool],
     number: usize,
-    looked: &mut Looked<'a>,
+    kept: &mut Vec<Looked<'a>>,
 ) -> Result<(), Memory>
     requires plan { IsWellFormed plan.now }
     requires node { slice_get plan.now.nodes number ≡ Some node.now }
     requires table { IsTable silent.old }
     requires below { (get_or below.now number false ≡ true) ↔ IsBelow plan.now.nodes number }
-    requires looked { IsLooked looked.old }
+    requires kept { All IsLooked kept.old.items }
     ensures text { OnOk result ((own : List ℕ)
         × IsOfSource plan.now (mark_at marks.now) number node.now.op node.now.children own
         × (into.new.items ≡ into.old.items ++ own)) }
     ensures silent { OnOk result
         (IsTableOf (λ at. is_told silent.old at || is_silent plan.now number at) silent.new) }
-    ensures looked { OnOk result (IsLooked looked.new) }
+    ensures kept { OnOk result (All IsLooked kept.new.items) }
 {
     match &node.op {
         Op::Switch { sensitive, preds } => {
@@ -127,7 +128,7 @@ fn push_node<'a>(
                 preds.as_slice(),
                 node.children.as_slice(),
                 marks,
-                looked,
+                kept,
             )
         }
         _ => Ok(()),
@@ -143,22 +144,22 @@ fn push_looked<'a>(
     preds: &'a [SharedPred],
     children: &[u32],
     marks: &[bool],
-    looked: &mut Looked<'a>,
+    kept: &mut Vec<Looked<'a>>,
 ) -> Result<(), Memory>
     requires size { length children.now ≡ length preds.now }
     requires table { IsTable silent.old }
-    requires looked { IsLooked looked.old }
+    requires kept { All IsLooked kept.old.items }
     ensures text { OnOk result ((own : List ℕ)
         × IsSwitchText switch.number switch.instead switch.sensitive switch.below (map view_shared preds.now)
         (map (mark_at marks.now) children.now) own
         × (into.new.items ≡ into.old.items ++ own)) }
     ensures silent { OnOk result (IsTableOf (λ at. is_told silent.old at
         || (is_silence switch.instead && not (some_case_holds (map view_shared preds.now) at))) silent.new) }
-    ensures looked { OnOk result (IsLooked looked.new) }
+    ensures kept { OnOk result (All IsLooked kept.new.items) }
 {
     let sure = sure_of(alloc, marks, children)?;
-    look_again(alloc, looked, preds, sure)?;
-    push_seen(alloc, into, silent, switch, &looked.seen)?;
+    let place = look_kept(alloc, kept, preds, sure)?;
+    push_seen(alloc, into, silent, switch, &kept[place].seen)?;
     Ok(())
 }
 

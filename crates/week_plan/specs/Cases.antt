@@ -13,7 +13,7 @@ use Rattle.week_plan.specs.Tables.{IsTableOf}
 abbrev pub holds_surely : (at : ℕ) → Predicate × Bool → Bool
 holds_surely at case = holds case.0 at && case.1
 
--- one of these cases does
+-- one of these cases holds at a second, and its source never falls silent
 abbrev pub is_taken : List Predicate → (sure : List Bool) → (at : ℕ) → Bool
 is_taken preds sure at = list_any (holds_surely at) (zip preds sure)
 
@@ -50,7 +50,7 @@ pub record AreFates (preds : List Predicate) (sure : List Bool) (fates : List Fa
   pub size : length fates ≡ length preds
   pub each : (case : ℕ) → case < length preds → IsFate preds sure case (get_or fates case Chosen)
 
--- the table of the case before this one is kept
+-- `table` is that of the case before number `case`, if there is one
 abbrev pub IsKept : List SharedPred → (case : ℕ) → (table : List ℕ) → Type 0
 IsKept preds case table = (k : ℕ) (pred : SharedPred) → case ≡ k + 1 → pred ≡ get_or preds k pred
     → IsTableOf (holds (view_shared pred)) table

@@ -31,7 +31,7 @@ some_case_holds preds at = list_any (λ pred. holds pred at) preds
 abbrev pub AreHoles : List Predicate → List Span → Type 0
 AreHoles preds spans = AreSpansOf (λ at. not (some_case_holds preds at)) spans
 
--- what is told of a second is this, from one up to another
+-- of each second from one up to another the test tells this
 abbrev pub IsFor : (ℕ → Bool) → (from to : ℕ) → Bool → Type 0
 IsFor test from to answer = (at : ℕ) → from ≤ at → at < to → test at ≡ answer
 

@@ -1,11 +1,11 @@
 -- When the holes of a switch are, for people.
 use Rattle.std.specs.Prelude.{ℕ, zero, suc, ◌+◌, ◌/◌, ◌%◌, Bool, true, false, ◌&&◌, List, [], ◌++◌, codes, decimal, nat_eq, nat_lt, if◌then◌else◌}
 
--- a number below 100
+-- the two digits of a number below 100
 abbrev pub two_digits : ℕ → List ℕ
 two_digits n = decimal (n / 10) ++ decimal (n % 10)
 
--- seconds stand there only where they are not 0
+-- a colon and the seconds of a time, unless they are 0
 abbrev pub seconds_part : ℕ → List ℕ
 seconds_part zero = []
 seconds_part (suc n) = codes ":" ++ two_digits (suc n)
@@ -15,6 +15,7 @@ abbrev pub clock_text : ℕ → List ℕ
 clock_text second = two_digits (second / 3600)
     ++ (codes ":" ++ (two_digits (second / 60 % 60) ++ seconds_part (second % 60)))
 
+-- the name of the day in which a second of the week lies, and a blank
 unfoldable pub day_text : ℕ → List ℕ
 day_text day =
     if nat_eq day 0 then codes "Mon " else if nat_eq day 1 then codes "Tue " else if nat_eq day 2 then codes "Wed "
@@ -42,6 +43,7 @@ abbrev pub weekly_text : (from last : ℕ) → List ℕ
 weekly_text from last = (day_text (from / 86400) ++ clock_text (from % 86400))
     ++ (codes "-" ++ (end_day from last ++ end_text last))
 
+-- a span by its first and last second: of each day, or of the week
 abbrev pub span_text : (daily : Bool) → (from last : ℕ) → List ℕ
 span_text true from last = daily_text from last
 span_text false from last = weekly_text from last

@@ -46,7 +46,8 @@ pub fn look(alloc: Global, preds: &[SharedPred], sure: &[bool]) -> Result<Seen, 
     Ok(Seen { holes, fates })
 }
 
-// What becomes of each case; what no case holds at is left of a table.
+// What becomes of each case, in order. `holes` tells the seconds at which no case held yet; those at which one of these
+// holds are taken out.
 fn fates_of(
     alloc: Global,
     holes: &mut [u64],
@@ -64,8 +65,8 @@ fn fates_of(
     Ok(fates)
 }
 
-// Appends what becomes of each case, and takes from two tables the seconds at which one holds, and at which one does
-// whose source never falls silent.
+// Appends what becomes of each case. `holes` tells the seconds at which no case held yet, and `free` those at which
+// none did whose source never falls silent; each case takes its own from both.
 fn push_fates(
     alloc: Global,
     into: &mut Vec<Fate>,
@@ -86,7 +87,8 @@ fn push_fates(
     Ok(())
 }
 
-// The same, with room for the table of a case, which is kept for the next one.
+// Appends what becomes of each case. Takes its seconds from `holes`, and from `free` too if its source never falls
+// silent. `kept` is room for a case's table, which stays for the next case, since that may have the same predicate.
 fn push_each_fate(
     alloc: Global,
     into: &mut Vec<Fate>,
@@ -111,7 +113,8 @@ fn push_each_fate(
     Ok(())
 }
 
-// Makes the table of a case, unless it is that of the case before it, which is kept.
+// Makes in `kept` the table of case k, whose predicate is `pred`. Nothing is done if case k - 1 has the same predicate,
+// since its table is there.
 fn keep_table(
     alloc: Global,
     kept: &mut Vec<u64>,
@@ -146,7 +149,7 @@ fn take_case(holes: &mut [u64], free: &mut [u64], table: &[u64], sure: bool) -> 
     fate
 }
 
-// Takes the seconds of a table from another one, if its source never falls silent.
+// Takes the seconds of a table out of `from`, if the source of its case never falls silent (`sure`).
 fn take_if(from: &mut [u64], table: &[u64], sure: bool)
     requires from { IsTable from.old }
     requires table { IsTable table.now }
@@ -159,7 +162,7 @@ fn take_if(from: &mut [u64], table: &[u64], sure: bool)
     }
 }
 
-// What becomes of a case that holds at these seconds, where those are free.
+// What becomes of a case that holds at the seconds of `table`, and may be chosen at those of `free`.
 fn fate_of(table: &[u64], free: &[u64]) -> Fate
     requires table { IsTable table.now }
     requires free { IsTable free.now }

@@ -41,7 +41,7 @@ pub fn repeated_table(alloc: Global, pred: &Pred, minutes: u32) -> Result<Vec<u6
     Ok(words)
 }
 
-// Tells the seconds at which a predicate holds that comes back after so many minutes.
+// Tells in the words of the first minutes at which of their seconds the predicate holds.
 fn fill_period(words: &mut [u64], pred: &Pred, minutes: u32)
     requires some { 0 < minutes }
     requires week { minutes ≤ 10080 }
@@ -60,7 +60,7 @@ fn fill_period(words: &mut [u64], pred: &Pred, minutes: u32)
     repeat(words, minutes as usize);
 }
 
-// Adds the seconds from one up to another, if they are told.
+// Adds to a table the seconds from `from` up to `to`, if `told`.
 fn add_where(into: &mut [u64], from: u32, to: u32, told: bool)
     requires into { IsTable into.old }
     requires order { from ≤ to }

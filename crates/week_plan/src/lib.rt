@@ -19,7 +19,7 @@ mod words;
 pub use cases::{Fate, Seen, look};
 pub use days::is_daily;
 pub use listing::push_when;
-pub use looked::{Looked, look_again, unlooked};
+pub use looked::{Looked, look_kept};
 pub use preds::table_of;
 pub use same::{same_pred, same_preds};
 pub use span::Span;

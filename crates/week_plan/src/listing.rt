@@ -43,6 +43,7 @@ pub fn push_when(
     Ok(())
 }
 
+// Whether the first span is the whole week.
 fn is_whole(spans: &[Span]) -> bool
     ensures { result ≡ is_whole spans.now }
 {
@@ -52,6 +53,7 @@ fn is_whole(spans: &[Span]) -> bool
     }
 }
 
+// The second at which what comes back ends: a day's, with `daily`, or the week's.
 fn end_of_round(daily: bool) -> u32
     ensures is { result ≡ end_of_round daily }
     ensures some { 0 < result }
@@ -59,6 +61,7 @@ fn end_of_round(daily: bool) -> u32
     if daily { DAY } else { WEEK }
 }
 
+// Appends that it is so on each day, with `daily`.
 fn push_every(into: &mut Vec<u8>, daily: bool) -> Result<(), Memory>
     ensures { OnOk result (into.new.items ≡ into.old.items ++ every_text daily) }
 {
@@ -69,7 +72,8 @@ fn push_every(into: &mut Vec<u8>, daily: bool) -> Result<(), Memory>
     }
 }
 
-// The spans before an end, a day's or the week's, where the last one goes on as the first one.
+// The spans that begin before `end`, the end of a day or of the week, by their first and last seconds. If the last one
+// ends there and the first one begins at 0, the two are one, round that end.
 fn rounds(alloc: Global, spans: &[Span], end: u32) -> Result<Vec<Round>, Memory>
     requires { 0 < end }
     ensures { IfOk result (λ rounds. rounds.items ≡ joined end (rounds_before end spans.now)) }
@@ -80,6 +84,7 @@ fn rounds(alloc: Global, spans: &[Span], end: u32) -> Result<Vec<Round>, Memory>
     Ok(rounds)
 }
 
+// Appends the spans that begin before `end`, as far as it.
 fn push_before(rounds: &mut Vec<Round>, spans: &[Span], end: u32) -> Result<(), Memory>
     ensures { OnOk result (rounds.new.items ≡ rounds.old.items ++ rounds_before end spans.now) }
 {
@@ -89,6 +94,7 @@ fn push_before(rounds: &mut Vec<Round>, spans: &[Span], end: u32) -> Result<(), 
     Ok(())
 }
 
+// Appends a span as far as `end`, if it begins before it.
 fn push_round_before(rounds: &mut Vec<Round>, span: &Span, end: u32) -> Result<(), Memory>
     ensures { OnOk result (rounds.new.items ≡ rounds.old.items ++ round_before end span.now) }
 {
@@ -101,6 +107,7 @@ fn push_round_before(rounds: &mut Vec<Round>, span: &Span, end: u32) -> Result<(
     Ok(())
 }
 
+// Makes the first and the last round one, if they meet at `end`.
 fn join(rounds: &mut Vec<Round>, end: u32)
     requires { 0 < end }
     ensures { rounds.new.items ≡ joined end rounds.old.items }
@@ -116,6 +123,7 @@ fn join(rounds: &mut Vec<Round>, end: u32)
     let _joined = rounds.remove(0);
 }
 
+// Whether the last round goes as far as `end` and another one begins at 0.
 fn goes_round(rounds: &[Round], end: u32) -> bool
     requires { 0 < end }
     ensures is { result ≡ goes_round end rounds.now }
@@ -124,6 +132,7 @@ fn goes_round(rounds: &[Round], end: u32) -> bool
     count >= 2 && rounds[0].from == 0 && rounds[count - 1].last == end - 1
 }
 
+// Appends the rounds, with commas between them: the first 8, and how many more there are.
 fn push_rounds(into: &mut Vec<u8>, rounds: &[Round], daily: bool) -> Result<(), Memory>
     ensures { OnOk result (into.new.items ≡ into.old.items ++ rounds_text daily 0 rounds.now) }
 {
@@ -137,6 +146,7 @@ fn push_rounds(into: &mut Vec<u8>, rounds: &[Round], daily: bool) -> Result<(), 
     Ok(())
 }
 
+// Appends round number k, behind a comma unless it is the first.
 fn push_round(into: &mut Vec<u8>, k: usize, daily: bool, round: &Round) -> Result<(), Memory>
     ensures { OnOk result (into.new.items ≡ into.old.items ++ (comma k ++ round_text daily round.now)) }
 {
@@ -150,6 +160,7 @@ fn push_round(into: &mut Vec<u8>, k: usize, daily: bool, round: &Round) -> Resul
     Ok(())
 }
 
+// Appends a comma, unless k is 0.
 fn push_comma(into: &mut Vec<u8>, k: usize) -> Result<(), Memory>
     ensures { OnOk result (into.new.items ≡ into.old.items ++ comma k) }
 {
@@ -159,6 +170,7 @@ fn push_comma(into: &mut Vec<u8>, k: usize) -> Result<(), Memory>
     Ok(())
 }
 
+// Appends how many rounds are not told.
 fn push_more(into: &mut Vec<u8>, count: usize) -> Result<(), Memory>
     ensures { OnOk result (into.new.items ≡ into.old.items ++ more_text count) }
 {

@@ -1,10 +1,7 @@
-// What was told of the cases of a switch, kept for the next switch with the same ones.
-ghost use Rattle.std.specs.Prelude.{◌≡◌, ℕ, true, IfOk, OnOk, length, map, not};
+// What was told of the cases of switches, kept for the next switch with the same ones.
+ghost use Rattle.std.specs.Prelude.{◌≡◌, All, IfOk, IfSome, OnOk, true, length, map};
 ghost use Rattle.time_pred.specs.View.{view_shared};
-ghost use Rattle.week_plan.specs.Cases.{AreFates};
-ghost use Rattle.week_plan.specs.Looked.{IsLooked};
-ghost use Rattle.week_plan.specs.Spans.{some_case_holds};
-ghost use Rattle.week_plan.specs.Tables.{IsTableOf};
+ghost use Rattle.week_plan.specs.Looked.{IsAt, IsLooked, IsLookedAt};
 
 use crate::cases::{Seen, look};
 use crate::same::same_preds;
@@ -12,7 +9,10 @@ use liq_base::Memory;
 use std::alloc::Global;
 use time_pred::SharedPred;
 
-/// The cases that were looked at last, and what is told of them.
+/// How many lists of cases are kept.
+const MOST: usize = 64;
+
+/// Cases that were looked at, and what is told of them.
 #[derive(Debug, Drop)]
 pub struct Looked<'a> {
     pub preds: &'a [SharedPred],
@@ -20,40 +20,104 @@ pub struct Looked<'a> {
     pub seen: Seen,
 }
 
-/// A look at no case.
-pub fn unlooked<'a>(alloc: Global) -> Result<Looked<'a>, Memory>
-    ensures { IfOk result IsLooked }
-{
-    let seen = look(alloc, &[], &[])?;
-    Ok(Looked {
-        preds: &[],
-        sure: Vec::new(alloc),
-        seen,
-    })
-}
-
-/// As `look`, whose answer is kept: nothing is done where the cases are those that were looked at last.
-pub fn look_again<'a>(
+/// As `look`, whose answer is kept behind those before: nothing is done where one of them is of the same cases. It
+/// tells the place of the answer.
+pub fn look_kept<'a>(
     alloc: Global,
-    looked: &mut Looked<'a>,
+    kept: &mut Vec<Looked<'a>>,
     preds: &'a [SharedPred],
     sure: Vec<bool>,
-) -> Result<(), Memory>
-    requires looked { IsLooked looked.old }
+) -> Result<usize, Memory>
+    requires kept { All IsLooked kept.old.items }
     requires size { length sure.items ≡ length preds.now }
-    ensures looked { OnOk result (IsLooked looked.new) }
-    ensures preds { OnOk result (map view_shared looked.new.preds.now ≡ map view_shared preds.now) }
-    ensures sure { OnOk result (looked.new.sure.items ≡ sure.items) }
+    ensures kept { OnOk result (All IsLooked kept.new.items) }
+    ensures at { IfOk result (λ place. IsLookedAt kept.new.items place (map view_shared preds.now) sure.items) }
 {
-    if same_preds(looked.preds, preds) && same_flags(&looked.sure, &sure) {
-        return Ok(());
+    match place_among(kept, preds, &sure) {
+        Some(place) => Ok(place),
+        None => look_anew(alloc, kept, preds, sure),
     }
-    looked.seen = look(alloc, preds, &sure)?;
-    looked.preds = preds;
-    looked.sure = sure;
-    Ok(())
 }
 
+// The place of the answer that is of these cases.
+fn place_among(kept: &[Looked<'_>], preds: &[SharedPred], sure: &[bool]) -> Option<usize>
+    requires { All IsLooked kept.now }
+    ensures { IfSome result (λ place. IsLookedAt kept.now place (map view_shared preds.now) sure.now) }
+{
+    for (place, looked) in kept.iter().enumerate() {
+        if is_of(looked, preds, sure) {
+            return Some(place);
+        }
+    }
+    None
+}
+
+// Whether an answer is of these cases.
+fn is_of(looked: &Looked<'_>, preds: &[SharedPred], sure: &[bool]) -> bool
+    ensures preds { result ≡ true → map view_shared looked.now.preds.now ≡ map view_shared preds.now }
+    ensures sure { result ≡ true → looked.now.sure.items ≡ sure.now }
+{
+    if same_preds(looked.preds, preds) {
+        return same_flags(&looked.sure, sure);
+    }
+    false
+}
+
+// Looks at cases that are new.
+fn look_anew<'a>(
+    alloc: Global,
+    kept: &mut Vec<Looked<'a>>,
+    preds: &'a [SharedPred],
+    sure: Vec<bool>,
+) -> Result<usize, Memory>
+    requires kept { All IsLooked kept.old.items }
+    requires size { length sure.items ≡ length preds.now }
+    ensures kept { OnOk result (All IsLooked kept.new.items) }
+    ensures at { IfOk result (λ place. IsLookedAt kept.new.items place (map view_shared preds.now) sure.items) }
+{
+    let looked = looked_of(alloc, preds, sure)?;
+    make_room(kept);
+    let place = keep(kept, looked)?;
+    Ok(place)
+}
+
+fn looked_of<'a>(
+    alloc: Global,
+    preds: &'a [SharedPred],
+    sure: Vec<bool>,
+) -> Result<Looked<'a>, Memory>
+    requires { length sure.items ≡ length preds.now }
+    ensures looked { IfOk result IsLooked }
+    ensures preds { IfOk result (λ looked. map view_shared looked.preds.now ≡ map view_shared preds.now) }
+    ensures sure { IfOk result (λ looked. looked.sure.items ≡ sure.items) }
+{
+    let seen = look(alloc, preds, &sure)?;
+    Ok(Looked { preds, sure, seen })
+}
+
+// Lets all answers go where as many are kept as may be.
+fn make_room(kept: &mut Vec<Looked<'_>>)
+    requires { All IsLooked kept.old.items }
+    ensures { All IsLooked kept.new.items }
+{
+    if kept.len() >= MOST {
+        kept.clear();
+    }
+}
+
+// Keeps an answer, and tells its place.
+fn keep<'a>(kept: &mut Vec<Looked<'a>>, looked: Looked<'a>) -> Result<usize, Memory>
+    requires kept { All IsLooked kept.old.items }
+    requires looked { IsLooked looked }
+    ensures kept { OnOk result (All IsLooked kept.new.items) }
+    ensures at { IfOk result (λ place. IsAt kept.new.items place looked.entry) }
+{
+    let place = kept.len();
+    kept.push(looked)?;
+    Ok(place)
+}
+
+// Whether two lists have the same marks.
 fn same_flags(flags: &[bool], others: &[bool]) -> bool
     ensures { result ≡ true → flags.now ≡ others.now }
 {

@@ -32,6 +32,7 @@ pub fn table_of(alloc: Global, pred: &Pred) -> Result<Vec<u64>, Memory>
     }
 }
 
+// The table of the seconds at which all of these predicates hold.
 #[cycle(table)]
 fn all_table(alloc: Global, parts: &[Pred]) -> Result<Vec<u64>, Memory>
     ensures { IfOk result (λ words. IsTableOf (λ at. list_all (λ p. holds (view_pred p) at) parts.now) words.items) }
@@ -44,6 +45,7 @@ fn all_table(alloc: Global, parts: &[Pred]) -> Result<Vec<u64>, Memory>
     Ok(words)
 }
 
+// The table of the seconds at which at least one of these predicates holds.
 #[cycle(table)]
 fn any_table(alloc: Global, parts: &[Pred]) -> Result<Vec<u64>, Memory>
     ensures { IfOk result (λ words. IsTableOf (λ at. list_any (λ p. holds (view_pred p) at) parts.now) words.items) }
@@ -56,7 +58,7 @@ fn any_table(alloc: Global, parts: &[Pred]) -> Result<Vec<u64>, Memory>
     Ok(words)
 }
 
-// The table of the seconds that another one does not tell.
+// The table of the seconds that `table` does not tell.
 fn turned(alloc: Global, table: &[u64]) -> Result<Vec<u64>, Memory>
     requires { IsTable table.now }
     ensures { IfOk result (λ words. IsTableOf (λ at. not (is_told table.now at)) words.items) }

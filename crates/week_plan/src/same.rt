@@ -28,6 +28,7 @@ pub fn same_pred(pred: &SharedPred, other: &SharedPred) -> bool
     is_same(pred.as_pred(), other.as_pred())
 }
 
+// Whether two predicates are written alike.
 #[cycle(same)]
 fn is_same(pred: &Pred, other: &Pred) -> bool
     ensures { result ≡ true → view_pred pred.now ≡ view_pred other.now }
@@ -52,6 +53,7 @@ fn is_same(pred: &Pred, other: &Pred) -> bool
     }
 }
 
+// Whether two lists have predicates that are written alike, in the same order.
 #[cycle(same)]
 fn all_same(parts: &[Pred], others: &[Pred]) -> bool
     ensures { result ≡ true → map view_pred parts.now ≡ map view_pred others.now }
@@ -67,6 +69,7 @@ fn all_same(parts: &[Pred], others: &[Pred]) -> bool
     true
 }
 
+// Whether a predicate is `true`.
 fn is_always(pred: &Pred) -> bool
     ensures { result ≡ true → Always ≡ view_pred pred.now }
 {
@@ -76,6 +79,7 @@ fn is_always(pred: &Pred) -> bool
     }
 }
 
+// Whether a predicate is `false`.
 fn is_never(pred: &Pred) -> bool
     ensures { result ≡ true → Never ≡ view_pred pred.now }
 {
@@ -85,6 +89,7 @@ fn is_never(pred: &Pred) -> bool
     }
 }
 
+// Whether a predicate is this mark.
 fn is_mark(mark: TimeMark, pred: &Pred) -> bool
     ensures { result ≡ true → At mark ≡ view_pred pred.now }
 {
@@ -94,6 +99,7 @@ fn is_mark(mark: TimeMark, pred: &Pred) -> bool
     }
 }
 
+// Whether a predicate is the interval between these marks.
 fn is_interval(from: TimeMark, to: TimeMark, pred: &Pred) -> bool
     ensures { result ≡ true → Between from to ≡ view_pred pred.now }
 {
@@ -103,6 +109,7 @@ fn is_interval(from: TimeMark, to: TimeMark, pred: &Pred) -> bool
     }
 }
 
+// Whether two intervals have the same marks: `from` and `since` begin them, `to` and `until` end them.
 fn is_both(from: TimeMark, since: TimeMark, to: TimeMark, until: TimeMark) -> bool
     ensures from { result ≡ true → from ≡ since }
     ensures to { result ≡ true → to ≡ until }
@@ -113,6 +120,7 @@ fn is_both(from: TimeMark, since: TimeMark, to: TimeMark, until: TimeMark) -> bo
     false
 }
 
+// Whether two marks are the same.
 fn is_one(mark: TimeMark, other: TimeMark) -> bool
     ensures { result ≡ true → mark ≡ other }
 {

@@ -18,7 +18,7 @@ pub fn spans_of(alloc: Global, words: &[u64]) -> Result<Vec<Span>, Memory>
     Ok(spans)
 }
 
-// Appends the spans.
+// Appends the spans of the week of which a table tells.
 fn push_spans(into: &mut Vec<Span>, words: &[u64]) -> Result<(), Memory>
     requires none { into.old.items ≡ [] }
     requires table { IsTable words.now }
@@ -40,7 +40,7 @@ fn push_spans(into: &mut Vec<Span>, words: &[u64]) -> Result<(), Memory>
     Ok(())
 }
 
-// Appends the span from a second up to another, where it is not empty.
+// Appends the span from a second up to another, unless it is empty.
 fn push_span(into: &mut Vec<Span>, from: u32, to: u32) -> Result<(), Memory>
     ensures { OnOk result (into.new.items ≡ with_span into.old.items from to) }
 {

@@ -3,7 +3,7 @@ ghost use Rattle.std.specs.Prelude.{◌≡◌, ◌<◌, ◌≤◌, ◌+◌, ◌^
 ghost use Rattle.week_plan.specs.Spans.{IsFor};
 ghost use Rattle.week_plan.specs.Tables.{IsTable, is_set, is_told};
 
-use crate::table::{FULL, MINUTE, is_told};
+use crate::table::{FULL, MINUTE, MINUTES, is_told, word_of};
 
 /// The seconds of a week.
 pub const WEEK: u32 = 604_800;
@@ -27,8 +27,28 @@ pub fn stretch_from(words: &[u64], at: u32) -> Stretch
     let stays = stays_in(words[(at / MINUTE) as usize], at % MINUTE, told);
     Stretch {
         told,
-        end: at + stays,
+        end: over_minutes(words, at + stays, told),
     }
+}
+
+// Where the whole minutes end, from a second on, of which each second is told, or none is.
+fn over_minutes(words: &[u64], from: u32, told: bool) -> u32
+    requires table { IsTable words.now }
+    requires week { from ≤ 604800 }
+    ensures later { from ≤ result }
+    ensures within { result ≤ 604800 }
+    ensures same { IsFor (is_told words.now) from result told }
+{
+    if from % MINUTE != 0 {
+        return from;
+    }
+    let word = word_of(told);
+    for k in from / MINUTE..MINUTES as u32 {
+        if words[k as usize] != word {
+            return k * MINUTE;
+        }
+    }
+    WEEK
 }
 
 // For how many seconds of its minute it stays that a second is told, or that it is not.

@@ -7,8 +7,8 @@ use crate::stretch::WEEK;
 use liq_base::Memory;
 use std::alloc::Global;
 
-// The minutes of a week.
-const MINUTES: usize = 10_080;
+/// The minutes of a week.
+pub const MINUTES: usize = 10_080;
 
 /// The seconds of a minute.
 pub const MINUTE: u32 = 60;
@@ -31,7 +31,8 @@ pub fn filled(alloc: Global, told: bool) -> Result<Vec<u64>, Memory>
     repeated(alloc, word_of(told), MINUTES)
 }
 
-fn word_of(told: bool) -> u64
+/// The word of a minute of which each second is told, or none.
+pub fn word_of(told: bool) -> u64
     ensures small { result < 2 ^ 60 }
     ensures same { (second : ℕ) → second < 60 → is_set result second ≡ told }
 {

@@ -26,6 +26,7 @@ pub fn push_span_text(into: &mut Vec<u8>, daily: bool, from: u32, last: u32) -> 
     }
 }
 
+// Appends a span of each day: from `from` to the end of the second `last`.
 fn push_daily(into: &mut Vec<u8>, from: u32, last: u32) -> Result<(), Memory>
     ensures { OnOk result (into.new.items ≡ into.old.items ++ daily_text from last) }
 {
@@ -35,6 +36,7 @@ fn push_daily(into: &mut Vec<u8>, from: u32, last: u32) -> Result<(), Memory>
     Ok(())
 }
 
+// Appends a span of the week: the day and the time of its begin, and of its end the day only if it is another one.
 fn push_weekly(into: &mut Vec<u8>, from: u32, last: u32) -> Result<(), Memory>
     requires { last < 604800 }
     ensures { OnOk result (into.new.items ≡ into.old.items ++ weekly_text from last) }
@@ -46,6 +48,7 @@ fn push_weekly(into: &mut Vec<u8>, from: u32, last: u32) -> Result<(), Memory>
     Ok(())
 }
 
+// Appends the day and the time at which a span begins.
 fn push_begin(into: &mut Vec<u8>, from: u32) -> Result<(), Memory>
     ensures { OnOk result (into.new.items ≡ into.old.items ++ (day_text (from / 86400) ++ clock_text (from % 86400))) }
 {
@@ -53,6 +56,7 @@ fn push_begin(into: &mut Vec<u8>, from: u32) -> Result<(), Memory>
     push_clock(into, from % DAY)
 }
 
+// Appends the day on which a span ends, unless it began on that day.
 fn push_end_day(into: &mut Vec<u8>, from: u32, last: u32) -> Result<(), Memory>
     requires { last < 604800 }
     ensures { OnOk result (into.new.items ≡ into.old.items ++ end_day from last) }
@@ -64,6 +68,7 @@ fn push_end_day(into: &mut Vec<u8>, from: u32, last: u32) -> Result<(), Memory>
     }
 }
 
+// Whether a span begins and ends on one day.
 fn is_one_day(from: u32, last: u32) -> bool
     requires { last < 604800 }
     ensures { result ≡ is_one_day from last }
@@ -71,12 +76,14 @@ fn is_one_day(from: u32, last: u32) -> bool
     from / DAY == last / DAY && from < last + 1
 }
 
+// Appends the time at which a span ends whose last second is this; 24:00 at the end of a day.
 fn push_end(into: &mut Vec<u8>, last: u32) -> Result<(), Memory>
     ensures { OnOk result (into.new.items ≡ into.old.items ++ end_text last) }
 {
     push_clock(into, last % DAY + 1)
 }
 
+// Appends a time of the day, told in seconds since midnight; its seconds only if they are not 0.
 fn push_clock(into: &mut Vec<u8>, second: u32) -> Result<(), Memory>
     ensures { OnOk result (into.new.items ≡ into.old.items ++ clock_text second) }
 {
@@ -87,6 +94,7 @@ fn push_clock(into: &mut Vec<u8>, second: u32) -> Result<(), Memory>
     Ok(())
 }
 
+// Appends a colon and seconds, unless they are 0.
 fn push_seconds(into: &mut Vec<u8>, seconds: u32) -> Result<(), Memory>
     ensures { OnOk result (into.new.items ≡ into.old.items ++ seconds_part seconds) }
 {
@@ -97,6 +105,7 @@ fn push_seconds(into: &mut Vec<u8>, seconds: u32) -> Result<(), Memory>
     push_two(into, seconds)
 }
 
+// Appends a number below 100 in two digits.
 fn push_two(into: &mut Vec<u8>, number: u32) -> Result<(), Memory>
     ensures { OnOk result (into.new.items ≡ into.old.items ++ two_digits number) }
 {
@@ -105,18 +114,21 @@ fn push_two(into: &mut Vec<u8>, number: u32) -> Result<(), Memory>
     Ok(())
 }
 
+// Appends a colon.
 fn push_colon(into: &mut Vec<u8>) -> Result<(), Memory>
     ensures { OnOk result (into.new.items ≡ into.old.items ++ codes ":") }
 {
     push_plain(into, b":")
 }
 
+// Appends the dash between begin and end.
 fn push_dash(into: &mut Vec<u8>) -> Result<(), Memory>
     ensures { OnOk result (into.new.items ≡ into.old.items ++ codes "-") }
 {
     push_plain(into, b"-")
 }
 
+// Appends the name of a day of the week, of which Monday is 0.
 #[tactic(auto, unfolding(crate::specs::Texts::day_text))]
 fn push_day(into: &mut Vec<u8>, day: u32) -> Result<(), Memory>
     ensures { OnOk result (into.new.items ≡ into.old.items ++ day_text day) }

@@ -1,2 +1,3 @@
 pub mod Windows
+pub mod Told
 pub mod Known

@@ -7,20 +7,21 @@ use Rattle.week_plan.specs.Spans.{some_case_holds}
 use Rattle.week_plan.specs.declared.span.Span.{Span}
 use Rattle.week_windows.specs.declared.windows.Windows.{Windows}
 
--- one second more, before these spans: the first of them begins with it, or it is a span of its own
+-- spans with one second more, which is before all of them: the first span begins with it if it was to begin a second
+-- later, and otherwise it is a span of its own
 abbrev pub with_second : (at : ℕ) → List Span → List Span
 with_second at [] = record { from = at; to = at + 1 } ∷ []
 with_second at (span ∷ spans) =
     if nat_eq span.from (at + 1) then record { from = at; to = span.to } ∷ spans
     else record { from = at; to = at + 1 } ∷ span ∷ spans
 
--- the spans of what is told of so many seconds, from one on
+-- the spans, as long as can be, of those seconds that pass the test, among `count` seconds from `at` on
 unfoldable pub spans_from : (ℕ → Bool) → (at count : ℕ) → List Span
 spans_from test at zero = []
 spans_from test at (suc count) =
     if test at then with_second at (spans_from test (at + 1) count) else spans_from test (at + 1) count
 
--- how long a span is; where it ends with the week it goes on, from the beginning of the week, for so many seconds
+-- how many seconds a span has; if it ends with the week, it goes on at the beginning of the week for `more` seconds
 abbrev pub seconds_of : (more : ℕ) → Span → ℕ
 seconds_of more span = (span.to - span.from) + (if nat_eq span.to 604800 then more else 0)
 
@@ -28,50 +29,52 @@ seconds_of more span = (span.to - span.from) + (if nat_eq span.to 604800 then mo
 abbrev pub ends_week : List Span → Bool
 ends_week spans = list_any (λ span. nat_eq span.to 604800) spans
 
--- How long the windows are that the spans of a week make. The first and the last one are one window where they meet at
--- the end of the week.
+-- How many seconds each window has that the spans of a week make. The first and the last one are one window if they
+-- meet at the end of the week.
 abbrev pub lengths_of : List Span → List ℕ
 lengths_of [] = []
 lengths_of (first ∷ rest) =
     if nat_eq first.from 0 && ends_week rest then map (seconds_of first.to) rest
     else map (seconds_of 0) (first ∷ rest)
 
--- the least of these and of one more, and the greatest
+-- the least of these numbers and n
 abbrev pub least : ℕ → List ℕ → ℕ
 least n [] = n
 least n (m ∷ ms) = least (min n m) ms
 
+-- the greatest of these numbers and n
 abbrev pub greatest : ℕ → List ℕ → ℕ
 greatest n [] = n
 greatest n (m ∷ ms) = greatest (max n m) ms
 
--- how many windows there are, and the shortest and the longest of them; of none both are 0
+-- how many windows there are, and the seconds of the shortest and the longest one, by the seconds of each; without
+-- windows all are 0
 abbrev pub in_all : (lengths : List ℕ) → Windows
 in_all [] = record { count = 0; shortest = 0; longest = 0 }
 in_all (n ∷ ns) = record { count = length ns + 1; shortest = least n ns; longest = greatest n ns }
 
--- the windows of what is told of each second of the week
+-- the windows of the week in which each second passes the test
 abbrev pub windows_of : (ℕ → Bool) → Windows
 windows_of test = in_all (lengths_of (spans_from test 0 604800))
 
--- at a second a case holds, and none of the cases before it
+-- at this second of the week a case holds, and no case before it does
 abbrev pub is_first : (earlier : List Predicate) → Predicate → (at : ℕ) → Bool
 is_first earlier pred at = holds pred at && not (some_case_holds earlier at)
 
--- the windows of each of these cases, which stand behind these earlier ones
+-- the windows of each of these cases, in the second list, which come after the earlier ones
 abbrev pub case_windows : (earlier : List Predicate) → List Predicate → List Windows
 case_windows earlier [] = []
 case_windows earlier (pred ∷ preds) = windows_of (is_first earlier pred) ∷ case_windows (pred ∷ earlier) preds
 
--- the spans of each of these cases, which stand behind these earlier ones
+-- the spans of each of these cases, in the second list, which come after the earlier ones
 abbrev pub case_spans : (earlier : List Predicate) → List Predicate → List (List Span)
 case_spans earlier [] = []
 case_spans earlier (pred ∷ preds) = spans_from (is_first earlier pred) 0 604800 ∷ case_spans (pred ∷ earlier) preds
 
--- the spans at which none of these cases holds
+-- the spans of the week at which none of these cases holds
 abbrev pub hole_spans : List Predicate → List Span
 hole_spans preds = spans_from (λ at. not (some_case_holds preds at)) 0 604800
 
--- the spans that are held
+-- the spans of a case, as a list
 abbrev pub spans_in : Vec Span → List Span
 spans_in spans = spans.items

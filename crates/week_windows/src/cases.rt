@@ -43,7 +43,7 @@ pub fn holes_of(alloc: Global, hours: &Hours) -> Result<Vec<Span>, Memory>
     Ok(spans)
 }
 
-/// The windows of each of these.
+/// The windows of each case, by its spans.
 pub fn windows_each(alloc: Global, cases: &[Vec<Span>]) -> Result<Vec<Windows>, Memory>
     ensures { IfOk result (λ all. all.items ≡ map (λ spans. in_all (lengths_of (spans_in spans))) cases.now) }
 {
@@ -54,7 +54,7 @@ pub fn windows_each(alloc: Global, cases: &[Vec<Span>]) -> Result<Vec<Windows>, 
     Ok(all)
 }
 
-// The spans of each case. The table is left with the seconds at which none holds.
+// The spans of each case. `free`, a table of all seconds, is left with those at which none holds.
 fn cases_of(alloc: Global, free: &mut [u64], preds: &[SharedPred]) -> Result<Vec<Vec<Span>>, Memory>
     requires { IsTableOf (λ at. true) free.old }
     ensures cases { IfOk result (λ cases. map spans_in cases.items ≡ case_spans [] (map view_shared preds.now)) }
@@ -65,7 +65,7 @@ fn cases_of(alloc: Global, free: &mut [u64], preds: &[SharedPred]) -> Result<Vec
     Ok(cases)
 }
 
-// Appends the spans of each case. The table is left with the seconds at which none holds.
+// Appends the spans of each case. `free`, a table of all seconds, is left with those at which none holds.
 fn push_cases(
     alloc: Global,
     into: &mut Vec<Vec<Span>>,
@@ -98,8 +98,8 @@ fn stands_among(pred: &SharedPred, earlier: &[SharedPred]) -> bool
     false
 }
 
-// The spans of a case, where those seconds are free at which no case before it holds. It takes its own from them: none,
-// if its predicate stands among those before it.
+// The spans of a case, among the seconds in the table `free`, at which no case before it holds; it takes them from
+// there. `again` says that its predicate is that of a case before it: then it has none.
 fn take_case(
     alloc: Global,
     free: &mut [u64],
@@ -122,7 +122,7 @@ fn take_case(
     Ok(spans)
 }
 
-// The spans of what a table tells at seconds that are free. It takes these from them.
+// The spans of the seconds of a table that are also in the table `free`; it takes them from there.
 fn take(alloc: Global, free: &mut [u64], table: &mut [u64]) -> Result<Vec<Span>, Memory>
     requires free { IsTable free.old }
     requires table { IsTable table.old }
@@ -137,7 +137,7 @@ fn take(alloc: Global, free: &mut [u64], table: &mut [u64]) -> Result<Vec<Span>,
     Ok(spans)
 }
 
-// The spans of what a table tells.
+// The spans of the seconds in a table.
 fn left_spans(alloc: Global, table: &[u64]) -> Result<Vec<Span>, Memory>
     requires { IsTable table.now }
     ensures { IfOk result (λ spans. spans.items ≡ spans_from (is_told table.now) 0 604800) }

@@ -1,32 +1,46 @@
-// The hours of a switch, kept for the next switch with the same cases.
+// The hours and the windows of switches, kept for the next switch with the same cases.
 ghost use Rattle.std.specs.Prelude.{◌≡◌, [], IfOk, OnOk, map};
 ghost use Rattle.time_pred.specs.View.{view_shared};
 ghost use Rattle.week_windows.specs.Known.{IsKnown};
 ghost use Rattle.week_windows.specs.Windows.{case_windows, hole_spans};
 
-use crate::cases::{Hours, holes_of, hours_of, windows_each};
+use crate::cases::{Hours, holes_of, hours_of};
+use crate::told::{ToldCases, windows_kept};
 use crate::windows::Windows;
 use liq_base::Memory;
 use std::alloc::Global;
+use std::mem;
 use time_pred::SharedPred;
 use week_plan::{Span, same_preds};
 
-/// The predicates of the cases that were looked at last, and their hours.
+/// The predicates of the cases that were looked at last, and their hours; those of the cases before; and the windows of
+/// the lists of cases that were counted.
 #[derive(Debug, Drop)]
 pub struct Known<'a> {
     pub preds: &'a [SharedPred],
     pub hours: Hours,
+    pub older_preds: &'a [SharedPred],
+    pub older: Hours,
+    pub told: Vec<ToldCases<'a>>,
 }
 
-/// The hours of no case.
+/// The hours that are kept before a switch was looked at: those of no case.
 pub fn unknown<'a>(alloc: Global) -> Result<Known<'a>, Memory>
     ensures { IfOk result IsKnown }
 {
     let hours = hours_of(alloc, &[])?;
-    Ok(Known { preds: &[], hours })
+    let older = hours_of(alloc, &[])?;
+    Ok(Known {
+        preds: &[],
+        hours,
+        older_preds: &[],
+        older,
+        told: Vec::new(alloc),
+    })
 }
 
-/// As `hours_of`, whose answer is kept: nothing is done where the cases are those that were looked at last.
+/// Keeps the hours of the cases with these predicates, in order. Nothing is made if the cases are those that were
+/// looked at last, or those before them.
 pub fn hours_again<'a>(
     alloc: Global,
     known: &mut Known<'a>,
@@ -39,12 +53,27 @@ pub fn hours_again<'a>(
     if same_preds(known.preds, preds) {
         return Ok(());
     }
+    turn(known);
+    if same_preds(known.preds, preds) {
+        return Ok(());
+    }
     known.hours = hours_of(alloc, preds)?;
     known.preds = preds;
     Ok(())
 }
 
-/// The windows of each case of a switch, by the predicates of the cases, in order, and by hours that are kept.
+// Exchanges the hours that were kept last and those before them.
+fn turn(known: &mut Known<'_>)
+    requires { IsKnown known.old }
+    ensures { IsKnown known.new }
+{
+    let preds = known.preds;
+    known.preds = known.older_preds;
+    known.older_preds = preds;
+    mem::swap(&mut known.hours, &mut known.older);
+}
+
+/// The windows of each case of a switch, by the predicates of the cases, in order. They are kept for later switches.
 pub fn windows_again<'a>(
     alloc: Global,
     known: &mut Known<'a>,
@@ -54,9 +83,7 @@ pub fn windows_again<'a>(
     ensures known { OnOk result (IsKnown known.new) }
     ensures windows { IfOk result (λ all. all.items ≡ case_windows [] (map view_shared preds.now)) }
 {
-    hours_again(alloc, known, preds)?;
-    let all = windows_each(alloc, &known.hours.cases)?;
-    Ok(all)
+    windows_kept(alloc, &mut known.told, preds)
 }
 
 /// The spans at which none of the cases holds whose hours are kept.

@@ -3,8 +3,7 @@ ghost use Rattle.std.specs.Prelude.{ℕ, Bool};
 ghost use Rattle.week_plan.specs.Spans.{AreSpansOf};
 ghost use Rattle.week_windows.specs.Windows.{spans_from};
 
-/// The spans from the beginning of the week on are those of exactly the seconds that are told, each as long as it can
-/// be.
+/// The spans of a week have exactly the seconds that pass the test, and each is as long as it can be.
 pub fn spans_are_longest()
     ensures { (test : ℕ → Bool) → AreSpansOf test (spans_from test 0 604800) }
 {}

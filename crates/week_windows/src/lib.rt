@@ -5,8 +5,10 @@
 mod cases;
 mod known;
 pub mod laws;
+mod told;
 mod windows;
 
 pub use cases::{Hours, hours_of};
 pub use known::{Known, hours_again, known_holes, unknown, windows_again};
+pub use told::ToldCases;
 pub use windows::Windows;

@@ -20,7 +20,7 @@ pub struct Windows {
     pub longest: u64,
 }
 
-/// The windows that these spans are.
+/// The windows that these spans of a week make.
 pub fn windows_in(spans: &[Span]) -> Windows
     ensures { result ≡ in_all (lengths_of spans.now) }
 {
@@ -48,7 +48,7 @@ fn ends_week(spans: &[Span]) -> bool
     false
 }
 
-// The windows of these spans, of which the one that ends with the week goes on for so many seconds.
+// How many windows these spans are, and how long; the one that ends with the week goes on for `more` seconds.
 fn measured(spans: &[Span], more: u32) -> Windows
     ensures { result ≡ in_all (map (seconds_of more) spans.now) }
 {
@@ -62,6 +62,8 @@ fn measured(spans: &[Span], more: u32) -> Windows
     }
 }
 
+// How many windows these spans are, of which there is a first, and how long; the one that ends with the week goes on
+// for `more` seconds.
 fn measured_from(first: Span, rest: &[Span], more: u32) -> Windows
     ensures { result ≡ in_all (seconds_of more first ∷ map (seconds_of more) rest.now) }
 {
@@ -79,7 +81,7 @@ fn measured_from(first: Span, rest: &[Span], more: u32) -> Windows
     }
 }
 
-// The seconds of a span; where it ends with the week it goes on for so many more.
+// How many seconds a span has; if it ends with the week, it goes on for `more` seconds.
 fn seconds_of(span: Span, more: u32) -> u64
     ensures { result ≡ seconds_of more span }
 {

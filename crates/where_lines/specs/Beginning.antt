@@ -20,7 +20,7 @@ use Rattle.where_lines.specs.Statements.{IsInStatement}
 use Rattle.where_lines.specs.Texts.{IsTextAt}
 use Rattle.where_lines.specs.Tokens.{IsTokenAt}
 
--- the text has these tokens, which spell this script, and the first token of its statement begins at this byte
+-- byte `at` is where statement `number` begins of the script that a text spells
 pub record IsStatementAt (text : List ℕ) (number at : ℕ) : Type 0 where
   pub tokens : List Token
   pub are_tokens : AreTokens text tokens
@@ -32,12 +32,13 @@ pub record IsStatementAt (text : List ℕ) (number at : ℕ) : Type 0 where
   pub first_is : first_token script number ≡ Some first
   pub begins : at ≡ start (length text) tokens first
 
--- where a first token begins, if there is one; this is for `src/places.rt` alone
+-- where a token begins that may be the first of a statement, in a text of `total` bytes; this is for `src/places.rt`
+-- alone
 abbrev pub beginning_of : ℕ → List Token → Option ℕ → Option ℕ
 beginning_of total tokens (Some first) = Some (start total tokens first)
 beginning_of total tokens None = None
 
--- of a line and of a text
+-- what a line names begins at this byte of the script's text
 abbrev pub Begins : List ℕ → List ℕ → Named → ℕ → Type 0
 Begins line text (Byte n) at = at ≡ n
 Begins line text (NamedToken k) at = IsTokenAt text k at
@@ -47,7 +48,7 @@ Begins line text (Clash number) at = IsInStatement text number at
 Begins line text (Text from to) at = IsTextAt text (part line from to) at
 Begins line text (Fallible from to) at = IsCauseAt text (part line from to) at
 
--- what is known where nothing is answered: the script has no such place
+-- the script's text has no place such as a line names
 abbrev pub IsNowhere : List ℕ → List ℕ → Named → Type 0
 IsNowhere line text (Byte n) = ⊥
 IsNowhere line text (NamedToken k) = HasNoTokens text

@@ -13,14 +13,14 @@ pub data IsFrontOf (file : List ℕ) (script : Option (List ℕ)) (line : List �
   OfBehind : (behind front : List ℕ) → IsBehind file script line behind → IsPrefix front behind
       → IsFrontOf file script line (line ++ front)
 
--- Of the next line this was passed on: where a write failed, a front of it and of what comes behind it; where memory was
--- refused, nothing or the line alone; and where the input broke off, nothing.
+-- What was passed on of the line at which it broke off: where a write failed, a front of the line and of what comes
+-- after it; where memory was refused, nothing or the line alone; and where the input failed, nothing.
 abbrev pub IsCut : (file : List ℕ) → (script : Option (List ℕ)) → Broke → (rest front : List ℕ) → Type 0
 IsCut file script Input rest front = front ≡ []
 IsCut file script Memory rest front = (front ≡ []) ⊎ ((rest ≢ []) × (front ≡ take_through 10 rest))
 IsCut file script Output rest front = (rest ≢ []) × IsFrontOf file script (take_through 10 rest) front
 
--- the lines of an input up to a rest of it were passed on, and this of the next one
+-- the lines of an input up to a rest of it were passed on, and `front` of the next one
 pub record CutAt (file : List ℕ) (script : Option (List ℕ)) (broke : Broke) (input told front : List ℕ) : Type 0 where
   pub rest : List ℕ
   pub passes : Passes file script input rest told

@@ -7,7 +7,7 @@ use Rattle.where_lines.specs.declared.calls.Found.{Found}
 use Rattle.where_lines.specs.Calls.{calls_of, newest, part}
 use Rattle.where_lines.specs.Clashes.{Clashes}
 
--- the calls that are closed among some tokens
+-- the texts of the calls that are closed among some tokens, and what stands open after them
 abbrev pub AreCalls : List ℕ → List Token → List ℕ → List Bracket → Type 0
 AreCalls text tokens texts brackets = calls_of text tokens ≡ record { texts = texts; brackets = brackets }
 
@@ -20,7 +20,7 @@ pub record IsCandidate (text : List ℕ) (tokens : List Token) (found : Found) :
   pub texts_are : found.texts.items ≡ (calls_of text (take number tokens)).texts
   pub ends : found.end ≡ last.end
 
--- types clash with it
+-- types clash with the call that was found, and not with those before it; it begins at byte `at`
 pub record IsCalled (text front : List ℕ) (found : Found) (at : ℕ) : Type 0 where
   pub begins : at ≡ found.start
   pub before : Clashes (front ++ found.texts.items) false

@@ -8,27 +8,28 @@ use Rattle.plan_blames.specs.Needs.{IsCause}
 use Rattle.script_plan.specs.Plans.{IsPlan}
 use Rattle.where_lines.specs.Sources.{IsSourceAt}
 
--- the node of an output of this name
+-- the node of a sink, if it is the output of this name
 abbrev pub node_named : List ℕ → SinkPlan → Option ℕ
 node_named name (Output other node fallible wide) = if bytes_eq other name then Some node else None
 node_named name (Feed buffer node) = None
 
--- that of the first such output
+-- the first one, if there is one, and otherwise the next
 abbrev pub or_next : Option ℕ → Option ℕ → Option ℕ
 or_next (Some node) next = Some node
 or_next None next = next
 
+-- the node of the first output of this name
 abbrev pub output_named : List ℕ → List SinkPlan → Option ℕ
 output_named name [] = None
 output_named name (sink ∷ sinks) = or_next (node_named name sink) (output_named name sinks)
 
--- the source that is to be mended so that this one never falls silent, and the place of it
+-- byte `at` is the place of the source that is to be mended so that source `output` never falls silent
 pub record IsCauseOf (text : List ℕ) (plan : Plan) (output at : ℕ) : Type 0 where
   pub source : ℕ
   pub cause : IsCause plan.nodes output source
   pub place : IsSourceAt text source at
 
--- the same of the source of an output
+-- the place of the source that is to be mended so that the output of this name never falls silent
 pub record IsCauseAt (text name : List ℕ) (at : ℕ) : Type 0 where
   pub plan : Plan
   pub is_plan : IsPlan text plan

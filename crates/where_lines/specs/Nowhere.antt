@@ -13,23 +13,23 @@ use Rattle.script_plan.specs.Plans.{IsPlan, Spells}
 use Rattle.where_lines.specs.Causes.{output_named}
 use Rattle.where_lines.specs.Texts.{text_among}
 
--- it has no tokens
+-- a text has no tokens
 abbrev pub HasNoTokens : List ℕ → Type 0
 HasNoTokens text = (tokens : List Token) → AreTokens text tokens → ⊥
 
--- its tokens spell no script that has a statement of this number
+-- the tokens of a text spell no script that has a statement of this number
 abbrev pub HasNoStatement : List ℕ → (number : ℕ) → Type 0
 HasNoStatement text number = (script : Script) → Spells text script → first_token script number ≡ None
 
--- the same of these tokens
+-- these tokens spell no script that has a statement of this number
 abbrev pub HasNoStatementAmong : List Token → (number : ℕ) → Type 0
 HasNoStatementAmong tokens number = (script : Script) → spelling script ≡ kinds tokens → IsPlaced 0 script
     → IsShallow (kinds tokens) → first_token script number ≡ None
 
--- none of its tokens is this text
+-- no token of a script is this string
 abbrev pub HasNoText : List ℕ → (name : List ℕ) → Type 0
 HasNoText text name = (tokens : List Token) → AreTokens text tokens → text_among name tokens ≡ None
 
--- it has no plan with an output of this name
+-- a script has no plan with an output of this name
 abbrev pub HasNoOutput : List ℕ → (name : List ℕ) → Type 0
 HasNoOutput text name = (plan : Plan) → IsPlan text plan → output_named name plan.sinks ≡ None

@@ -4,7 +4,7 @@ use Rattle.plan_core.specs.declared.plan.Plan.{Plan}
 use Rattle.script_plan.specs.Sources.{HasSources}
 use Rattle.where_lines.specs.Tokens.{IsTokenAt}
 
--- by evaluation a call makes source k of the plan, and its token begins at this byte
+-- byte `at` is where the call begins that makes source k of a text's plan
 pub record IsSourceAt (text : List ℕ) (k at : ℕ) : Type 0 where
   pub plan : Plan
   pub calls : List ℕ

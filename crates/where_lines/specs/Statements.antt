@@ -14,7 +14,7 @@ use Rattle.script_parse.specs.Answer.{IsShallow}
 use Rattle.script_places.specs.Starts.{start, first_token}
 use Rattle.where_lines.specs.Calls.{IsCaller}
 
--- where a first token begins; where there is none, the end
+-- where a token begins, if it is given, and otherwise the end of a text of `total` bytes
 abbrev pub begins_at : ℕ → List Token → Option ℕ → ℕ
 begins_at total tokens (Some first) = start total tokens first
 begins_at total tokens None = total
@@ -23,15 +23,16 @@ begins_at total tokens None = total
 abbrev pub beginning : List ℕ → List Token → Script → ℕ → ℕ
 beginning text tokens script number = begins_at (length text) tokens (first_token script number)
 
--- what stands before a statement
+-- the text before a statement
 abbrev pub before : List ℕ → List Token → Script → ℕ → List ℕ
 before text tokens script number = take (beginning text tokens script number) text
 
--- the number of a first token; where there is none, that of all tokens
+-- the number of a token, if it is given, and otherwise how many tokens there are
 abbrev pub or_all : List Token → Option ℕ → ℕ
 or_all tokens (Some first) = first
 or_all tokens None = length tokens
 
+-- the number of the first token of a statement; behind the last statement, how many tokens there are
 abbrev pub first_of : List Token → Script → ℕ → ℕ
 first_of tokens script number = or_all tokens (first_token script number)
 
@@ -40,15 +41,17 @@ abbrev pub tokens_of : List Token → Script → ℕ → List Token
 tokens_of tokens script number = drop (first_of tokens script number)
     (take (first_of tokens script (number + 1)) tokens)
 
--- the word of a def
+-- whether a keyword is `def`
 abbrev pub is_def_word : Keyword → Bool
 is_def_word Def = true
 is_def_word word = false
 
+-- whether a token is the word `def`
 abbrev pub is_def : TokenKind → Bool
 is_def (kind.Keyword word) = is_def_word word
 is_def k = false
 
+-- whether a statement is a def
 abbrev pub begins_def : List Token → Bool
 begins_def [] = false
 begins_def (token ∷ tokens) = is_def token.kind
@@ -63,7 +66,7 @@ abbrev pub IsShown : List ℕ → List Token → Script → ℕ → ℕ → Type
 IsShown text tokens script number at = (at ≡ beginning text tokens script number)
     ⊎ IsCaller text (before text tokens script number) (calling (tokens_of tokens script number)) at
 
--- a statement of the script that the text's tokens spell, and a byte of it
+-- byte `at` is shown of statement `number` of the script that a text spells
 pub record IsInStatement (text : List ℕ) (number at : ℕ) : Type 0 where
   pub tokens : List Token
   pub are_tokens : AreTokens text tokens

@@ -12,10 +12,10 @@ use liq_base::Memory;
 use script_lex::{Symbol, Token, TokenKind};
 use std::alloc::Global;
 
-/// What stands open.
+/// A bracket that stands open.
 #[derive(Clone, Copy)]
 pub enum Bracket {
-    /// A call from this byte on, before which the texts had so many bytes.
+    /// A call from byte `start` on, before which the texts of closed calls had `others` bytes.
     Call { start: usize, others: usize },
 
     /// Another bracket.
@@ -46,7 +46,8 @@ pub struct Calls {
     pub brackets: Vec<Bracket>,
 }
 
-/// A call with the texts of those before it, of which the first bytes, so many, are no arguments of it.
+/// A call from byte `start` up to byte `end`, with the texts of the calls that are closed before it. The first `others`
+/// bytes of these are no arguments of it.
 #[derive(Drop)]
 pub struct Found {
     pub texts: Vec<u8>,
@@ -55,8 +56,8 @@ pub struct Found {
     pub end: usize,
 }
 
-/// The byte at which the call begins, among the tokens of a statement, with which types clash behind a front of the
-/// script; nothing where none is found. Calls are made in the order in which they are closed.
+/// The byte at which the call begins, among the tokens of a statement, with which types clash; nothing where none is
+/// found. `done` is the script before the statement. Calls are made in the order in which they are closed.
 pub fn caller(
     alloc: Global,
     text: &[u8],
@@ -71,7 +72,7 @@ pub fn caller(
     }
 }
 
-// Where a call begins, if types clash with it and not with those before it.
+// Where the call that was found begins, if types clash with it and not with those before it.
 fn confirmed(
     alloc: Global,
     text: &[u8],
@@ -86,7 +87,7 @@ fn confirmed(
     clash_with_call(alloc, text, done, found)
 }
 
-// The same, where they do not clash with those before it.
+// Where a call begins, if types clash with it; with the calls before it they do not clash.
 fn clash_with_call(
     alloc: Global,
     text: &[u8],
@@ -104,7 +105,7 @@ fn clash_with_call(
     Ok(None)
 }
 
-// Whether types clash in a front of the script with the texts of calls behind it.
+// Whether types clash in a front of the script with the texts of calls after it.
 fn clash_with(alloc: Global, done: &[u8], texts: &[u8]) -> Result<bool, Memory>
     ensures { IfOk result (Clashes (done.now ++ texts.now)) }
 {
@@ -112,8 +113,9 @@ fn clash_with(alloc: Global, done: &[u8], texts: &[u8]) -> Result<bool, Memory>
     clashes(alloc, &whole)
 }
 
-// The call that may do it. With the calls that are closed before token `low` types do not clash, with those before
-// token `high` they do: the token in the middle takes the place of one of them, until they are neighbours.
+// The call with which types may begin to clash. With the calls that are closed before token `low` types do not clash,
+// with those before token `high` they do: the token in the middle takes the place of one of them, until they are
+// neighbours.
 fn candidate(
     alloc: Global,
     text: &[u8],
@@ -126,7 +128,8 @@ fn candidate(
     found_at(alloc, text, tokens, low)
 }
 
-// The number of the token that closes it.
+// The number of the token that closes the call with which types begin to clash: the last one before which no such call
+// is closed.
 fn last_token(alloc: Global, text: &[u8], done: &[u8], tokens: &[Token]) -> Result<usize, Memory> {
     let mut low: usize = 0;
     let mut high = tokens.len();
@@ -145,7 +148,7 @@ fn last_token(alloc: Global, text: &[u8], done: &[u8], tokens: &[Token]) -> Resu
     Ok(low)
 }
 
-// The call that a token closes.
+// The call that token `number` closes, if it closes one.
 fn found_at(
     alloc: Global,
     text: &[u8],
@@ -163,7 +166,7 @@ fn found_at(
     }
 }
 
-// The call that ends here.
+// The call that ends at byte `end`, if the newest bracket is one.
 fn closed_by(calls: Calls, end: usize) -> Option<Found>
     ensures { IfSome result (λ found. (newest calls.brackets.items ≡ Some (bracket.Call found.start found.others))
         × (found.texts.items ≡ calls.texts.items) × (found.end ≡ end)) }
@@ -179,12 +182,14 @@ fn closed_by(calls: Calls, end: usize) -> Option<Found>
     }
 }
 
+// The bracket that was opened last, if one stands open.
 fn newest(brackets: &[Bracket]) -> Option<Bracket>
     ensures { result ≡ newest brackets.now }
 {
     brackets.last().copied()
 }
 
+// The first tokens, so many at most.
 fn first_tokens(tokens: &[Token], count: usize) -> &[Token]
     ensures { result.now ≡ take count tokens.now }
 {
@@ -192,6 +197,7 @@ fn first_tokens(tokens: &[Token], count: usize) -> &[Token]
     first
 }
 
+// The calls that are closed among some tokens, and what stands open after them.
 fn closed_calls(alloc: Global, text: &[u8], tokens: &[Token]) -> Result<Calls, Memory>
     ensures { IfOk result (λ calls. AreCalls text.now tokens.now calls.texts.items calls.brackets.items) }
 {
@@ -201,6 +207,7 @@ fn closed_calls(alloc: Global, text: &[u8], tokens: &[Token]) -> Result<Calls, M
     Ok(Calls { texts, brackets })
 }
 
+// Takes these tokens more: `texts` has the calls that are closed, and `brackets` what stands open.
 fn read_all(
     texts: &mut Vec<u8>,
     brackets: &mut Vec<Bracket>,
@@ -218,7 +225,7 @@ fn read_all(
     Ok(())
 }
 
-// Takes one token more.
+// Takes one token more: `texts` has the calls that are closed, and `brackets` what stands open.
 fn read(
     texts: &mut Vec<u8>,
     brackets: &mut Vec<Bracket>,
@@ -245,7 +252,7 @@ fn read(
     Ok(())
 }
 
-// Adds the call that ends here, if it is one, in the place of its arguments.
+// Adds the call that ends at byte `end`, if the innermost bracket is one, in the place of its arguments.
 fn close(
     texts: &mut Vec<u8>,
     innermost: Option<Bracket>,
@@ -262,6 +269,7 @@ fn close(
     Ok(())
 }
 
+// What a token does to what stands open.
 fn role_of(kind: &TokenKind) -> Role
     ensures { result ≡ role_of kind.now }
 {
@@ -272,6 +280,7 @@ fn role_of(kind: &TokenKind) -> Role
     }
 }
 
+// Whether a symbol opens or closes a bracket.
 fn symbol_role(symbol: Symbol) -> Role
     ensures { result ≡ symbol_role symbol }
 {

@@ -35,7 +35,8 @@ pub fn cause_place(
     }
 }
 
-// The same, where this is the plan.
+// By the plan of a script: the byte at which the call begins that makes the source which is to be mended so that the
+// output of this name never falls silent. Nothing if there is no such output.
 fn cause_in(
     alloc: Global,
     text: &[u8],
@@ -57,7 +58,8 @@ fn cause_in(
     }
 }
 
-// The place of what is to be mended for a source.
+// The byte at which the call begins that makes the source which is to be mended so that node `output` never falls
+// silent.
 fn cause_of(
     alloc: Global,
     text: &[u8],
@@ -86,6 +88,7 @@ fn output_of(plan: &Plan, name: &[u8]) -> Option<u32>
     output_named(name, plan.sinks.as_slice())
 }
 
+// The node of the first output of this name among these sinks.
 fn output_named(name: &[u8], sinks: &[SinkPlan]) -> Option<u32>
     ensures { result ≡ output_named name.now sinks.now }
 {
@@ -97,6 +100,7 @@ fn output_named(name: &[u8], sinks: &[SinkPlan]) -> Option<u32>
     None
 }
 
+// The node of a sink, if it is the output of this name.
 fn node_named(name: &[u8], sink: &SinkPlan) -> Option<u32>
     ensures { result ≡ node_named name.now sink.now }
 {

@@ -32,7 +32,8 @@ pub fn clash_place(alloc: Global, text: &[u8], statement: u64) -> Result<Option<
     }
 }
 
-// The same, where these are the tokens.
+// By the tokens of a script: the byte at which the call begins with which the types of a statement clash; where no one
+// call of it is found, the statement. Nothing where they spell no such statement.
 fn place_among(
     alloc: Global,
     text: &[u8],
@@ -49,7 +50,8 @@ fn place_among(
     }
 }
 
-// The same in a script.
+// In a script: the byte at which the call begins with which the types of a statement clash; where no one call of it is
+// found, the statement. Nothing if there is no such statement.
 fn place_within(
     alloc: Global,
     text: &[u8],
@@ -71,7 +73,8 @@ fn place_within(
     Ok(Some(at))
 }
 
-// The byte that is shown of a statement that is there.
+// The byte that is shown of a statement: where the call begins with which its types clash, or where the statement
+// begins.
 fn shown_in(
     alloc: Global,
     text: &[u8],

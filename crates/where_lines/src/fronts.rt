@@ -12,7 +12,7 @@ use script_lex::{Keyword, Token, TokenKind};
 use script_places::{first_token, start};
 use std::alloc::Global;
 
-/// What stands before a statement; behind the last one, the whole text.
+/// The text before a statement; behind the last one, the whole text.
 pub fn before<'a>(text: &'a [u8], tokens: &[Token], script: &Script, statement: u64) -> &'a [u8]
     requires { IsPlaced 0 (view_script script.now) }
     ensures { result.now ≡ before text.now tokens.now (view_script script.now) statement }
@@ -20,7 +20,7 @@ pub fn before<'a>(text: &'a [u8], tokens: &[Token], script: &Script, statement: 
     front(text, beginning(text, tokens, script, statement))
 }
 
-/// Where a statement begins; behind the last one, the end.
+/// The byte at which a statement begins; behind the last one, the end.
 pub fn beginning(text: &[u8], tokens: &[Token], script: &Script, statement: u64) -> usize
     requires { IsPlaced 0 (view_script script.now) }
     ensures { result ≡ beginning text.now tokens.now (view_script script.now) statement }
@@ -28,7 +28,7 @@ pub fn beginning(text: &[u8], tokens: &[Token], script: &Script, statement: u64)
     begins_at(text.len(), tokens, first_token(script, statement))
 }
 
-// Where a first token begins; where there is none, the end.
+// The byte at which a token begins, if it is given, and otherwise the end of a text of `total` bytes.
 fn begins_at(total: usize, tokens: &[Token], first: Option<u64>) -> usize
     ensures { result ≡ begins_at total tokens.now first }
 {
@@ -38,14 +38,14 @@ fn begins_at(total: usize, tokens: &[Token], first: Option<u64>) -> usize
     }
 }
 
-/// The first bytes of a text.
+/// The first `at` bytes of a text.
 pub fn front(text: &[u8], at: usize) -> &[u8]
     ensures { result.now ≡ take at text.now }
 {
     &text[..at.min(text.len())]
 }
 
-// What stands from the byte of this number on.
+// A text from byte `at` on.
 fn behind(text: &[u8], at: usize) -> &[u8]
     ensures { result.now ≡ drop at text.now }
 {
@@ -95,6 +95,7 @@ pub fn calling(tokens: &[Token]) -> &[Token]
     }
 }
 
+// Whether the tokens of a statement begin a def.
 fn begins_def(tokens: &[Token]) -> bool
     ensures { result ≡ begins_def tokens.now }
 {
@@ -104,6 +105,7 @@ fn begins_def(tokens: &[Token]) -> bool
     }
 }
 
+// Whether a token is the word `def`.
 fn is_def(kind: &TokenKind) -> bool
     ensures { result ≡ is_def kind.now }
 {
@@ -122,7 +124,7 @@ fn is_def_word(word: Keyword) -> bool
     }
 }
 
-// The number of the first token of a statement; behind the last one, that of all tokens.
+// The number of the first token of a statement; behind the last one, how many tokens there are.
 fn first_of(tokens: &[Token], script: &Script, statement: u64) -> usize
     requires { IsPlaced 0 (view_script script.now) }
     ensures { result ≡ first_of tokens.now (view_script script.now) statement }
@@ -130,7 +132,7 @@ fn first_of(tokens: &[Token], script: &Script, statement: u64) -> usize
     or_all(tokens, first_token(script, statement))
 }
 
-// The number of a first token; where there is none, that of all tokens.
+// The number of a token, if it is given, and otherwise how many tokens there are.
 fn or_all(tokens: &[Token], first: Option<u64>) -> usize
     ensures { result ≡ or_all tokens.now first }
 {

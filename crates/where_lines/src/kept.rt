@@ -5,7 +5,7 @@ ghost use Rattle.where_lines.specs.Kept.{IsKept};
 use script_eval::Sources;
 use script_lex::Token;
 
-/// What was read of a script so far.
+/// What was read of a script for the lines before.
 #[derive(Drop)]
 pub struct Kept {
     /// Its tokens.
@@ -15,7 +15,7 @@ pub struct Kept {
     pub sources: Option<Sources>,
 }
 
-/// What was read before the first line.
+/// What is kept before the first line: nothing.
 pub fn nothing() -> Kept
     ensures { (text : List ℕ) → IsKept text result }
 {

@@ -39,7 +39,8 @@ impl From<Memory> for Broke {
     }
 }
 
-/// Passes the lines of a reader on to their end.
+/// Passes the lines of a reader on to their end, and behind each that names a place of a script the two lines that show
+/// it.
 pub fn pass_lines<R: BufRead, O: Sink>(
     alloc: Global,
     input: &mut R,
@@ -81,6 +82,7 @@ fn read_line<R: BufRead>(input: &mut R, line: &mut Vec<u8>) -> Result<bool, Brok
     }
 }
 
+// Why a line could not be read.
 fn cause_of(kind: ErrorKind) -> Broke
     ensures { result ≢ broke.Output }
 {
@@ -90,6 +92,7 @@ fn cause_of(kind: ErrorKind) -> Broke
     }
 }
 
+// Writes a piece to `out`.
 fn write<O: Sink>(out: &mut O, piece: &[u8]) -> Result<(), Broke>
     requires { (O.told out.old).room ≡ None }
     ensures room { (O.told out.new).room ≡ None }
@@ -126,7 +129,7 @@ fn show<O: Sink>(
     write(out, &behind)
 }
 
-// What comes behind a line.
+// What comes behind a line: the two lines that show the place that it names, or nothing.
 fn behind_of(
     alloc: Global,
     line: &[u8],
@@ -145,7 +148,7 @@ fn behind_of(
     }
 }
 
-// The same where the script could be read.
+// What comes behind a line, by the script's text: the place that the line names, or nothing if it names none.
 fn behind_in(
     alloc: Global,
     line: &[u8],
@@ -190,7 +193,7 @@ fn is_closed(line: &[u8]) -> bool
     }
 }
 
-// The two lines of a place, behind the end of a line.
+// The two lines that show a place, with a LF before them if the line has none.
 fn closed_pointer(
     alloc: Global,
     line: &[u8],

@@ -45,7 +45,7 @@ pub fn place_of(
     }
 }
 
-// Where a statement begins.
+// The byte at which a statement begins; nothing where the script has no such statement.
 fn statement_place(alloc: Global, text: &[u8], statement: u64) -> Result<Option<usize>, Memory>
     ensures place { IfOk result (λ at. IfSome at (IsStatementAt text.now statement)) }
     ensures none { IfOk result (λ at. at ≡ None → HasNoStatement text.now statement) }
@@ -56,7 +56,7 @@ fn statement_place(alloc: Global, text: &[u8], statement: u64) -> Result<Option<
     }
 }
 
-// The same, where these are the tokens.
+// By the tokens of a script: the byte at which a statement begins. Nothing where they spell no such statement.
 fn statement_among(
     alloc: Global,
     text: &[u8],
@@ -73,7 +73,7 @@ fn statement_among(
     }
 }
 
-// Where a first token begins, if there is one.
+// The byte at which a token begins, if it is given, in a text of `total` bytes.
 fn beginning_of(total: usize, tokens: &[Token], first: Option<u64>) -> Option<usize>
     ensures { result ≡ beginning_of total tokens.now first }
 {

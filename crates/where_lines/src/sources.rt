@@ -33,7 +33,8 @@ pub fn source_place(
     }
 }
 
-// The call of a source among those that are kept, where they are kept.
+// If the calls that make the sources are kept, the token of the one that makes this source, or nothing if there is no
+// such source.
 fn kept_call(_text: &[u8], kept: &Option<Sources>, source: u64) -> Option<Option<u32>>
     requires { SourcesAreKept _text.now kept.now }
     ensures { IfSome result (IsCallOf _text.now source) }
@@ -44,7 +45,8 @@ fn kept_call(_text: &[u8], kept: &Option<Sources>, source: u64) -> Option<Option
     }
 }
 
-// Reads the plan and its calls, and keeps them.
+// Reads the plan and the calls that make its sources, and keeps them. The byte at which the call of this source begins;
+// nothing where the script has no such source.
 fn read_source(
     alloc: Global,
     text: &[u8],
@@ -67,7 +69,7 @@ fn read_source(
     }
 }
 
-// The same, where this is the call.
+// The byte at which the call begins whose token is `call`, the one that makes the source; nothing without a call.
 fn call_place(
     alloc: Global,
     text: &[u8],
@@ -88,6 +90,7 @@ fn call_place(
     }
 }
 
+// The token of the call that makes this source.
 fn call_of(calls: &[u32], source: u64) -> Option<u32>
     ensures { result ≡ slice_get calls.now source }
 {

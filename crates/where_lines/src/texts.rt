@@ -8,7 +8,7 @@ use liq_base::Memory;
 use script_lex::{Token, TokenKind, lex};
 use std::alloc::Global;
 
-/// The byte at which the first token begins that is this text. Nothing where the script has no tokens or no such one.
+/// The byte at which the first token begins that is this string. Nothing where the script has no tokens or no such one.
 pub fn text_place(alloc: Global, text: &[u8], name: &[u8]) -> Result<Option<usize>, Memory>
     ensures place { IfOk result (λ at. IfSome at (IsTextAt text.now name.now)) }
     ensures none { IfOk result (λ at. at ≡ None → HasNoText text.now name.now) }
@@ -19,6 +19,7 @@ pub fn text_place(alloc: Global, text: &[u8], name: &[u8]) -> Result<Option<usiz
     }
 }
 
+// The byte at which the first token begins that is this string.
 fn text_among(name: &[u8], tokens: &[Token]) -> Option<usize>
     ensures { result ≡ text_among name.now tokens.now }
 {
@@ -30,6 +31,7 @@ fn text_among(name: &[u8], tokens: &[Token]) -> Option<usize>
     None
 }
 
+// Whether a token is this string.
 fn is_text(name: &[u8], kind: &TokenKind) -> bool
     ensures { result ≡ is_text name.now kind.now }
 {

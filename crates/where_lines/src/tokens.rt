@@ -10,7 +10,7 @@ use script_lex::{Token, lex};
 use script_places::start;
 use std::alloc::Global;
 
-/// Where a token begins. Nothing where the script has no tokens. They are read where they are not kept.
+/// The byte at which a token begins. Nothing where the script has no tokens. They are read where they are not kept.
 pub fn token_place(
     alloc: Global,
     text: &[u8],
@@ -28,7 +28,7 @@ pub fn token_place(
     }
 }
 
-// Where a token begins, of those that are kept.
+// The byte at which a token begins, if tokens are kept.
 fn kept_place(text: &[u8], kept: &Option<Vec<Token>>, token: u64) -> Option<usize>
     requires { AreKept text.now kept.now }
     ensures { IfSome result (IsTokenAt text.now token) }
@@ -39,7 +39,7 @@ fn kept_place(text: &[u8], kept: &Option<Vec<Token>>, token: u64) -> Option<usiz
     }
 }
 
-// Reads the tokens, and keeps them.
+// Reads the tokens and keeps them. The byte at which a token begins; nothing where the script has no tokens.
 fn read_place(
     alloc: Global,
     text: &[u8],

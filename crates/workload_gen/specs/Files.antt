@@ -11,6 +11,7 @@ use Rattle.wav_io.specs.Header.{header_bytes}
 abbrev pub File : Type 0
 File = List ℕ × List ℕ
 
+-- a file as plain lists: its name and its bytes
 abbrev pub file_of : String Global × Vec ℕ Global → File
 file_of file = (string_bytes file.0, file.1.items)
 
@@ -32,7 +33,7 @@ abbrev pub drawn_bytes : (seed from count : ℕ) → List ℕ
 drawn_bytes seed from zero = []
 drawn_bytes seed from (suc count) = drawn_bytes seed from count ++ sample_bytes (sample_of (word seed (from + count)))
 
--- sample k of audio file i: each takes a word, behind the one for the length
+-- sample k of audio file i: each sample takes a word, after the one for the length
 abbrev pub sample_at : (seed i k : ℕ) → ℤ
 sample_at seed i k = sample_of (word seed (begin_of seed i + 1 + k))
 
@@ -40,16 +41,16 @@ sample_at seed i k = sample_of (word seed (begin_of seed i + 1 + k))
 abbrev pub samples_of : (seed i : ℕ) → List ℤ
 samples_of seed i = map (sample_at seed i) (range_with_len 0 (length_at seed (begin_of seed i)))
 
--- the name of the i-th track
+-- the name of audio file i
 abbrev pub track_name : (i : ℕ) → List ℕ
 track_name i = codes "t" ++ decimal i ++ codes ".wav"
 
--- the audio file that begins with this word: mono, 8000 samples a second
+-- the audio file whose words begin with this one: mono, 8000 samples a second
 abbrev pub track_bytes : (seed begin : ℕ) → List ℕ
 track_bytes seed begin = header_bytes Mono 8000 (length_at seed begin)
     ++ drawn_bytes seed (begin + 1) (length_at seed begin)
 
--- the i-th track, as a file
+-- audio file i, with its name
 abbrev pub track : (seed i : ℕ) → File
 track seed i = (track_name i, track_bytes seed (begin_of seed i))
 
@@ -63,33 +64,33 @@ abbrev pub list_text : (n : ℕ) → List ℕ
 list_text zero = []
 list_text (suc n) = list_text n ++ track_name n ++ codes "\n"
 
--- the name of the i-th source
+-- the name of the source that plays audio file i
 abbrev pub source_name : (i : ℕ) → List ℕ
 source_name i = codes "x" ++ decimal i
 
--- the statements that play the first n audio files
+-- the statements that make sources of the first n audio files
 abbrev pub players : (n : ℕ) → List ℕ
 players zero = []
 players (suc n) = players n ++ source_name n ++ codes " = amplify(0.5, single(\"" ++ track_name n ++ codes "\"))\n"
 
--- the names of n + 1 sources, with a comma and a blank between two
+-- the names of the first n + 1 sources, with a comma and a blank between two
 abbrev pub source_names : (n : ℕ) → List ℕ
 source_names zero = source_name 0
 source_names (suc n) = source_names n ++ codes ", " ++ source_name (suc n)
 
--- the statements that set the rate and the tick, and those of the two outputs
+-- the statements of the script that set the rate and the tick
 unfoldable pub settings : List ℕ
 settings = codes "set(\"frame.audio.samplerate\", 8000)\nset(\"frame.duration\", 0.008)\n"
 
--- the last lines of the script
+-- the statements of the script's two outputs
 unfoldable pub outputs : List ℕ
 outputs =
     codes "output.file(%wav, \"one.wav\", mksafe(crossfade(duration=0.05, playlist(\"all.m3u\"))))\noutput.file(%wav, \"two.wav\", clock(id=\"two\", mix))\n"
 
--- the script over n + 1 audio files
+-- the script that plays the first n + 1 audio files
 abbrev pub script_text : (n : ℕ) → List ℕ
 script_text n = settings ++ players (suc n) ++ codes "mix = add([" ++ source_names n ++ codes "])\n" ++ outputs
 
--- the files of a seed and a size of n + 1, in their order
+-- the files of a workload of this seed and of n + 1 audio files, in their order
 abbrev pub workload : (seed n : ℕ) → List File
 workload seed n = tracks seed (suc n) ++ (codes "all.m3u", list_text (suc n)) ∷ (codes "make.liq", script_text n) ∷ []

@@ -14,7 +14,7 @@ pub fn track_name(alloc: Global, number: u32) -> Result<String, AllocError>
     Ok(name)
 }
 
-/// The list of the first `size` audio files.
+/// The text of the list that names audio files 0 to `size - 1`, a line each.
 pub fn list(alloc: Global, size: u32) -> Result<String, AllocError>
     ensures { IfOk result (λ text. string_bytes text ≡ list_text size) }
 {
@@ -26,7 +26,7 @@ pub fn list(alloc: Global, size: u32) -> Result<String, AllocError>
     Ok(text)
 }
 
-/// The script over audio files 0 to `last`.
+/// The text of the script that plays audio files 0 to `last`, which is at most 99.
 pub fn script(alloc: Global, last: u32) -> Result<String, AllocError>
     requires { last ≤ 99 }
     ensures { IfOk result (λ text. string_bytes text ≡ script_text last) }
@@ -41,7 +41,7 @@ pub fn script(alloc: Global, last: u32) -> Result<String, AllocError>
     Ok(text)
 }
 
-// The statements that set the rate and the tick.
+// Adds the statements that set the rate and the tick.
 fn push_settings(text: &mut String) -> Result<(), AllocError>
     ensures { OnOk result (string_bytes text.new ≡ string_bytes text.old ++ settings) }
 {
@@ -49,7 +49,7 @@ fn push_settings(text: &mut String) -> Result<(), AllocError>
     Ok(())
 }
 
-// The statements of the two outputs.
+// Adds the statements of the two outputs.
 fn push_outputs(text: &mut String) -> Result<(), AllocError>
     ensures { OnOk result (string_bytes text.new ≡ string_bytes text.old ++ outputs) }
 {
@@ -60,7 +60,7 @@ fn push_outputs(text: &mut String) -> Result<(), AllocError>
     Ok(())
 }
 
-// The statements that play audio files 0 to `last`.
+// Adds the statements that make a source of each of the audio files 0 to `last`.
 fn push_players(alloc: Global, text: &mut String, last: u32) -> Result<(), AllocError>
     requires { last ≤ 99 }
     ensures { OnOk result (string_bytes text.new ≡ string_bytes text.old ++ players (suc last)) }
@@ -71,7 +71,7 @@ fn push_players(alloc: Global, text: &mut String, last: u32) -> Result<(), Alloc
     Ok(())
 }
 
-// The statement that plays an audio file.
+// Adds the statement that makes a source of an audio file.
 fn push_player(alloc: Global, text: &mut String, number: u32) -> Result<(), AllocError>
     ensures { OnOk result (string_bytes text.new ≡ string_bytes text.old ++ source_name number
         ++ codes " = amplify(0.5, single(\"" ++ track_name number ++ codes "\"))\n") }
@@ -82,7 +82,7 @@ fn push_player(alloc: Global, text: &mut String, number: u32) -> Result<(), Allo
     text.push_str("\"))\n")
 }
 
-// The names of sources 0 to `last`.
+// Adds the names of sources 0 to `last`, with a comma and a blank between two.
 fn push_source_names(alloc: Global, text: &mut String, last: u32) -> Result<(), AllocError>
     requires { last ≤ 99 }
     ensures { OnOk result (string_bytes text.new ≡ string_bytes text.old ++ source_names last) }
@@ -94,7 +94,7 @@ fn push_source_names(alloc: Global, text: &mut String, last: u32) -> Result<(), 
     Ok(())
 }
 
-// The name of a source that is not the first.
+// Adds a comma, a blank and the name of a source.
 fn push_next_name(alloc: Global, text: &mut String, number: u32) -> Result<(), AllocError>
     ensures { OnOk result (string_bytes text.new ≡ string_bytes text.old ++ codes ", " ++ source_name number) }
 {
@@ -102,7 +102,7 @@ fn push_next_name(alloc: Global, text: &mut String, number: u32) -> Result<(), A
     push_source_name(alloc, text, number)
 }
 
-// The name of the source of an audio file.
+// Adds the name of the source of an audio file.
 fn push_source_name(alloc: Global, text: &mut String, number: u32) -> Result<(), AllocError>
     ensures { OnOk result (string_bytes text.new ≡ string_bytes text.old ++ source_name number) }
 {
@@ -110,7 +110,7 @@ fn push_source_name(alloc: Global, text: &mut String, number: u32) -> Result<(),
     text.push_str(&number.to_string(alloc)?)
 }
 
-// The name of an audio file.
+// Adds the name of an audio file.
 fn push_track_name(alloc: Global, text: &mut String, number: u32) -> Result<(), AllocError>
     ensures { OnOk result (string_bytes text.new ≡ string_bytes text.old ++ track_name number) }
 {

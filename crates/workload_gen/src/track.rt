@@ -9,7 +9,7 @@ use seed_words::SeedWords;
 use std::alloc::{AllocError, Global};
 use wav_io::header;
 
-/// Samples a second of each audio file.
+/// How many samples a second each audio file has.
 const RATE: u32 = 8000;
 
 /// The bytes of the next audio file: its length, from 1 to 4000 samples, takes one word, and so does each sample.
@@ -29,7 +29,7 @@ pub fn track(alloc: Global, words: &mut SeedWords) -> Result<Vec<u8>, Memory>
     Ok(bytes)
 }
 
-// So many samples more.
+// Adds the bytes of `count` samples, each of which takes a word.
 fn draw(words: &mut SeedWords, count: u32, bytes: &mut Vec<u8>) -> Result<(), Memory>
     ensures bytes { OnOk result ((seed from : ℕ) → words.old ≡ words_from seed from
         → bytes.new.items ≡ bytes.old.items ++ drawn_bytes seed from count) }
@@ -43,7 +43,7 @@ fn draw(words: &mut SeedWords, count: u32, bytes: &mut Vec<u8>) -> Result<(), Me
     Ok(())
 }
 
-// The sample of the next word, from -10000 to 10000.
+// The sample of the next word, from -10000 to 10000. It uses up the word.
 fn next_sample(words: &mut SeedWords) -> i16
     ensures sample { (seed n : ℕ) → words.old ≡ words_from seed n → result ≡ sample_of (word seed n) }
     ensures words { (seed n : ℕ) → words.old ≡ words_from seed n → words.new ≡ words_from seed (suc n) }
@@ -51,7 +51,7 @@ fn next_sample(words: &mut SeedWords) -> i16
     (words.next_word() % 20001) as i16 - 10000
 }
 
-// The two bytes of a sample.
+// Adds the two bytes of a sample.
 fn push_sample(bytes: &mut Vec<u8>, sample: i16) -> Result<(), AllocError>
     ensures { OnOk result (bytes.new.items ≡ bytes.old.items ++ sample_bytes sample) }
 {

@@ -5,6 +5,7 @@ use Rattle.plan_core.specs.declared.node.Node.{Node}
 use Rattle.stream_meaning.specs.Instants.{moment_after, part_at, silent, work_at}
 use Rattle.stream_meaning.specs.Operators.{work_of}
 use Rattle.node_states.specs.States.{StateStands}
+use Rattle.node_states.specs.Stretches.{HasStood, Latest}
 use Rattle.clock_instants.specs.Resting.{begins_at}
 use Rattle.clock_nodes.specs.Scenes.{setting_over}
 use Rattle.clock_instants.proofs.Stretched.{marks_are, node_stretches}
@@ -37,12 +38,13 @@ returns-clause-goes c = record {
       let children : c.as_slice-2.result.now ≡ node.children = c.as_slice-2.ensures ∙ ap (λ (n : Node). n.children) read in
       let first = moment_after setting sub clock past in
       let part_is = ap (λ ps. part_at ps c.args.i) (sym parts) ∙ get_or_default _ _ silent _ in_parts in
+      let latest : Latest = record { setting = setting; sub = sub; past = past; moment = first; filled = filled; i = c.args.i } in
+      let stood : HasStood latest (work_at setting c.args.i node) c.is_some-gave.result c.args.below c.args.below_title c.args.state.now =
+      record { long = long; stands = stands; gave_is = gave ∙ sym c.is_some-gave.ensures; fills = λ yes through. are (sym c.is_some-gave.ensures ∙ yes) through } in
       node_stretches setting sub clock past c.args.i node c.requires.scene.nodes is c.begins-begins.result c.last.result c.rest.result c.rest.result c.args.tick
       (omega arith)
-      (c.rest.ensures.goes setting sub past first filled c.args.i (work_at setting c.args.i node) refl long stands begun part_is (gave ∙ sym c.is_some-gave.ensures)
-      (λ yes through. are (sym c.is_some-gave.ensures ∙ yes) through))
-      (c.rest.ensures.keeps setting sub past first filled c.args.i (work_at setting c.args.i node) refl long stands begun part_is (gave ∙ sym c.is_some-gave.ensures)
-      (λ yes through. are (sym c.is_some-gave.ensures ∙ yes) through))
+      (c.rest.ensures.goes latest (work_at setting c.args.i node) (record { library = refl; begun = begun; part_is = part_is; stood = stood }))
+      (c.rest.ensures.keeps latest (work_at setting c.args.i node) (record { library = refl; begun = begun; part_is = part_is; stood = stood }))
       (λ choice eligible j children at low.
       let bound = c.rest.ensures.within in
       marks_are setting (length past) c.args.time eligible j children c.requires.rate
@@ -55,5 +57,6 @@ returns-clause-goes c = record {
       let low = c.rest.ensures.within in omega (arith, low, c.min-bound.ensures, is_tick))
       within;
   asks = λ setting sub past moment filled overlap j long stands is gave are less.
-      c.rest.ensures.asks setting sub past moment filled c.args.i overlap j long stands (is ∙ sym c.is_some-gave.ensures) (c.is_some-gave.ensures ∙ gave) are less;
+      c.rest.ensures.asks (record { setting = setting; sub = sub; past = past; moment = moment; filled = filled; i = c.args.i }) overlap j
+      (record { long = long; stands = stands; gave_is = is ∙ sym c.is_some-gave.ensures; fills = λ yes through. are through }) (c.is_some-gave.ensures ∙ gave) less;
 }

@@ -1,7 +1,8 @@
-use Rattle.std.proofs.Common.{◌∙◌}
-use Rattle.station_facts.specs.Files.{files_object}
+use Rattle.std.proofs.Common.{◌∙◌, ap}
+use Rattle.station_facts.specs.Files.{files_object, once}
 use Rattle.track_library.specs.Loads.{rules_for}
 use Rattle.station_facts.proofs.Each.{alone}
+use Rattle.station_facts.proofs.Found.{none_asked}
 use Rattle.station_facts.proofs.files.tell_files.Goals as goal
 
 pub returns-clause-told : goal.returns-clause-told
@@ -21,3 +22,32 @@ returns-clause-told g c =
           (c.new-out.ensures.before ∙ c.new.ensures.items) c.new-out.ensures.tokens
           (rw (c.deref-2.ensures.value, c.deref-3.ensures.value) at c.in_ok-push_all.ensures) c.into_inner.ensures.items;
     }
+
+pub returns-in_err-list_looks-clause-untouched : goal.returns-in_err-list_looks-clause-untouched
+returns-in_err-list_looks-clause-untouched g c = λ none.
+    c.look_at_lists.ensures.untouched (c.as_slice.ensures.keys ∙ c.in_ok-lists.ensures ∙ ap once none.0)
+
+pub returns-in_err-sounds-clause-untouched : goal.returns-in_err-sounds-clause-untouched
+returns-in_err-sounds-clause-untouched g c = λ none.
+    c.look_at_lists.ensures.untouched (c.as_slice.ensures.keys ∙ c.in_ok-lists.ensures ∙ ap once none.0)
+
+pub returns-in_err-looks-clause-untouched : goal.returns-in_err-looks-clause-untouched
+returns-in_err-looks-clause-untouched g c =
+    none_asked c.args.plan.now c.as_slice.result.now c.in_ok-lists.lists.keys c.as_slice-2.result.now c.in_ok-sounds.sounds.keys
+    c.in_ok-list_looks.list_looks.items c.deref.result.now (g.S.Shelf.told c.args.shelf.now) (g.S.Shelf.told c.look_at_lists.new.shelf)
+    c.look_at_lists.ensures.untouched c.look_at_sounds.ensures.untouched c.as_slice.ensures.keys c.in_ok-lists.ensures c.in_ok-list_looks.ensures.looks
+    c.as_slice-2.ensures.keys c.in_ok-sounds.ensures c.deref.ensures.value
+
+pub returns-in_err-push_all-clause-untouched : goal.returns-in_err-push_all-clause-untouched
+returns-in_err-push_all-clause-untouched g c =
+    none_asked c.args.plan.now c.as_slice.result.now c.in_ok-lists.lists.keys c.as_slice-2.result.now c.in_ok-sounds.sounds.keys
+    c.in_ok-list_looks.list_looks.items c.deref.result.now (g.S.Shelf.told c.args.shelf.now) (g.S.Shelf.told c.look_at_lists.new.shelf)
+    c.look_at_lists.ensures.untouched c.look_at_sounds.ensures.untouched c.as_slice.ensures.keys c.in_ok-lists.ensures c.in_ok-list_looks.ensures.looks
+    c.as_slice-2.ensures.keys c.in_ok-sounds.ensures c.deref.ensures.value
+
+pub returns-clause-untouched : goal.returns-clause-untouched
+returns-clause-untouched g c =
+    none_asked c.args.plan.now c.as_slice.result.now c.in_ok-lists.lists.keys c.as_slice-2.result.now c.in_ok-sounds.sounds.keys
+    c.in_ok-list_looks.list_looks.items c.deref.result.now (g.S.Shelf.told c.args.shelf.now) (g.S.Shelf.told c.look_at_lists.new.shelf)
+    c.look_at_lists.ensures.untouched c.look_at_sounds.ensures.untouched c.as_slice.ensures.keys c.in_ok-lists.ensures c.in_ok-list_looks.ensures.looks
+    c.as_slice-2.ensures.keys c.in_ok-sounds.ensures c.deref.ensures.value

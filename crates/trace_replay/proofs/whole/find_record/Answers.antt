@@ -11,11 +11,19 @@ use Rattle.trace_records.specs.Traces.{text_of, base_of}
 use Rattle.trace_turns.specs.Turns.{AreSides, AreTold, chunks_of}
 use Rattle.trace_replay.proofs.whole.find_record.Goals as goal
 
-pub judge-requires-clause-new : goal.judge-requires-clause-new
-judge-requires-clause-new c =
-    subst (λ (l : List Ends). AreNew c.args.plan.now.buffers c.deref-3.result.now (length c.args.plan.now.buffers) c.in_ok-buffers.buffers.items l) (sym c.deref-2.ensures.value)
-    (subst (λ (l : List (List Answers)). AreNew c.args.plan.now.buffers l (length c.args.plan.now.buffers) c.in_ok-buffers.buffers.items c.in_ok-buffers.ends.items) (c.deref.ensures.value ∙ sym c.deref-3.ensures.value)
-    (subst (λ (l : List BufferPlan). AreNew l c.deref.result.now (length l) c.in_ok-buffers.buffers.items c.in_ok-buffers.ends.items) c.as_slice.ensures c.in_ok-buffers.ensures.new))
+pub judge-requires : goal.judge-requires
+judge-requires c = record {
+  setting = search rules;
+  trace = search rules;
+  buffers = search rules;
+  sides = c.in_ok-sides.ensures (base_of c.args.plan.now c.args.library.now c.args.clocks.now c.args.start.second) refl refl;
+  size = search rules;
+  long = search rules;
+  none = search rules;
+  new = subst (λ (l : List Ends). AreNew c.args.plan.now.buffers c.deref-3.result.now (length c.args.plan.now.buffers) c.in_ok-buffers.buffers.items l) (sym c.deref-2.ensures.value)
+      (subst (λ (l : List (List Answers)). AreNew c.args.plan.now.buffers l (length c.args.plan.now.buffers) c.in_ok-buffers.buffers.items c.in_ok-buffers.ends.items) (c.deref.ensures.value ∙ sym c.deref-3.ensures.value)
+      (subst (λ (l : List BufferPlan). AreNew l c.deref.result.now (length l) c.in_ok-buffers.buffers.items c.in_ok-buffers.ends.items) c.as_slice.ensures c.in_ok-buffers.ensures.new));
+}
 
 pub returns-clause-turns : goal.returns-clause-turns
 returns-clause-turns c = λ held e.

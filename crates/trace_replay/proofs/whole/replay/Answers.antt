@@ -1,4 +1,4 @@
-use Rattle.std.proofs.Common.{◌∙◌, map, ap, sym}
+use Rattle.std.proofs.Common.{◌∙◌, map, rules, ap, sym}
 use Rattle.run_records.specs.Records.{setting_in}
 use Rattle.trace_replay.specs.Replays.{counts_in}
 use Rattle.trace_records.specs.Traces.{text_of, base_of}
@@ -8,10 +8,20 @@ use Rattle.trace_records.proofs.Retelling.{record_of}
 use Rattle.trace_records.proofs.Completing.{record_formed}
 use Rattle.trace_replay.proofs.whole.replay.Goals as goal
 
-pub replay_engines-requires-clause-formed : goal.replay_engines-requires-clause-formed
-replay_engines-requires-clause-formed g c =
-    record_formed (base_of c.args.plan.now c.args.library.now c.args.clocks.now c.args.start.second) c.args.clocks.now c.requires.setting c.args.trace.now.window c.args.trace.now.ticks (text_of c.args.trace.now.buffers)
-    c.requires.accepted.ordered.run c.requires.accepted.ordered.lawful c.requires.accepted.ordered.told
+pub replay_engines-requires : goal.replay_engines-requires
+replay_engines-requires g c = record {
+  few = c.requires.trace.bounds.ticks_most;
+  setting = c.requires.setting;
+  sides = search rules;
+  engines = c.requires.engines;
+  all = c.requires.all;
+  formed = record_formed (base_of c.args.plan.now c.args.library.now c.args.clocks.now c.args.start.second) c.args.clocks.now c.requires.setting c.args.trace.now.window c.args.trace.now.ticks (text_of c.args.trace.now.buffers)
+      c.requires.accepted.ordered.run c.requires.accepted.ordered.lawful c.requires.accepted.ordered.told;
+  told = search rules;
+  empty = search rules;
+  kept = search rules;
+  turns = search rules;
+}
 
 pub returns-in-Ok-clause-done : goal.returns-in-Ok-clause-done
 returns-in-Ok-clause-done g c = λ is. record {

@@ -20,49 +20,37 @@ loop-left-init c =
           (ap (λ l. length l) zeros ∙ long_made c.args.station.now.clocks.now.running) none (ap total zeros ∙ none_total c.args.station.now.clocks.now.running) refl c.requires.search.none c.requires.search.kept c.requires.search.empty c.requires.search.text;
     }
 
-pub live_turn-requires-clause-within : goal.live_turn-requires-clause-within
-live_turn-requires-clause-within c =
+pub live_turn-requires : goal.live_turn-requires
+live_turn-requires c =
     let live = c.loop-clock.invariant.live in
     let size = live.lives_size in
+    let there : c.loop-clock.clock < length c.loop-clock.lives.items = omega (arith, size, c.loop-clock-test.true) in
+    let at : slice_get c.loop-clock.lives.items c.loop-clock.clock ≡ Some c.index_mut-live.result.now = slice_get_read _ _ _ _ refl there c.index_mut-live.ensures.value in
     let long = live.size in
     let from : made_of c.loop-clock.made.items c.loop-clock.clock ≡ c.index-from.result.now =
     read_made c.loop-clock.made.items c.loop-clock.clock c.index-from.result.now c.index-from.ensures (omega (arith, long, c.loop-clock-test.true)) in
     let few = live.within c.loop-clock.clock (omega (arith, size, c.loop-clock-test.true)) in
-    omega (arith, from, few)
-
-pub live_turn-requires-clause-marks : goal.live_turn-requires-clause-marks
-live_turn-requires-clause-marks c =
-    let live = c.loop-clock.invariant.live in
-    let size = live.lives_size in
-    let there : c.loop-clock.clock < length c.loop-clock.lives.items = omega (arith, size, c.loop-clock-test.true) in
-    let at : slice_get c.loop-clock.lives.items c.loop-clock.clock ≡ Some c.index_mut-live.result.now = slice_get_read _ _ _ _ refl there c.index_mut-live.ensures.value in
-    live.marks c.loop-clock.clock c.index_mut-live.result.now at
-
-pub live_turn-requires-clause-long : goal.live_turn-requires-clause-long
-live_turn-requires-clause-long c = c.requires.search.long ∙ sym c.loop-clock.invariant.live.many
-
-pub live_turn-requires-clause-turn : goal.live_turn-requires-clause-turn
-live_turn-requires-clause-turn c =
-    let live = c.loop-clock.invariant.live in
-    let size = live.lives_size in
-    let there : c.loop-clock.clock < length c.loop-clock.lives.items = omega (arith, size, c.loop-clock-test.true) in
-    let at : slice_get c.loop-clock.lives.items c.loop-clock.clock ≡ Some c.index_mut-live.result.now = slice_get_read _ _ _ _ refl there c.index_mut-live.ensures.value in
-    let long = live.size in
-    let from : made_of c.loop-clock.made.items c.loop-clock.clock ≡ c.index-from.result.now =
-    read_made c.loop-clock.made.items c.loop-clock.clock c.index-from.result.now c.index-from.ensures (omega (arith, long, c.loop-clock-test.true)) in (
-      base_at c.args.station.now,
-      c.args.station.now.clocks.now,
-      c.requires.search.text.0,
-      (live.waiting c.requires.search.text.0 c.requires.search.text.1).full,
-      c.requires.search.setting,
-      c.requires.search.sides,
-      live.fit c.requires.search.text.0 c.requires.search.text.1,
-      (live.waiting c.requires.search.text.0 c.requires.search.text.1).fills,
-      unlost_now (base_at c.args.station.now) c.args.station.now.clocks.now c.requires.search.setting c.args.window c.args.ticks c.args.sides.now.feeders.items c.args.sides.now.readers.items c.requires.search.sides c.args.ends.now c.args.taps.now.buffers.items
-          c.loop-clock.lives.items c.loop-clock.made.items c.loop-clock.left c.loop-clock.turns.items c.loop-clock.taps.buffers.items c.loop-clock.invariant.live c.loop-clock.clock c.index_mut-live.result.now at c.index-from.result.now from c.requires.search.text.0 c.requires.search.text.1,
-      paused_now (base_at c.args.station.now) c.args.station.now.clocks.now c.requires.search.setting c.args.window c.args.ticks c.args.sides.now.feeders.items c.args.sides.now.readers.items c.requires.search.sides c.args.ends.now c.args.taps.now.buffers.items
-          c.loop-clock.lives.items c.loop-clock.made.items c.loop-clock.left c.loop-clock.turns.items c.loop-clock.taps.buffers.items c.loop-clock.invariant.live c.loop-clock.clock c.index_mut-live.result.now at c.index-from.result.now from c.requires.search.text.0 c.requires.search.text.1,
-    )
+    let text = c.requires.search.text in
+    record {
+      some = c.requires.search.some;
+      few = c.requires.search.few;
+      within = omega (arith, from, few);
+      long = c.requires.search.long ∙ sym live.many;
+      marks = live.marks c.loop-clock.clock c.index_mut-live.result.now at;
+      turn = (
+        record { base = base_at c.args.station.now; clocks = c.args.station.now.clocks.now; text = text.0; full = (live.waiting text.0 text.1).full },
+        record {
+          setting = c.requires.search.setting;
+          sides = c.requires.search.sides;
+          fit = live.fit text.0 text.1;
+          fills = (live.waiting text.0 text.1).fills;
+          unlost = unlost_now (base_at c.args.station.now) c.args.station.now.clocks.now c.requires.search.setting c.args.window c.args.ticks c.args.sides.now.feeders.items c.args.sides.now.readers.items c.requires.search.sides c.args.ends.now c.args.taps.now.buffers.items
+              c.loop-clock.lives.items c.loop-clock.made.items c.loop-clock.left c.loop-clock.turns.items c.loop-clock.taps.buffers.items c.loop-clock.invariant.live c.loop-clock.clock c.index_mut-live.result.now at c.index-from.result.now from text.0 text.1;
+          paused = paused_now (base_at c.args.station.now) c.args.station.now.clocks.now c.requires.search.setting c.args.window c.args.ticks c.args.sides.now.feeders.items c.args.sides.now.readers.items c.requires.search.sides c.args.ends.now c.args.taps.now.buffers.items
+              c.loop-clock.lives.items c.loop-clock.made.items c.loop-clock.left c.loop-clock.turns.items c.loop-clock.taps.buffers.items c.loop-clock.invariant.live c.loop-clock.clock c.index_mut-live.result.now at c.index-from.result.now from text.0 text.1;
+        },
+      );
+    }
 
 pub overflow_sub-left-in-Made : goal.overflow_sub-left-in-Made
 overflow_sub-left-in-Made c =
@@ -81,7 +69,8 @@ overflow_sub-left-in-Made c =
     λ text fit. flown_now (base_at c.args.station.now) c.args.station.now.clocks.now c.requires.search.setting c.args.window c.args.ticks c.args.sides.now.feeders.items c.args.sides.now.readers.items c.requires.search.sides c.args.ends.now c.args.taps.now.buffers.items
     c.loop-clock.lives.items c.loop-clock.made.items c.loop-clock.left c.loop-clock.turns.items c.loop-clock.taps.buffers.items c.loop-clock.invariant.live
     c.loop-clock.clock c.index_mut-live.result.now at c.index-from.result.now from text fit c.in-Made.count c.live_turn.new.live c.live_turn.new.taps.buffers.items
-    (λ full now fills unlost paused. c.in_ok-count.ensures.gone c.in-Made.count (base_at c.args.station.now) c.args.station.now.clocks.now text full c.in-Made.is c.requires.search.setting c.requires.search.sides now fills unlost paused) in
+    (λ full now fills unlost paused. c.in_ok-count.ensures.gone c.in-Made.count (record { base = base_at c.args.station.now; clocks = c.args.station.now.clocks.now; text = text; full = full }) c.in-Made.is
+    (record { setting = c.requires.search.setting; sides = c.requires.search.sides; fit = now; fills = fills; unlost = unlost; paused = paused })) in
     let few = few_live (base_at c.args.station.now) c.args.station.now.clocks.now c.requires.search.setting c.args.window c.args.ticks c.args.sides.now.feeders.items c.args.sides.now.readers.items c.requires.search.sides c.args.ends.now c.args.taps.now.buffers.items
     c.loop-clock.lives.items c.loop-clock.made.items c.loop-clock.left c.loop-clock.turns.items c.loop-clock.taps.buffers.items c.loop-clock.invariant.live
     c.loop-clock.clock c.loop-clock-test.true c.in-Made.count far (c.in_ok-count.ensures.within c.in-Made.count c.in-Made.is) c.live_turn.new.live c.live_turn.new.taps.buffers.items c.note_turn.new.turns.items flown c.requires.search.text in
@@ -99,7 +88,8 @@ returns-in-Refused-clause-none c = λ e text fit ordered.
     refused_now (base_at c.args.station.now) c.args.station.now.clocks.now c.requires.search.setting c.args.window c.args.ticks c.args.sides.now.feeders.items c.args.sides.now.readers.items c.requires.search.sides c.args.ends.now c.args.taps.now.buffers.items
     c.loop-clock.lives.items c.loop-clock.made.items c.loop-clock.left c.loop-clock.turns.items c.loop-clock.taps.buffers.items c.loop-clock.invariant.live
     c.loop-clock.clock c.index_mut-live.result.now at c.index-from.result.now from text fit c.loop-clock-test.true
-    (λ full now fills unlost paused. c.in_ok-count.ensures.refused (base_at c.args.station.now) c.args.station.now.clocks.now text full c.in-Refused.is c.requires.search.setting c.requires.search.sides now fills unlost paused) ordered
+    (λ full now fills unlost paused. c.in_ok-count.ensures.refused (record { base = base_at c.args.station.now; clocks = c.args.station.now.clocks.now; text = text; full = full }) c.in-Refused.is
+    (record { setting = c.requires.search.setting; sides = c.requires.search.sides; fit = now; fills = fills; unlost = unlost; paused = paused })) ordered
 
 pub returns-in-Waits-clause-fit : goal.returns-in-Waits-clause-fit
 returns-in-Waits-clause-fit c = λ text fit. c.in_ok-count.ensures.fit (base_at c.args.station.now) text (c.loop-clock.invariant.live.fit text fit)
@@ -130,7 +120,8 @@ loop-clock-preserved c =
     λ text fit. flown_now (base_at c.args.station.now) c.args.station.now.clocks.now c.requires.search.setting c.args.window c.args.ticks c.args.sides.now.feeders.items c.args.sides.now.readers.items c.requires.search.sides c.args.ends.now c.args.taps.now.buffers.items
     c.loop-clock.lives.items c.loop-clock.made.items c.loop-clock.left c.loop-clock.turns.items c.loop-clock.taps.buffers.items c.loop-clock.invariant.live
     c.loop-clock.clock c.index_mut-live.result.now at c.index-from.result.now from text fit c.in-Made.count c.live_turn.new.live c.live_turn.new.taps.buffers.items
-    (λ full now fills unlost paused. c.in_ok-count.ensures.gone c.in-Made.count (base_at c.args.station.now) c.args.station.now.clocks.now text full c.in-Made.is c.requires.search.setting c.requires.search.sides now fills unlost paused) in
+    (λ full now fills unlost paused. c.in_ok-count.ensures.gone c.in-Made.count (record { base = base_at c.args.station.now; clocks = c.args.station.now.clocks.now; text = text; full = full }) c.in-Made.is
+    (record { setting = c.requires.search.setting; sides = c.requires.search.sides; fit = now; fills = fills; unlost = unlost; paused = paused })) in
     let marks : length c.live_turn.new.live.marks.items ≡ length c.loop-clock.taps.buffers.items = c.in_ok-count.ensures.marks ∙ live.marks c.loop-clock.clock c.index_mut-live.result.now at in
     let left : c.loop-clock.left - (c.in-Made.count - made_of c.loop-clock.made.items c.loop-clock.clock) ≡ c.loop-clock.left - (c.in-Made.count - c.index-from.result.now) = ap (λ n. c.loop-clock.left - (c.in-Made.count - n)) from in
     record {

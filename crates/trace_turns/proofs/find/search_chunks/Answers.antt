@@ -1,4 +1,4 @@
-use Rattle.std.proofs.Common.{◌≡◌, ◌≤◌, ◌+◌, ◌-◌, ◌*◌, ◌∙◌, ℕ, List, length, replicate, refl, ap, subst, arith}
+use Rattle.std.proofs.Common.{◌≡◌, ◌≤◌, ◌+◌, ◌-◌, ◌*◌, ◌∙◌, ℕ, List, length, replicate, refl, ap, subst, sym, arith}
 use Rattle.std.specs.Prelude.{slice_set}
 use Rattle.trace_turns.specs.Turns.{base_at, chunks_of}
 use Rattle.trace_turns.proofs.Searching.{ArePassing, AreStuck, made_of, total}
@@ -30,8 +30,16 @@ loop-clock-init c = record {
 pub loop-left-preserved : goal.loop-left-preserved
 loop-left-preserved c = record { passing = c.loop-clock.invariant.passing; kept = c.loop-clock.invariant.kept; led = c.loop-clock.invariant.led }
 
-pub run_turn-requires-clause-text : goal.run_turn-requires-clause-text
-run_turn-requires-clause-text c = (c.requires.text.0, c.loop-clock.invariant.passing.fit c.requires.text.0 c.requires.text.1)
+pub run_turn-requires : goal.run_turn-requires
+run_turn-requires c = record {
+  some = c.requires.some;
+  few = c.requires.few;
+  setting = c.requires.setting;
+  sides = c.requires.sides;
+  long = c.requires.long ∙ sym c.loop-clock.invariant.passing.many;
+  kept = c.loop-clock.invariant.kept;
+  text = (c.requires.text.0, c.loop-clock.invariant.passing.fit c.requires.text.0 c.requires.text.1);
+}
 
 pub overflow_sub-left : goal.overflow_sub-left
 overflow_sub-left c =

@@ -16,7 +16,7 @@ loop-number-preserved c =
     record {
       lines = more_lines c.args.plan.now (mark_at c.args.marks.now) k node c.loop-number.into.items c.push_node.new.into.items told.0 c.loop-number.invariant.lines here told.1 told.2;
       silent = more_silent c.args.plan.now k c.loop-number.silent c.push_node.new.silent c.loop-number.invariant.silent c.in_ok-push_node.ensures.silent;
-      looked = c.in_ok-push_node.ensures.looked;
+      kept = c.in_ok-push_node.ensures.kept;
     }
 
 pub returns-clause-lines : goal.returns-clause-lines

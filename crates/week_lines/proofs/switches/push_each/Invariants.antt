@@ -1,3 +1,4 @@
+use Rattle.std.specs.Prelude.{All}
 use Rattle.fallible_infer.specs.Infallible.{mark_at}
 use Rattle.week_plan.specs.Looked.{IsLooked}
 use Rattle.week_plan.specs.Tables.{IsTableOf}
@@ -9,5 +10,5 @@ abbrev pub invariant-loop-number : goal.invariant-loop-number
 invariant-loop-number l = record {
   lines : LinesTo l.plan (mark_at l.marks) l.number l.into.items;
   silent : IsTableOf (some_silent l.plan l.number) l.silent;
-  looked : IsLooked l.looked;
+  kept : All IsLooked l.kept.items;
 }
