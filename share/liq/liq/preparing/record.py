@@ -127,10 +127,11 @@ class Record:
         return os.path.join(self.out, name)
 
     def state(self, name: str) -> Optional[List[int]]:
-        """The state of a file below the folder; nothing where none is there."""
+        """The state of a file below the folder; nothing where none is there. A look that fails in another way says nothing
+        of the file, so it is the caller's."""
         try:
             return state_of(self.at(name))
-        except OSError:
+        except (FileNotFoundError, NotADirectoryError):
             return None
 
     def is_made(self, name: str) -> bool:

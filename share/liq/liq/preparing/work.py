@@ -97,13 +97,20 @@ class Work:
         one = [wanted] if count == 1 else [f"{front} part {k + 1:02}.wav" for k in range(count)]
         return [names.free(name, Taken(taken, self.record, set(old)), ending) for name in one]
 
+    def found_names(self, source: str, taken: Set[str], count: int) -> List[str]:
+        """The names of the parts of a source; none where a look at what stands there fails, which is told."""
+        try:
+            return self.names_for(source, taken, count)
+        except OSError as error:
+            self.leave_out(source, error.strerror)
+            return []
+
     def finish(self, number: int, source: str, result: Made, taken: Set[str]) -> None:
         """Puts what was made of a source at its names."""
         if not isinstance(result, tuple):
             self.leave_out(source, result)
-        else:
+        elif new := self.found_names(source, taken, len(result[1].parts)):
             sound, made, state = result
-            new = self.names_for(source, taken, len(made.parts))
             taken.update(new)
             form = {"rate": self.form.rate, "loudness": self.form.loudness, "whole": self.form.whole}
             told = {"state": state, **form, "sides": sound.sides, "parts": new, **sound.texts(), "remark": made.remark,
@@ -149,8 +156,13 @@ class Work:
             if trouble:
                 self.leave_out(source, trouble)
                 continue
-            kept = self.record.kept(source, path)
-            if kept and self.is_kept(source, kept):
+            try:
+                kept = self.record.kept(source, path)
+                is_kept = kept and self.is_kept(source, kept)
+            except OSError as error:
+                self.leave_out(source, error.strerror)
+                continue
+            if kept and is_kept:
                 self.mend_remark(source, path, kept)
                 self.kept += 1
                 taken.update(kept["parts"])
