@@ -134,6 +134,24 @@ class Record:
         except (FileNotFoundError, NotADirectoryError):
             return None
 
+    def is_gone(self, name: str) -> bool:
+        """Whether no file is there, as far as the system lets one look."""
+        try:
+            return self.state(name) is None
+        except OSError:
+            return False
+
+    def size(self, name: str) -> int:
+        """The bytes of a file below the folder; where the system lets nobody look, those that it had."""
+        try:
+            return os.path.getsize(self.at(name))
+        except OSError:
+            return self.made.get(name, [0])[0]
+
+    def has_source(self, name: str) -> bool:
+        """Whether a file was made of a source that is still known."""
+        return any(name in told["parts"] for told in self.sources.values())
+
     def is_made(self, name: str) -> bool:
         """Whether a file below the folder is the one that was made last."""
         state = self.state(name)

@@ -39,7 +39,7 @@ class Taken:
         name = str(name)
         if name in self.taken:
             return True
-        others = name in self.record.made and name not in self.own
+        others = name in self.record.made and name not in self.own and self.record.has_source(name)
         return others or not self.record.is_free(name)
 
 
@@ -123,7 +123,7 @@ class Work:
         """Tells why nothing is made of a source; what was made before is played as long as it is whole."""
         self.tell(source, f"left out: {why}")
         parts = self.record.sources.get(source, {}).get("parts", [])
-        if any(self.record.is_cut(part) or not os.path.exists(self.record.at(part)) for part in parts):
+        if any(self.record.is_cut(part) or self.record.is_gone(part) for part in parts):
             del self.record.sources[source]
 
     def is_kept(self, source: str, told: Dict[str, Any]) -> bool:
@@ -220,9 +220,10 @@ class Work:
         """The sizes of all that was made of these sources, as far as it is there."""
         sizes = {}
         for source in dict(found):
-            sides = self.record.sources.get(source, {}).get("sides", 2)
-            for entry in self.parts(source):
-                size = os.path.getsize(entry)
+            told = self.record.sources.get(source, {})
+            sides = told.get("sides", 2)
+            for part, entry in zip(told.get("parts", []), self.parts(source)):
+                size = self.record.size(part)
                 sizes[entry] = Size(size, max(0, size - waves.HEADER) / (2 * sides * self.form.rate))
         return sizes
 
