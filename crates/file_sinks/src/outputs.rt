@@ -101,6 +101,7 @@ impl<W: Write + Drop> FileSink<W> {
         ensures counted { taken_of self.new ≡ taken_of self.old }
         ensures length { room_of self.new ≡ room_of self.old }
         ensures faults { faults_of self.old ≤ faults_of self.new }
+        ensures unfailed { OnOk result (faults_of self.new ≡ faults_of self.old) }
         ensures cause { OnErr result (Rose (faults_of self.old) (faults_of self.new)) }
     {
         self.to.hand_on()
@@ -153,6 +154,7 @@ impl<W: Write + Drop> Sink for FileSink<W> {
             (TookPiece piece.now (faults_alone self.old.to.faults) (faults_alone self.new.to.faults)) }
         ensures part { OnErr result
             (TookPart piece.now (faults_alone self.old.to.faults) (faults_alone self.new.to.faults)) }
+        ensures unfailed { OnOk result (faults_of self.new ≡ faults_of self.old) }
     {
         let taken = self.taken.saturating_add(piece.len() as u64);
         self.to.append(piece)?;

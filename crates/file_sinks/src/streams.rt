@@ -64,6 +64,7 @@ impl<W: Write + Drop> OutSink<BufWriter<W>> {
         ensures bytes { Keeps (writer_contents W.contents self.old.to) (writer_contents W.contents self.new.to) }
         ensures none_kept { OnOk result (writer_buffer self.new.to ≡ []) }
         ensures faults { self.old.faults ≤ self.new.faults }
+        ensures unfailed { OnOk result (self.new.faults ≡ self.old.faults) }
         ensures cause { OnErr result (Rose self.old.faults self.new.faults) }
     {
         if self.to.flush().is_ok() {
@@ -98,6 +99,7 @@ impl<W: Write + Drop> Sink for OutSink<W> {
         ensures front { OnErr result (AppendsPart (W.contents self.old.to) (W.contents self.new.to) piece.now) }
         ensures took { OnOk result (TookPiece piece.now (faults_alone self.old.faults) (faults_alone self.new.faults)) }
         ensures part { OnErr result (TookPart piece.now (faults_alone self.old.faults) (faults_alone self.new.faults)) }
+        ensures unfailed { OnOk result (self.new.faults ≡ self.old.faults) }
     {
         if write_whole(&mut self.to, piece) {
             return Ok(());
