@@ -47,7 +47,7 @@ abbrev pub others : {T : Type 0} → List (GivenArgument T) → Option (T × Lis
 others gs None = gs
 others gs (Some x) = x.1
 
--- the arguments that are left once each parameter in turn took the first that fits its label; a call may have none
+-- the arguments of a call that no parameter takes: each parameter in turn takes the first argument that fits its label
 abbrev pub left_over : {T : Type 0} → List Parameter → List (GivenArgument T) → List (GivenArgument T)
 left_over [] gs = gs
 left_over (p ∷ ps) gs = left_over ps (others gs (argument (label_of p) gs))
