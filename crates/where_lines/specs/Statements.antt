@@ -33,7 +33,7 @@ abbrev pub or_all : List Token → Option ℕ → ℕ
 or_all tokens (Some first) = first
 or_all tokens None = length tokens
 
--- the number of the first token of a statement; behind the last statement, how many tokens there are
+-- the number of the first token of a statement; for a number behind the last statement, how many tokens there are
 abbrev pub first_of : List Token → Script → ℕ → ℕ
 first_of tokens script number = or_all tokens (first_token script number)
 
