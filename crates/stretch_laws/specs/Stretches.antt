@@ -46,9 +46,9 @@ KeepsTitle setting sub past i (Reads buffer) j title =
     title_of (reader_slot (read_by j
     (reading_at setting buffer (length past) (reading_after setting i buffer past)).reader)) ≡ title
 
--- The next `instants` instants of a clock are a stretch: from the first one on no track begins, no reader stops, no
--- predicate changes and no title changes, so that what each node does at the first instant decides the others. `past`
--- is what went before.
+-- The next `instants` instants of a clock are a stretch: after the first one no node that gives begins a track or
+-- changes its title, no predicate changes, and no tick begins for a reader, so that the first instant decides the
+-- others. `past` is what went before.
 pub record IsStretch (setting : Setting) (sub : ℕ → ℕ
     → List Slot) (clock : NodeClock) (past : List Moment) (instants : ℕ) : Type 0 where
   -- leaves that give go on with their track
