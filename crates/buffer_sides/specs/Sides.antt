@@ -7,7 +7,7 @@ use Rattle.plan_core.specs.declared.sink.SinkPlan.TheVariants.{Feed}
 use Rattle.run_records.specs.Buffers.{fed_in, read_from}
 use Rattle.stream_meaning.specs.Instants.{Setting}
 
--- `found` has for each buffer, by its number, the node that feeds it, by these sinks
+-- `found` has for each buffer, by its number, the node whose cells are fed into it, as these sinks say
 abbrev pub AreFeeders : List SinkPlan → (found : List ℕ) → Type 0
 AreFeeders sinks found = (buffer : ℕ) → buffer < length found → slice_index_or found buffer 0 ≡ fed_in buffer sinks
 

@@ -27,7 +27,8 @@ pub fn feeders(alloc: Global, plan: &Plan) -> Result<Vec<u32>, Memory>
     Ok(found)
 }
 
-// Notes the node of a sink that is a feed, once the later sinks are noted.
+// Writes the node of a sink that is a feed into `found`, at the number of its buffer, once the later sinks are
+// written; any other sink changes nothing.
 fn put_feeder(sink: &SinkPlan, found: &mut [u32])
     requires { FeedsBelow (length found.old) sink.now }
     ensures size { length found.new ≡ length found.old }
@@ -54,7 +55,8 @@ pub fn readers(alloc: Global, plan: &Plan) -> Result<Vec<u32>, Memory>
     Ok(found)
 }
 
-// Notes a node that is a reader, once the later nodes are noted.
+// Writes the number of a node that is a reader into `found`, at the number of its buffer, once the later nodes are
+// written; any other node changes nothing.
 fn put_reader(number: u32, node: &Node, found: &mut [u32])
     requires { (buffer : ℕ) → node.now.op ≡ Buffer buffer → buffer < length found.old }
     ensures size { length found.new ≡ length found.old }

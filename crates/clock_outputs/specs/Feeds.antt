@@ -6,7 +6,8 @@ use Rattle.stream_meaning.specs.Arithmetic.{cells_of}
 use Rattle.stream_meaning.specs.Calls.{IsBegin, given, joined_upto}
 use Rattle.clock_outputs.specs.declared.feed.FeedPort.{FeedPort}
 
--- a feed at the start of a tick: it has no cells
+-- a feed, which puts the cells of a node into a buffer, at the start of a tick: it holds no cells, and the room for
+-- them stays
 abbrev pub unfed : FeedPort → FeedPort
 unfed feed = record {
   buffer = feed.buffer;
@@ -14,7 +15,7 @@ unfed feed = record {
   frame = record { cells = []; room = feed.frame.room };
 }
 
--- a feed after these slots more of its node: it has their cells too
+-- a feed of a buffer after these slots more of its node: their cells go behind those that it holds
 abbrev pub fed : FeedPort → List Slot → FeedPort
 fed feed slots = record {
   buffer = feed.buffer;
@@ -40,7 +41,8 @@ pub record HaveOwnBuffers (feeds : List FeedPort) : Type 0 where
   pub each : (j k : ℕ) (one other : FeedPort) → slice_get feeds j ≡ Some one → slice_get feeds k ≡ Some other
       → one.buffer ≡ other.buffer → j ≡ k
 
--- a feed gave its chunk, if it had cells, by a call that the taps got
+-- at the end of a tick a feed put its chunk of cells into its buffer, if it had any, by a call that the taps, which
+-- are the ends of buffers in this clock, got
 pub record HasGiven {T : Type 0} (stands : T → List Call
     → Type 0) (feed : FeedPort) (taps_old taps_new : T) : Type 0 where
   pub more : List Call
@@ -48,7 +50,8 @@ pub record HasGiven {T : Type 0} (stands : T → List Call
   pub accepted : Bool
   pub is : more ≡ given feed.buffer feed.frame.cells accepted
 
--- the first `below` feeds gave their chunks, by calls that the taps got
+-- at the end of a tick the first `below` feeds put their chunks into their buffers, in order, by calls that the taps,
+-- which are the ends of buffers in this clock, got
 pub record HaveGiven {T : Type 0} (stands : T → List Call
     → Type 0) (feeds : List FeedPort) (below : ℕ) (taps_old taps_new : T) : Type 0 where
   pub more : List Call

@@ -5,7 +5,7 @@ use Rattle.frame_core.specs.Slots.{Slot}
 use Rattle.stream_meaning.specs.Sinks.{block_length, slot_block}
 use Rattle.clock_outputs.specs.declared.port.Port.{Port}
 
--- the number of gaps after one more slot: a slot without a cell adds one, up to 2^64 - 1
+-- the number of gaps of an output after one more slot of its node: a slot without a cell adds one, up to 2^64 - 1
 abbrev pub counted : ℕ → Slot → ℕ
 counted gaps None = min (gaps + 1) (2 ^ 64 - 1)
 counted gaps (Some cell) = gaps
@@ -22,7 +22,7 @@ with_bytes port bytes gaps = record {
   gaps_before = port.gaps_before;
 }
 
--- an output at the start of a tick: it has no bytes
+-- an output at the start of a tick: it has no bytes, and the gaps so far are those before the tick
 abbrev pub emptied : Port → Port
 emptied port = record {
   sink = port.sink;
@@ -34,7 +34,8 @@ emptied port = record {
   gaps_before = port.gaps;
 }
 
--- an output after one more slot of its node
+-- an output after one more slot of its node: the bytes of its samples, or zeros for an empty slot, are added, and a
+-- gap is counted
 abbrev pub after_slot : Port → Slot → Port
 after_slot port slot = with_bytes port (port.piece.bytes
     ++ slot_block port.wide port.kind slot) (counted port.gaps slot)

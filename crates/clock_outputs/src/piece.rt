@@ -76,7 +76,7 @@ impl Piece {
         self.filled = end;
     }
 
-    /// The bytes.
+    /// The bytes of the tick so far.
     pub fn bytes(&self) -> &[u8]
         ensures { result.now ≡ self.now.bytes }
     {
@@ -92,7 +92,7 @@ pub fn block_size(wide: bool, kind: Kind) -> usize
     if wide { 3 * channels } else { 2 * channels }
 }
 
-// Writes the blocks of these samples, which fill the bytes.
+// Writes the blocks of these samples, one sample of each channel to a block, into `into`, which they fill.
 fn lay_samples(wide: bool, kind: Kind, left: &[i16], right: &[i16], into: &mut [u8])
     requires same { length right.now ≡ length left.now }
     requires room { length into.old ≡ length left.now * block_length wide kind }

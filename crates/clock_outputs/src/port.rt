@@ -35,8 +35,8 @@ impl Port {
         self.gaps_before = self.gaps;
     }
 
-    /// Takes the slots of its node in a segment: that of its first instant, and then cells with these samples, which
-    /// begin no track; or as many empty slots if the first one is empty.
+    /// Takes the slots of its node in a segment, which is an instant and a run of further ones: the slot of the first
+    /// instant, and then cells with these samples, which begin no track; or as many empty slots if the first is empty.
     pub fn hear(&mut self, slot: Option<Cell>, left: &[i16], right: &[i16])
         requires same { length right.now ≡ length left.now }
         requires room { HasRoomLeft (suc (length left.now)) self.old }

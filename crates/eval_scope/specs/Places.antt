@@ -10,12 +10,13 @@ use Rattle.script_values.specs.declared.slots.Slot.{Slot}
 use Rattle.typing_rules.specs.Scripts.{def_token}
 use Rattle.typing_rules.specs.declared.uses.Use.{Use}
 
--- the table has, for each token, the index of the first item of the list that passes the test with it; none where none
--- passes
+-- `places` is an index of the list xs by tokens: for each token it has the place of the first item that passes the
+-- test with this token, or None
 abbrev pub IsTable : {X : Type 0} → (ℕ → X → Bool) → List (Option ℕ) → List X → Type 0
 IsTable test places xs = (at : ℕ) → at_token at places ≡ position (test at) xs
 
--- each token that passes the test has this index now, unless it had one, and every other token has what it had
+-- one item was entered in an index by tokens: each token that passes the test has its place now, unless it had an
+-- earlier one, and every other token has what it had
 abbrev pub Notes : (ℕ → Bool) → List (Option ℕ) → ℕ → List (Option ℕ) → Type 0
 Notes test old place new = (at : ℕ) → at_token at new ≡ option_or (at_token at old) (cond (test at) (Some place) None)
 

@@ -40,7 +40,7 @@ base_of s = record {
 abbrev pub called : program.Scope → ℕ → List Kind → List (GivenArgument Value) → Machine → Outcome
 called s at kinds given m = call_by (world_of s) s.calls at kinds given m
 
--- the kinds ks with further ones behind them, if there are these
+-- the kinds js, if they are known, with ks before them; else None
 abbrev pub prefixed : List Kind → Option (List Kind) → Option (List Kind)
 prefixed ks None = None
 prefixed ks (Some js) = Some (ks ++ js)

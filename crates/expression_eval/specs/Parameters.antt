@@ -33,19 +33,21 @@ AreApart [] = ⊤
 AreApart (None ∷ os) = AreApart os
 AreApart (Some i ∷ os) = Lacks i os × AreApart os
 
--- the value at every index but this one is as it was
+-- the value at every index is as it was, but for the one at the given index, if one is given
 abbrev pub AreKept : Option ℕ → (ℕ → Value) → (ℕ → Value) → Type 0
 AreKept None old new = (j : ℕ) → new j ≡ old j
 AreKept (Some i) old new = (j : ℕ) → j ≢ i → new j ≡ old j
 
--- the binding of a parameter by the argument that it takes, or else by its default
+-- binds one parameter of a def in a call: to the argument that it takes, or else to its default, which is evaluated;
+-- without either, evaluation is stuck
 unfoldable pub filled : Surroundings → Tree AParam → Option Value → Machine → Result (SlotValue × Machine) Stop
 filled s p (Some v) m = Ok ((token_of p, v), m)
 filled s (Param at name) None m = Err Stuck
 filled s (Labelled at name) None m = Err Stuck
 filled s (Optional at name d) None m = full s d m >>= λ x. Ok ((at, x.0), x.1)
 
--- the bindings `slots` and behind them those of further parameters, of which each takes its argument or its default
+-- binds the parameters of a def in a call, one after another, behind the bindings `slots`: each to its argument in the
+-- list, or else to its default
 unfoldable pub all_filled : Surroundings → Tree (Many AParam) → List (Option Value) → List SlotValue → Machine
     → Result (List SlotValue × Machine) Stop
 all_filled s none os slots m = Ok (slots, m)

@@ -21,6 +21,7 @@ operation (operator.Sum minus at) = added minus at
 operation (operator.Product divide at) = multiplied divide at
 operation (operator.Comparison op) = compared op
 
--- the value v, behind a call at token `at` whose sources are noted from number `before` on
+-- the value v of a call at token `at`, in a state that has the sources from number `before` on noted as made by this
+-- call
 abbrev pub noted_value : (at before : ℕ) → Value → Machine → Outcome
 noted_value at before v m = Ok (v, noted_by at before m)

@@ -128,8 +128,8 @@ fn take_value(given: &mut [Given], place: Option<usize>) -> Option<Value>
     Some(take_at(given, place))
 }
 
-/// Takes the value of the argument at index `place`, and leaves `Value::Nothing` in its stead. Past the last argument
-/// the value is `Value::Nothing`.
+/// Takes the value of the argument at index `place` out of `given`, and leaves `Value::Nothing` there. Past the last
+/// argument the value is `Value::Nothing`.
 fn take_at(given: &mut [Given], place: usize) -> Value
     ensures value { view_value result ≡ value_at given.old place }
     ensures others { AreKept (Some place) (value_at given.old) (value_at given.new) }

@@ -41,7 +41,7 @@ pub enum Operator {
     Comparison(CompareOp),
 }
 
-/// Writes a result into `out`. What was there is dropped.
+/// Writes a result into `out`, in place of what was there.
 pub fn put(out: &mut Result<Value, Stop>, made: Result<Value, Stop>)
     ensures { out.new ≡ made }
 {
@@ -65,7 +65,8 @@ pub fn operate(
     }
 }
 
-/// What an operator makes of its left operand and of what the right one gave; it counts 1.
+/// What an operator makes of its left operand and of the result of its right one, whose fault it passes on; it counts
+/// 1 of work.
 fn operated(
     machine: &mut Machine,
     operator: Operator,
@@ -109,7 +110,7 @@ pub fn truth(out: &mut Result<Value, Stop>) -> Option<bool>
     }
 }
 
-/// Counts 1. False where that is too much work, and then the fault is in `out`.
+/// Counts 1 of work. False where that passes the bound of work, and then the fault is in `out`.
 #[inline(never)]
 pub fn step(machine: &mut Machine, out: &mut Result<Value, Stop>) -> bool
     ensures { GoesOn result machine.new out.new (count_work 1 machine.old) }
@@ -123,7 +124,8 @@ pub fn step(machine: &mut Machine, out: &mut Result<Value, Stop>) -> bool
     }
 }
 
-/// What a call at token `at` made. Notes its sources, those from number `before` on.
+/// The result of a call at token `at`, once the sources that it made, those from number `before` on, are noted as its
+/// own. A fault stays.
 #[inline(never)]
 pub fn noted(
     machine: &mut Machine,
@@ -183,7 +185,7 @@ pub fn kept_argument(
     }
 }
 
-/// Adds an argument with a copy of this label.
+/// Adds an argument of a call to `given`: this value with a copy of this label.
 fn labelled(
     alloc: Global,
     label: &Option<Text>,
@@ -207,7 +209,7 @@ pub fn counted_negative(machine: &mut Machine, at: u32, number: Literal) -> Resu
     Ok(made)
 }
 
-/// This value; it counts 1.
+/// Gives this value back, once 1 of work is counted; a fault if that is too much work.
 pub fn counted_value(machine: &mut Machine, value: Value) -> Result<Value, Stop>
     ensures { Gives (λ v. (view_value v, machine.new)) result (after_count (Ok (view_value value)) machine.old) }
 {
@@ -248,7 +250,7 @@ fn counted_operation(
     Ok(made)
 }
 
-/// What an operator makes of two values.
+/// What an operator makes of two values, or a fault. No work is counted.
 fn operation(operator: Operator, left: &Value, right: &Value) -> Result<Value, Stop>
     ensures { Gives (λ v. view_value v) result (operation operator (view_value left.now) (view_value right.now)) }
 {

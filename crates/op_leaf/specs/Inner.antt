@@ -10,7 +10,8 @@ use Rattle.op_leaf.specs.declared.leaf.Cursor.{Cursor}
 use Rattle.op_leaf.specs.declared.leaf.Cursor.TheVariants.{Track, Silence, Wave, Nothing}
 use Rattle.op_leaf.specs.declared.leaf.LeafState.{LeafState}
 
--- how many cells from this position on, at most `most`, begin no track, up to the first slot without such a cell
+-- how many slots from this position on, at most `most`, go on with a track: each has a cell that begins none. `slots`
+-- gives the slot at a position.
 abbrev pub inner_from : (slots : ℕ → Slot) → (position most : ℕ) → ℕ
 inner_from slots position zero = zero
 inner_from slots position (suc most) = if is_inner (slots position) then suc (inner_from slots (suc position) most)
@@ -41,7 +42,7 @@ lefts_of slots position count = map (λ q. slot_left (slots q)) (range_with_len 
 abbrev pub rights_of : (slots : ℕ → Slot) → (position count : ℕ) → List ℤ
 rights_of slots position count = map (λ q. slot_right (slots q)) (range_with_len position count)
 
--- `count` cells from the state's sample on lie in its file
+-- `count` cells, from the sample at which the state stands, lie in the file that it plays
 pub record LieInFile (library : Sounds) (files : FilesState) (count : ℕ) : Type 0 where
   pub there : files.track < length (tracks_of library files.node)
   pub within : files.at + count ≤ length_of (sound_at library files.node files.track)

@@ -3,7 +3,7 @@ use Rattle.std.specs.Prelude.{◌≡◌, ◌<◌, true, ℕ, ℤ, List, IsSome}
 use Rattle.frame_core.specs.Slots.{Slot, title_of, is_inner}
 use Rattle.op_leaf.specs.Inner.{lefts_of, rights_of}
 
--- the first `count` slots are cells that begin no track, and these are their samples
+-- the first `count` slots are cells of one track that begin none, and these are their left and right samples
 pub record IsLane (slots : ℕ → Slot) (count : ℕ) (left right : List ℤ) : Type 0 where
   pub left_is : left ≡ lefts_of slots 0 count
   pub right_is : right ≡ rights_of slots 0 count

@@ -57,7 +57,7 @@ height_at pitch rate position =
     if nat_lt (position * unsigned_abs pitch.millionths % (rate * 1000000)) (rate * 500000) then pos 8192
     else negsuc 8191
 
--- the right sample of a cell in a source of this kind, where both sides are alike; 0 in mono
+-- the right sample of a cell whose left one is `sample`: the same in a stereo source, and 0 in a mono one
 abbrev pub on_the_right : Kind → ℤ → ℤ
 on_the_right Mono sample = pos 0
 on_the_right Stereo sample = sample
@@ -78,7 +78,7 @@ leaf_slot library (Blank track) position = Some (blank_cell track position)
 leaf_slot library (Square pitch rate kind) position = Some (square_cell pitch rate kind position)
 leaf_slot library Never position = None
 
--- a square wave has samples in a second; any other leaf has no need of them
+-- a square wave has a sample rate above 0, so that its periods are defined; any other leaf needs none
 abbrev pub HasRate : Leaf → Type 0
 HasRate (Files node again kind) = Unit {0}
 HasRate (Blank track) = Unit {0}

@@ -11,24 +11,25 @@ pub record Reader : Type 0 where
   pub prefill : ℕ
   pub frame : ℕ
 
--- how many cells it is to hold after the takes of a tick: those of a tick while it plays, else its prefill
+-- how many cells the reader of a buffer is to hold once it has taken chunks at the start of a tick: a tick of them
+-- while it plays, else its prefill
 abbrev pub wanted : Reader → ℕ
 wanted reader = if reader.playing then reader.frame else reader.prefill
 
--- whether it holds fewer cells than it is to hold
+-- whether a reader holds fewer cells than it is to hold, so that it takes one more chunk from its buffer
 abbrev pub wants : Reader → Bool
 wants reader = nat_lt (length reader.cells) (wanted reader)
 
--- how many cells it lacks: each take lowers it
+-- how many cells a reader lacks of those that it is to hold; each chunk that it takes lowers it
 abbrev pub missing : Reader → ℕ
 missing reader = wanted reader - length reader.cells
 
--- these cells, of which the first begins a track
+-- these cells, with the first one marked as the beginning of a track
 abbrev pub flag_front : List Cell → List Cell
 flag_front [] = []
 flag_front (cell ∷ cells) = record { left = cell.left; right = cell.right; first = true; title = cell.title } ∷ cells
 
--- whether there is a cell
+-- whether the list of cells is not empty
 abbrev pub holds_some : List Cell → Bool
 holds_some [] = false
 holds_some (cell ∷ cells) = true
@@ -47,7 +48,7 @@ begun reader = from reader.playing
         then record reader { cells = flag_front reader.cells; playing = true }
         else reader
 
--- what a reader offers: while it plays, the front cell
+-- the cell that a reader has at an instant: the front one of those that it holds, while it plays; else none
 abbrev pub reader_slot : Reader → Slot
 reader_slot reader = if reader.playing then front reader.cells else None
   where
@@ -64,7 +65,8 @@ abbrev pub read_by : ℕ → Reader → Reader
 read_by zero reader = reader
 read_by (suc j) reader = after_cell (read_by j reader)
 
--- the reader after the takes of a tick: it takes while it wants, up to and with the first empty answer
+-- the reader after it asked its buffer for chunks at the start of a tick, with these answers: it adds chunks while it
+-- wants cells, up to the first answer that is empty
 abbrev pub after_takes : List Answer → Reader → Reader
 after_takes [] reader = reader
 after_takes (None ∷ answers) reader = reader
@@ -78,6 +80,7 @@ reader_takes (None ∷ answers) reader = if wants reader then None ∷ [] else [
 reader_takes (Some chunk ∷ answers) reader =
     if wants reader then Some chunk ∷ reader_takes answers (record reader { cells = reader.cells ++ chunk }) else []
 
--- the reader at a tick's start, over the answers to come; past their end an answer is empty
+-- the reader of a buffer at the start of a tick: it takes chunks, by the answers to come, and then plays, begins to
+-- play or stops; past the end of the answers its buffer is empty
 abbrev pub at_start : List Answer → Reader → Reader
 at_start answers reader = begun (after_takes answers reader)

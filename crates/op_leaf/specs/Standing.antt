@@ -12,7 +12,8 @@ use Rattle.op_leaf.specs.declared.leaf.Cursor.{Cursor}
 use Rattle.op_leaf.specs.declared.leaf.Cursor.TheVariants.{Track, Silence, Wave, Nothing}
 use Rattle.op_leaf.specs.Leaves.{place_in_round, sounds_of, total_of}
 
--- the files before the one that is played, and the sample in it, make up the position
+-- a player of files that has given `position` cells stands where its state says: the lengths of the files before the
+-- one that is played, and the sample in it, make up the position in the current round
 abbrev pub FilesStandAt : Sounds → FilesState → ℕ → Type 0
 FilesStandAt library files position =
     total_of (take files.track (sounds_of library files.node)) + files.at
@@ -24,7 +25,8 @@ pub record FilesArePlacedIn (library : Sounds) (files : FilesState) : Type 0 whe
   pub within : files.track < length (tracks_of library files.node)
       → files.at < length_of (sound_at library files.node files.track)
 
--- the sample in a blank's track is that of the position; in an endless one it is whether it has begun
+-- a blank that has given `position` cells stands where its state says: at that sample of its track; of an endless one
+-- the state only tells whether it has begun
 abbrev pub BlankStandsAt : Blank → ℕ → Type 0
 BlankStandsAt blank position = blank.at ≡ (if nat_eq blank.track 0 then min position 1 else (position % blank.track))
 
@@ -33,14 +35,14 @@ pub record SquareStandsAt (square : Square) (position : ℕ) : Type 0 where
   pub phase : square.phase ≡ position * unsigned_abs square.pitch.millionths % (square.rate * 1000000)
   pub begun : square.begun ≡ not (nat_eq position 0)
 
--- what a cursor plays
+-- the leaf, which is what plays without a child, that this cursor is the state of
 abbrev pub played_by : Cursor → Leaf
 played_by (Track files) = leaf.Files files.node files.again files.kind
 played_by (Silence blank) = leaf.Blank blank.track
 played_by (Wave square) = leaf.Square square.pitch square.rate square.kind
 played_by Nothing = leaf.Never
 
--- what the state of a leaf plays
+-- the leaf that the state of one stands for: files, a blank, a square wave or nothing
 abbrev pub leaf_of : LeafState → Leaf
 leaf_of state = played_by state.cursor
 
@@ -59,13 +61,13 @@ CursorIsPlacedIn library Nothing = Unit {0}
 abbrev pub IsPlacedIn : Sounds → LeafState → Type 0
 IsPlacedIn library state = CursorIsPlacedIn library state.cursor
 
--- a cursor stands for this position
+-- the state of a leaf, by what it plays, is that after `position` cells
 abbrev pub CursorStandsAt : Sounds → Cursor → ℕ → Type 0
 CursorStandsAt library (Track files) position = FilesStandAt library files position
 CursorStandsAt library (Silence blank) position = BlankStandsAt blank position
 CursorStandsAt library (Wave square) position = SquareStandsAt square position
 CursorStandsAt library Nothing position = Unit {0}
 
--- the state of a leaf stands for this position, which is how many cells it may have given
+-- the state of a leaf is that after `position` cells were given; the position itself is not kept
 abbrev pub StandsAt : Sounds → LeafState → ℕ → Type 0
 StandsAt library state position = CursorStandsAt library state.cursor position

@@ -174,7 +174,7 @@ impl LeafState {
     }
 }
 
-// Writes zeros.
+// Fills these samples with zeros.
 fn silence(into: &mut [i16])
     ensures { (p : ℕ) → into.new ≡ map (λ q. pos 0) (range_with_len p (length into.old)) }
 {

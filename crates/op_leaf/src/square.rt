@@ -116,7 +116,8 @@ impl Square {
     }
 }
 
-// How much of a period goes by with each sample, where the rate in millions is a whole period.
+// How far a square wave goes in its period with each sample, in parts of which a period has a million times the rate:
+// its pitch in millionths.
 fn step_of(pitch: Decimal) -> u64
     ensures step { result ≡ unsigned_abs pitch.millionths }
     ensures bound { result ≤ 1000000000000000 }

@@ -18,7 +18,8 @@ pub(crate) fn split_path(path: &str) -> (&str, &str) {
     }
 }
 
-/// The path of the temporary file of this number beside a path: a number from 2 on is part of it.
+/// The path of temporary file `number` beside a path: `.unfinished` is added to its name, and then the number from 2
+/// on. A name that is too long for that is replaced by `liq`.
 pub(crate) fn temporary_path(alloc: Global, path: &str, number: u32) -> Result<String, AllocError> {
     let (folder, last) = split_path(path);
     let mut text = if last.len() <= LONGEST {

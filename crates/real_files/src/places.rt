@@ -19,7 +19,8 @@ use std::{fs, io};
 /// The mode of a file where none was, before the system takes away the rights that the user wants not to be given.
 const NEW_MODE: u32 = 0o666;
 
-/// The outputs of a run: those that are written beside their names, and those that are written in place.
+/// The outputs of a run: those that are written into a temporary file beside their names, and those that are written
+/// straight into what stands there.
 #[derive(Drop)]
 pub(crate) struct Places {
     beside: Vec<Beside>,
@@ -534,7 +535,7 @@ fn follow<R: Files<File = File> + Alloc<A = Global>>(
     }
 }
 
-// A copy of a name.
+// A copy of a name as a string of its own; a fault where memory is refused.
 fn text(alloc: Global, name: &str) -> Result<String, ShelfFault> {
     match String::from_str(alloc, name) {
         Ok(text) => Ok(text),

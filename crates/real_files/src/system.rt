@@ -83,8 +83,8 @@ pub(crate) fn is_writable<R: Files<File = File>>(rt: &R, path: &str) -> bool {
     OpenOptions::new().write(true).open(rt, path).is_ok()
 }
 
-/// Whether a file that this process owns, as `ours`, may take the place of an old one in its folder, by the rule of
-/// sticky folders.
+/// Whether a new file, `ours`, may take the place of an old one in its folder. In a sticky folder only root, the owner
+/// of the old file and the owner of the folder may replace it.
 pub(crate) fn may_replace(folder: &Metadata, old: &Metadata, ours: &Metadata) -> bool {
     let us = ours.uid();
     folder.mode() & STICKY == 0 || us == 0 || us == old.uid() || us == folder.uid()
@@ -105,7 +105,8 @@ pub(crate) fn new_mode(old: u32, has_group: bool) -> u32
     }
 }
 
-// The mode of a new file in place of one of mode `old`, whose group it has not.
+// The mode of a new file that has not the group of the old one, whose mode is `old`: group and others may do what both
+// the old group and others might.
 fn shared_access(old: u32) -> u32
     ensures owner { result / 64 ≡ old / 64 % 8 }
     ensures group { result / 8 % 8 ≡ bit_and (old / 8 % 8) (old % 8) }

@@ -21,13 +21,15 @@ Refuses (Err fault) left (refusals.BadByte n) = fault ≡ Bad n
 Refuses (Err fault) left (refusals.UnclosedString n) = fault ≡ OpenText n
 Refuses (Err fault) left (refusals.NumberTooLarge n) = ⊥
 
--- a result is right for what is read: a token that the shape means, with the bytes behind it, or a right refusal
+-- a result of a reading function is right for what stands at the front: a token that the shape there means, with the
+-- bytes behind it, or a right refusal. `kind` and `after` give the token and the bytes behind it of a result; `left`
+-- counts the bytes
 abbrev pub Gives : {X : Type 0} → (X → TokenKind) → (X → List ℕ) → Read → ℕ → Result X Refusal → Type 0
 Gives kind after (Ok found) left (Ok x) = (is_within found.0 ≡ true) × Means found.0 (kind x) × (after x ≡ found.1)
 Gives kind after (Err fault) left (Ok x) = ⊥
 Gives kind after read left (Err e) = Refuses read left e
 
--- how many bytes stand from the fault on
+-- how many bytes of the text stand from the fault of a refusal to the end; 0 for want of memory, which has no place
 abbrev pub left_of : Refusal → ℕ
 left_of refusals.Memory = 0
 left_of (refusals.BadByte n) = n
@@ -48,10 +50,10 @@ told_as total (refusals.BadByte n) = placed_fault total (Bad n)
 told_as total (refusals.UnclosedString n) = placed_fault total (OpenText n)
 told_as total (refusals.NumberTooLarge n) = placed_fault total (Large n)
 
--- the fault stands in the text behind some tokens
+-- after some tokens of a text this fault stands in it
 abbrev pub RunsInto : List ℕ → LexStop → Type 0
 RunsInto text fault = (ts : List Token) × Runs text ts (Some fault)
 
--- the fault stands in the text behind these tokens
+-- after exactly these tokens of a text this fault stands in it
 abbrev pub RunsTo : List ℕ → List Token → LexStop → Type 0
 RunsTo text ts fault = Runs text ts (Some fault)

@@ -20,10 +20,10 @@ abbrev pub HasDigits : Parts → Type 0
 HasDigits parts = AreDigits (digits_in parts.day) × AreDigits (digits_in parts.hour)
     × AreDigits (digits_in parts.minute) × AreDigits (digits_in parts.second)
 
--- the shape of a time of these parts
+-- the shape of a time of the week, such as `1w12h30m`, that these parts make
 abbrev pub time_of : Parts → Shape
 time_of parts = ATime (digits_in parts.day) (digits_in parts.hour) (digits_in parts.minute) (digits_in parts.second)
 
--- the time that these parts mean
+-- the time of the week, as numbers, that these parts mean
 abbrev pub mark_in : Parts → TimeMark
 mark_in parts = mark_of (digits_in parts.day) (digits_in parts.hour) (digits_in parts.minute) (digits_in parts.second)

@@ -20,7 +20,7 @@ Found = Shape × List ℕ
 abbrev pub Read : Type 0
 Read = Result Found LexStop
 
--- the bytes before the rest, which is their end
+-- the bytes that stand before `rest`, which is an end of `bytes`
 abbrev pub front : List ℕ → List ℕ → List ℕ
 front bytes rest = take (length bytes - length rest) bytes
 
@@ -52,17 +52,20 @@ word_at bytes =
     let word = front bytes rest in
     word_or_open word (keyword_of word) rest
 
--- the part of a time with this unit, if bytes begin with its digits and the unit is the first byte behind them
+-- A part of a time such as `12h`, with the unit `h`. `bytes` begin with its digits, and the last list is what stands
+-- behind them. If the unit comes there, the digits and the bytes behind the unit; else None and all `bytes`.
 abbrev pub part_before : ℕ → List ℕ → List ℕ → Option (List ℕ) × List ℕ
 part_before unit bytes [] = (None, bytes)
 part_before unit bytes (b ∷ bs) = if starts_digit bytes && (b == unit) then (Some (front bytes (b ∷ bs)), bs)
     else (None, bytes)
 
--- the part of a time with this unit, if it stands at the front, and the bytes behind it
+-- the digits of the part of a time with this unit, such as `12h`, if it stands at the front of `bytes`, and the bytes
+-- behind it; else None and all `bytes`
 unfoldable pub part_at : ℕ → List ℕ → Option (List ℕ) × List ℕ
 part_at unit bytes = part_before unit bytes (after_digits bytes)
 
--- a time of these parts; where the hour is its last one, digits behind it are the minutes
+-- the time whose parts with a unit were read, and the bytes behind it; where the hour is its last part, digits at the
+-- front of `bytes` are its minutes, as in `7h30`
 abbrev pub minutes_after : (day hour minute second : Option (List ℕ)) → List ℕ → Found
 minutes_after day (Some hour) None None bytes = if starts_digit bytes
     then (ATime day (Some hour) (Some (front bytes (after_digits bytes))) None, after_digits bytes)
@@ -78,7 +81,8 @@ time_at bytes =
     let second = part_at 115 minute.1 in
     minutes_after day.0 hour.0 minute.0 second.0 second.1
 
--- the number or time that begins with these digits, by the bytes behind them
+-- The number or time at the front of `bytes`, and the bytes behind it. It begins with `digits`, and the last list is
+-- what comes next: a point makes a decimal number, a unit of time a time, anything else an int.
 abbrev pub number_from : List ℕ → List ℕ → List ℕ → Found
 number_from bytes digits [] = (AnInt digits, [])
 number_from bytes digits (b ∷ bs) =
@@ -112,7 +116,8 @@ abbrev mutual
   after_backslash [] = []
   after_backslash (c ∷ bs) = c ∷ unescaped bs
 
--- the text with this body, by the reason for which it stops at the rest; `left` counts the bytes from its quote on
+-- the result of reading a quoted text: its characters and the bytes behind its quote, or the fault. `body` is what
+-- stands in it, `rest` where it stopped and why; `left` counts the bytes from its opening quote on
 abbrev pub text_from : List ℕ → List ℕ → BodyEnd → ℕ → Read
 text_from body rest ends.Closed left = Ok (AText (unescaped body), tail rest)
 text_from body rest ends.Broken left = Err (Bad (length rest))
@@ -126,7 +131,7 @@ text_at quote bytes =
     if is_utf8 body then text_from body stop.1 stop.0 (length bytes + 1)
     else Err (Bad (length bytes - utf8_valid_len body))
 
--- a symbol, if there is one, with the bytes behind it
+-- a symbol that was found, as a shape with the bytes behind it; None if none was found
 abbrev pub symbol_before : Option Symbol → List ℕ → Option Found
 symbol_before None rest = None
 symbol_before (Some symbol) rest = Some (ASymbol symbol, rest)
@@ -136,19 +141,20 @@ abbrev pub first_of_two : Option Found → Option Found → Option Found
 first_of_two None second = second
 first_of_two (Some found) second = Some found
 
--- the symbol at the front: of two bytes, or else of one
+-- the operator or bracket whose first byte is b, by what comes after b: with `=` a symbol of two bytes if there is
+-- one, else of one
 unfoldable pub symbol_at : ℕ → List ℕ → Option Found
 symbol_at b [] = symbol_before (symbol_of b) []
 symbol_at b (c ∷ bs) =
     if c == 61 then first_of_two (symbol_before (symbol_with_equals b) bs) (symbol_before (symbol_of b) (c ∷ bs))
     else symbol_before (symbol_of b) (c ∷ bs)
 
--- `%wav`
+-- the format word `%wav`, if it stands at the front, and the bytes behind it
 unfoldable pub wav_at : List ℕ → Option Found
 wav_at (a ∷ b ∷ c ∷ d ∷ bs) = if (a == 37) && ((b == 119) && ((c == 97) && (d == 118))) then Some (AWav, bs) else None
 wav_at bs = None
 
--- what was found, or that the first of the `left` bytes begins no token
+-- the symbol or `%wav` that was found, or the fault that the first of the `left` bytes begins no token
 abbrev pub sign_or_bad : Option Found → ℕ → Read
 sign_or_bad (Some found) left = Ok found
 sign_or_bad None left = Err (Bad left)

@@ -24,12 +24,12 @@ pub data Shape : Type 0 where
   AWav : Shape
   ASymbol : Symbol → Shape
 
--- letters, `_` and digits
+-- each byte is a letter, `_` or a digit
 abbrev pub AllWord : List ℕ → Type 0
 AllWord [] = Unit {0}
 AllWord (b ∷ bs) = (is_word b ≡ true) × AllWord bs
 
--- a letter or `_`, and then letters, `_` and digits
+-- a part of a dotted name: a letter or `_`, and then letters, `_` and digits
 abbrev pub IsPart : List ℕ → Type 0
 IsPart [] = ⊥
 IsPart (b ∷ bs) = (is_letter b ≡ true) × AllWord bs
@@ -39,17 +39,18 @@ abbrev pub AreParts : List (List ℕ) → Type 0
 AreParts [] = Unit {0}
 AreParts (p ∷ ps) = IsPart p × AreParts ps
 
--- the parts of a name, each behind a point
+-- the text of the further parts of a dotted name, each behind a point
 abbrev pub behind_points : List (List ℕ) → List ℕ
 behind_points [] = []
 behind_points (p ∷ ps) = 46 ∷ p ++ behind_points ps
 
--- a name, or a keyword: parts joined by points
+-- the text is spelled as a name or a keyword: one or more parts, joined by points, as in `output.file`
 abbrev pub IsDotted : List ℕ → Type 0
 IsDotted text = (part : List ℕ) × (parts : List (List ℕ)) × IsPart part × AreParts parts
     × (text ≡ part ++ behind_points parts)
 
--- a part of a time: its digits and its unit, or nothing
+-- the text of a part of a time, such as `12h`: its digits and the byte of its unit, or nothing if the time lacks the
+-- part
 abbrev pub part_text : Option (List ℕ) → ℕ → List ℕ
 part_text None unit = []
 part_text (Some digits) unit = digits ++ unit ∷ []
@@ -59,12 +60,13 @@ abbrev pub IsDigits : Option (List ℕ) → Type 0
 IsDigits None = Unit {0}
 IsDigits (Some digits) = IsNumeral 10 digits
 
--- the parts of a time, in the order w, h, m, s
+-- the text of a time such as `1w12h30m5s`: the parts that it has, each with its unit, in this order
 abbrev pub time_text : (day hour minute second : Option (List ℕ)) → List ℕ
 time_text day hour minute second = part_text day 119
     ++ (part_text hour 104 ++ (part_text minute 109 ++ part_text second 115))
 
--- minutes without a unit, directly behind the hour and at the end
+-- the text is a time in the short form, such as `7h30`: its last part is minutes without a unit, directly behind the
+-- hour
 abbrev pub IsShortTime : (day hour minute second : Option (List ℕ)) → List ℕ → Type 0
 IsShortTime day (Some hour) (Some minute) None text = text ≡ part_text day 119 ++ (part_text (Some hour) 104 ++ minute)
 IsShortTime day hour minute second text = ⊥
@@ -108,7 +110,7 @@ ArePieces quote (p ∷ ps) = IsPiece quote p × ArePieces quote ps
 abbrev pub IsQuote : ℕ → Type 0
 IsQuote q = (q ≡ 34) ⊎ (q ≡ 39)
 
--- a text between quotes, and the characters that it stands for
+-- `text` is a string as a script has it, between quotes of one sort, and `value` the bytes that it stands for
 pub record IsQuotedText (value text : List ℕ) : Type 0 where
   pub quote : ℕ
   pub pieces : List TextPiece
@@ -128,7 +130,7 @@ SpellsShape (AText value) text = IsQuotedText value text
 SpellsShape AWav text = text ≡ codes "%wav"
 SpellsShape (ASymbol symbol) text = text ≡ symbol_text symbol
 
--- a part of a time is at most so much, if it is there
+-- the number of a part of a time is at most `most`; a part that is lacking passes
 abbrev pub is_up_to : ℕ → Option (List ℕ) → Bool
 is_up_to most None = true
 is_up_to most (Some digits) = nat_le (digits_value 10 digits) most
@@ -141,12 +143,12 @@ is_within (ATime day hour minute second) = is_up_to 7 day
     && (is_up_to 24 hour && (is_up_to 60 minute && is_up_to 60 second))
 is_within shape = true
 
--- a word is a keyword or a name
+-- the token that a word is: the keyword, if it is one, and else a name
 abbrev pub kind_of_word : List ℕ → Option Keyword → TokenKind
 kind_of_word word None = kinds.Name word
 kind_of_word word (Some keyword) = kinds.Keyword keyword
 
--- the value of digits, where there are some
+-- the number that the digits of a part of a time write, where the time has the part
 abbrev pub values : Option (List ℕ) → Option ℕ
 values = option_map (λ digits. digits_value 10 digits)
 
@@ -159,7 +161,7 @@ mark_of day hour minute second = record {
   second = values second;
 }
 
--- a shape stands for a token of this kind
+-- the token that a spelled shape stands for is `kind`: digits become their number, and a word a keyword or a name
 abbrev pub Means : Shape → TokenKind → Type 0
 Means (AWord word) kind = kind ≡ kind_of_word word (keyword_of word)
 Means (AnOpen name) kind = kind ≡ kinds.NameOpen name
@@ -171,7 +173,7 @@ Means (AText value) kind = kind ≡ kinds.Str value
 Means AWav kind = kind ≡ kinds.Wav
 Means (ASymbol symbol) kind = kind ≡ kinds.Symbol symbol
 
--- Of the fronts of bytes that spell a shape, this one is the longest, and rest is behind it.
+-- the shape is spelled at the front of `bytes`, with `rest` behind it, and no longer front of `bytes` spells any shape
 pub record IsLongest (shape : Shape) (bytes rest : List ℕ) : Type 0 where
   pub text : List ℕ
   pub split : bytes ≡ text ++ rest
@@ -186,7 +188,8 @@ pub record IsToken (bytes : List ℕ) (kind : TokenKind) (rest : List ℕ) : Typ
   pub within : is_within shape ≡ true
   pub means : Means shape kind
 
--- where a fault stands, as the number of bytes from there on
+-- a fault of the lexer: a byte that begins no token, a text without its closing quote, or a number past its bound;
+-- `left` counts the bytes from its place to the end of the script
 pub data LexStop : Type 0 where
   Bad : (left : ℕ) → LexStop
   OpenText : (left : ℕ) → LexStop
@@ -199,7 +202,7 @@ pub record IsTooLarge (bytes : List ℕ) : Type 0 where
   pub longest : IsLongest shape bytes rest
   pub past : is_within shape ≡ false
 
--- a text that the end cuts; a backslash may be the last byte
+-- at the front of `bytes` a string opens that the end of the script cuts off; the last byte may be a backslash
 pub record IsUnclosed (bytes : List ℕ) : Type 0 where
   pub quote : ℕ
   pub pieces : List TextPiece
@@ -209,13 +212,15 @@ pub record IsUnclosed (bytes : List ℕ) : Type 0 where
   pub spelled : bytes ≡ quote ∷ flat_map written pieces ++ last
   pub cut : (last ≡ []) ⊎ (last ≡ 92 ∷ [])
 
--- neither a character of a text nor its quote begins these bytes, and they do not end
+-- within a string with this quote, what stands at the front of `bytes` may not stand there: no allowed character, not
+-- the closing quote, and not the end of the script
 pub record BeginsNoPiece (quote : ℕ) (bytes : List ℕ) : Type 0 where
   pub no_piece : (p : TextPiece) (rest : List ℕ) → IsPiece quote p → bytes ≢ written p ++ rest
   pub no_quote : (rest : List ℕ) → bytes ≢ quote ∷ rest
   pub no_end : (bytes ≢ []) × (bytes ≢ 92 ∷ [])
 
--- within a text, so many bytes from the end, stands what may not stand there
+-- a string opens at the front of `bytes`, and in it, `left` bytes from the end, stands something that no string may
+-- hold
 pub record IsBadInText (bytes : List ℕ) (left : ℕ) : Type 0 where
   pub quote : ℕ
   pub pieces : List TextPiece
@@ -226,7 +231,7 @@ pub record IsBadInText (bytes : List ℕ) (left : ℕ) : Type 0 where
   pub no_piece : BeginsNoPiece quote bad
   pub place : left ≡ length bad
 
--- no token begins here, nor a text
+-- no token is spelled at the front of `bytes`, no string opens there, and it is not the end
 pub record BeginsNothing (bytes : List ℕ) : Type 0 where
   pub some : bytes ≢ []
   pub no_shape : (shape : Shape) (text rest : List ℕ) → bytes ≡ text ++ rest → SpellsShape shape text → ⊥

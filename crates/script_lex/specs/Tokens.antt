@@ -21,7 +21,7 @@ Leads total bytes (t ∷ ts) rest =
     (after : List ℕ) × IsToken (between false bytes) t.kind after × (t.start ≡ total - length (between false bytes))
     × (t.end ≡ total - length after) × Leads total after ts rest
 
--- how a text ends behind its tokens: nothing is left, or a fault stands there
+-- how a text ends behind its last token and the blanks there: nothing is left, or the given fault stands there
 abbrev pub EndsBy : Option LexStop → List ℕ → Type 0
 EndsBy None bytes = bytes ≡ []
 EndsBy (Some fault) bytes = FaultAt fault bytes
@@ -36,7 +36,7 @@ placed_fault total (Bad left) = faults.BadByte (total - left)
 placed_fault total (OpenText left) = faults.UnclosedString (total - left)
 placed_fault total (Large left) = faults.NumberTooLarge (total - left)
 
--- a fault stands in a text behind some tokens, at its place
+-- the fault is in the text, at the place that it names: some tokens come before it, and then it
 abbrev pub StandsIn : List ℕ → LexFault → Type 0
 StandsIn text fault = (length text ≤ MAX_SCRIPT_BYTES)
     × ((ts : List Token) × (stop : LexStop) × Runs text ts (Some stop) × (fault ≡ placed_fault (length text) stop))
@@ -53,7 +53,7 @@ HasFault text (faults.BadByte at) = StandsIn text (faults.BadByte at)
 HasFault text (faults.UnclosedString at) = StandsIn text (faults.UnclosedString at)
 HasFault text (faults.NumberTooLarge at) = StandsIn text (faults.NumberTooLarge at)
 
--- these tokens stand in a text, and then nothing, or this fault
+-- the text is not too long, it begins with these tokens, and behind them comes this fault
 pub record StopsAt (text : List ℕ) (tokens : List Token) (fault : LexFault) : Type 0 where
   pub fits : length text ≤ MAX_SCRIPT_BYTES
   pub stop : LexStop

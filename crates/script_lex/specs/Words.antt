@@ -6,7 +6,7 @@ use Rattle.script_lex.specs.declared.token.Keyword.TheVariants.{Def, End, If, Th
 use Rattle.script_lex.specs.declared.token.Symbol.{Symbol}
 use Rattle.script_lex.specs.declared.token.Symbol.TheVariants as symbols
 
--- the keyword that a word is
+-- the keyword that a word is, if it is one
 unfoldable pub keyword_of : List ℕ → Option Keyword
 keyword_of word =
     if bytes_eq word (codes "def") then Some Def
@@ -21,7 +21,7 @@ keyword_of word =
     else (if bytes_eq word (codes "not") then Some Not
     else None)))))))))
 
--- how a sign is written
+-- how an operator, a bracket or a separator is written
 abbrev pub symbol_text : Symbol → List ℕ
 symbol_text symbols.Assign = codes "="
 symbol_text symbols.Equal = codes "=="

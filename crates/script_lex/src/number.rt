@@ -29,7 +29,8 @@ pub fn number_at(bytes: &[u8]) -> Result<(TokenKind, &[u8]), Refusal>
     }
 }
 
-// The whole number of these digits, with `rest` behind it. `left` counts the bytes from its first digit on.
+// The token of the whole number with these digits, and the bytes `rest` behind it; a refusal if it is too large, told
+// by `left`, the bytes from its first digit to the end of the script.
 fn whole<'a>(digits: &[u8], rest: &'a [u8], left: usize) -> Result<(TokenKind, &'a [u8]), Refusal>
     requires { AllDigits 10 digits.now }
     ensures within { IfErr result (λ e. left_of e ≤ left) }
@@ -41,8 +42,8 @@ fn whole<'a>(digits: &[u8], rest: &'a [u8], left: usize) -> Result<(TokenKind, &
     }
 }
 
-// The number of these digits before and behind a point, with `rest` behind it. `left` counts the bytes from its first
-// digit on.
+// The token of the decimal number with these digits before and behind its point, and the bytes `rest` behind it; a
+// refusal if it passes its bound, told by `left`, the bytes from its first digit on.
 fn pointed<'a>(
     digits: &[u8],
     fraction: &[u8],

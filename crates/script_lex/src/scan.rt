@@ -39,7 +39,7 @@ pub fn token_at(alloc: Global, bytes: &[u8]) -> Result<(TokenKind, &[u8]), Refus
     }
 }
 
-// The text of these bytes.
+// Bytes that are UTF-8 as a text of the program, without a copy.
 fn held(bytes: Vec<u8>) -> Text
     requires { IsUtf8 bytes.items }
     ensures { result ≡ bytes.items }

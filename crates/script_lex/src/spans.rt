@@ -5,46 +5,49 @@ ghost use Rattle.script_lex.specs.Bytes.{starts_part, starts_digit};
 ghost use Rattle.script_lex.specs.Reading.{after_digits, after_name, front, tail};
 ghost use Rattle.script_lex.specs.Tokens.{between};
 
+/// Whether a byte is an ASCII letter or `_`, with which a name or a part of one begins.
 pub fn is_letter(b: u8) -> bool
     ensures { result ≡ is_letter b }
 {
     b.is_ascii_alphabetic() || b == b'_'
 }
 
-/// A byte of a part of a name: a letter, `_` or a digit.
+/// Whether a byte may stand within a part of a name: a letter, `_` or a digit.
 pub fn is_word(b: u8) -> bool
     ensures { result ≡ is_word b }
 {
     is_letter(b) || b.is_ascii_digit()
 }
 
+/// Whether a byte opens or closes a text: `"` or `'`.
 pub fn is_quote(b: u8) -> bool
     ensures { result ≡ is_quote b }
 {
     b == b'"' || b == b'\''
 }
 
-/// The unit of a part of a time.
+/// Whether a byte is the unit of a part of a time: `w`, `h`, `m` or `s`.
 pub fn is_unit(b: u8) -> bool
     ensures { result ≡ is_unit b }
 {
     b == b'w' || b == b'h' || b == b'm' || b == b's'
 }
 
-/// A byte that may stand behind a backslash in a text.
+/// Whether a byte may stand behind a backslash in a text: a quote of either sort or a backslash.
 pub fn is_escapable(b: u8) -> bool
     ensures { result ≡ is_escapable b }
 {
     b == b'"' || b == b'\'' || b == b'\\'
 }
 
-/// A byte of a character that may stand in a text.
+/// Whether a byte is of a character that may stand in a text; the quote and the backslash are looked at before.
 pub fn is_inner(b: u8) -> bool
     ensures { result ≡ is_inner b }
 {
     (32 <= b && b <= 126) || 128 <= b
 }
 
+/// Whether a digit stands at the front of the bytes.
 pub fn starts_digit(bytes: &[u8]) -> bool
     ensures { result ≡ starts_digit bytes.now }
 {
@@ -124,13 +127,14 @@ pub fn tail(bytes: &[u8]) -> &[u8]
     }
 }
 
+// Whether a byte is blank: a space, a tab, CR or LF.
 fn is_blank(b: u8) -> bool
     ensures { result ≡ is_blank b }
 {
     b == b' ' || b == b'\t' || b == b'\r' || b == b'\n'
 }
 
-// Whether a part of a name begins at the front.
+// Whether a part of a name begins at the front of the bytes: a letter or `_`.
 fn starts_part(bytes: &[u8]) -> bool
     ensures { result ≡ starts_part bytes.now }
 {

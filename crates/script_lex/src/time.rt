@@ -61,7 +61,8 @@ fn part_at(unit: u8, bytes: &[u8]) -> (Option<&[u8]>, &[u8])
     }
 }
 
-// The value of a part of a time, which may be missing. The outer `None` says that it passes `most`.
+// The number of a part of a time, as the 12 of `12h`: `None` if it passes `most`, and `Some(None)` if the time lacks
+// the part.
 fn within(digits: Option<&[u8]>, most: u8) -> Option<Option<u8>>
     requires { AreDigits (digits_in digits) }
     ensures { result ≡ (if is_up_to most (digits_in digits.entry) then Some (values (digits_in digits.entry))
@@ -76,7 +77,7 @@ fn within(digits: Option<&[u8]>, most: u8) -> Option<Option<u8>>
     }
 }
 
-// The mark of these parts; `None` where one passes its bound.
+// The time of the week that these parts mean; `None` where the number of a part passes its bound.
 fn mark_in(parts: Parts<'_>) -> Option<TimeMark>
     requires { HasDigits parts }
     ensures { result ≡ (if is_within (time_of parts.entry) then Some (mark_in parts.entry) else None) }
@@ -89,7 +90,8 @@ fn mark_in(parts: Parts<'_>) -> Option<TimeMark>
     })
 }
 
-// The time of these parts, with `rest` behind it. `left` counts the bytes from its first digit on.
+// The token of the time with these parts, and the bytes `rest` behind it; a refusal if a part passes its bound, told
+// by `left`, the bytes from its first digit on.
 fn timed<'a>(
     parts: Parts<'_>,
     rest: &'a [u8],

@@ -37,14 +37,14 @@ impl SeedWords {
         SeedWords { next, behind }
     }
 
-    /// The next word, which stays the next one.
+    /// The next word of the seed, which is not taken: it stays the next one.
     pub fn peek(&self) -> u32
         ensures { result ≡ self.now.next }
     {
         self.next
     }
 
-    /// Takes the next word. The one behind it is then the next.
+    /// Takes the next word of the seed, and answers it. The one behind it is then the next.
     pub fn next_word(&mut self) -> u32
         ensures word { result ≡ self.old.next }
         ensures words { (seed n : ℕ) → self.old ≡ words_from seed n → self.new ≡ words_from seed (suc n) }

@@ -15,7 +15,7 @@ use Rattle.stream_meaning.specs.Instants.{Setting, Moment, choices, gives_before
 use Rattle.stream_meaning.specs.Calls.{calls_of}
 use Rattle.stretch_laws.specs.Steady.{Follows, IsFree}
 
--- the next j instants of a clock, and these before them
+-- the past of a clock after j instants more: their moments, the latest first, and then `past`
 abbrev pub going_on : Setting → (sub : ℕ → ℕ → List Slot) → NodeClock → ℕ → List Moment → List Moment
 going_on setting sub clock zero past = past
 going_on setting sub clock (suc j) past =
@@ -34,7 +34,8 @@ pub record IsLike (first later : Moment) : Type 0 where
   pub picks : (i : ℕ) → demanded first i ≡ true → (part_at later.parts i).pick ≡ (part_at first.parts i).pick
   pub inner : (i : ℕ) → gives first i ≡ true → is_inner (offer later i) ≡ true
 
--- what a node that makes its own cells offers j instants after the first one of a stretch has this title
+-- a leaf, a crossfade or a reader has this title j instants after the first one of a stretch; nodes that only pass on
+-- the cells of their children need nothing. The title is the number of the file from which a cell came.
 abbrev pub KeepsTitle : Setting → (sub : ℕ → ℕ → List Slot) → List Moment → (i : ℕ) → Work → (j title : ℕ) → Type 0
 KeepsTitle setting sub past i (Plays leaf) j title = title_of (leaf_slot setting.library leaf (gives_before past i + j))
     ≡ title
@@ -45,7 +46,9 @@ KeepsTitle setting sub past i (Reads buffer) j title =
     title_of (reader_slot (read_by j
     (reading_at setting buffer (length past) (reading_after setting i buffer past)).reader)) ≡ title
 
--- so many instants of a clock after these are a stretch: the first one decides the others
+-- The next `instants` instants of a clock are a stretch: after the first one no node that gives begins a track or
+-- changes its title, no predicate changes, and no tick begins for a reader, so that the first instant decides the
+-- others. `past` is what went before.
 pub record IsStretch (setting : Setting) (sub : ℕ → ℕ
     → List Slot) (clock : NodeClock) (past : List Moment) (instants : ℕ) : Type 0 where
   -- leaves that give go on with their track
@@ -88,7 +91,9 @@ pub record IsStretch (setting : Setting) (sub : ℕ → ℕ
       → KeepsTitle setting sub past i (work_at setting i node) j
       (title_of (offer (moment_after setting sub clock past) i))
 
--- what the nodes go by at an instant that comes j instants after the first one of a stretch
+-- What the nodes of a clock go by, j instants into a stretch, follows from its first instant: how many cells a leaf
+-- gave, which child was picked, how many choices were made, and where a crossfade and a reader stand. `later` is the
+-- past by then.
 pub record IsOn (setting : Setting) (sub : ℕ → ℕ
     → List Slot) (clock : NodeClock) (past : List Moment) (j : ℕ) (later : List Moment) : Type 0 where
   pub long : length later ≡ length past + j
@@ -115,7 +120,8 @@ pub record IsOn (setting : Setting) (sub : ℕ → ℕ
       → (reading_after setting i buffer later).reader
       ≡ (reading_at setting buffer (length past) (reading_after setting i buffer past)).reader
 
--- from slot n on, a crossfade k is filled so many cells of this title that begin no track
+-- the slots of a sub-clock for crossfade k, from slot n on, are `count` cells of this title that begin no track; each
+-- m cells more are the first m of them
 pub record AreFilled (setting : Setting) (sub : ℕ → ℕ → List Slot) (k n count title : ℕ) : Type 0 where
   pub cells : List Cell
   pub inner : AllInner cells
@@ -123,12 +129,12 @@ pub record AreFilled (setting : Setting) (sub : ℕ → ℕ → List Slot) (k n 
   pub long : length cells ≡ count
   pub filled : (m : ℕ) → m ≤ count → sub k (n + m) ≡ sub k n ++ map Some (take m cells)
 
--- what node i offers j instants after the first one that follows a past
+-- the cell, or none, that node i has j instants after the first instant that follows `past`
 abbrev pub lane : Setting → (sub : ℕ → ℕ → List Slot) → NodeClock → List Moment → (j i : ℕ) → Slot
 lane setting sub clock past j i = offer (moment_after setting sub clock (going_on setting sub clock j past)) i
 
--- node i goes on for `rest` instants after the instant `moment`, by its work: `begins` tells whether the child that it
--- used last begins a track there
+-- Node i goes on as at the instant `moment` for `rest` instants more: what it plays begins no track, by its work.
+-- `begins` says whether the child that a selection used last begins a track there.
 abbrev pub NodeGoes : Setting → (sub : ℕ → ℕ → List Slot) → List Moment → Moment → (i : ℕ) → Work → (begins : Bool)
     → (rest : ℕ) → Type 0
 NodeGoes setting sub past moment i (Plays leaf) begins rest =
@@ -147,7 +153,8 @@ NodeGoes setting sub past moment i (Reads buffer) begins rest =
     → is_inner (reader_slot (read_by (suc j)
     (reading_at setting buffer (length past) (reading_after setting i buffer past)).reader)) ≡ true
 
--- what node i offers for `rest` instants after the instant `moment` has the title that it had there
+-- node i, if it gives a cell at the instant `moment`, has the title of that cell for `rest` instants more, by its
+-- work; the title is the number of the file from which a cell came
 abbrev pub NodeKeeps : Setting → (sub : ℕ → ℕ → List Slot) → List Moment → Moment → (i : ℕ) → Work → (rest : ℕ) → Type 0
 NodeKeeps setting sub past moment i (Plays leaf) rest =
     gives moment i ≡ true → (j : ℕ) → j < rest
@@ -162,7 +169,8 @@ NodeKeeps setting sub past moment i (Reads buffer) rest =
     → title_of (reader_slot (read_by (suc j)
     (reading_at setting buffer (length past) (reading_after setting i buffer past)).reader)) ≡ title_of (offer moment i)
 
--- the instants that sub-clocks make for a stretch, after its first instant, make no calls
+-- over a stretch the sub-clocks of crossfades call no buffer: for each instant after the first they make only such
+-- instants of their own as put nothing and take nothing
 pub record AreQuiet (setting : Setting) (sub : ℕ → ℕ
     → List Slot) (clock : NodeClock) (past : List Moment) (instants : ℕ) : Type 0 where
   pub each : (k : ℕ) (node : Node) (overlap i m : ℕ) → IsNode setting clock k node

@@ -53,7 +53,7 @@ pub fn stretches_have_lanes()
         → lane_over over j over.i ≡ lane_over over j child }
 {}
 
-/// Over a stretch a node that gives keeps its title.
+/// Over a stretch, which is a row of instants behind whose first nothing begins, a node that gives keeps its title.
 pub fn stretches_keep_titles()
     ensures { (setting : Setting) (sub : ℕ → ℕ → List TheSlot) (clock : NodeClock) (past : List Moment)
         (instants i j : ℕ)

@@ -31,7 +31,8 @@ pub record IsTyped (script : Script) (uses : List Use) : Type 0 where
   pub least_inside : (kinds : Places) (es : List Entry) → IsTypedTo (target_at uses) kinds [] script es
       → IsLessInside (blocks [] script) uses es
 
--- a fault of names, in the first statement that has any fault
+-- f is the fault that is told of a script with a fault of names: in the first statement that has any fault; all
+-- statements before it have a typing
 pub record IsNameFault (script : Script) (f : TypeFault) : Type 0 where
   pub stmt : ℕ
   pub inside : NameFault
@@ -39,7 +40,8 @@ pub record IsNameFault (script : Script) (f : TypeFault) : Type 0 where
   pub told : f ≡ name_fault_in stmt inside
   pub before : HasTyping (target_in (meanings_of script)) (first_of (stmt - 1) script)
 
--- a clash of types, in the first statement that has any fault
+-- types clash in statement n, which is the first with any fault: no name is faulty up to it, the statements before it
+-- have a typing, and with it there is none
 pub record IsTypeClash (script : Script) (n : ℕ) : Type 0 where
   pub names : first_fault 1 [] (first_of n script) ≡ None
   pub clash : IsClash script n

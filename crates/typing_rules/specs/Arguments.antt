@@ -13,7 +13,7 @@ pub record Parameter : Type 0 where
 abbrev pub GivenArgument : Type 0 → Type 0
 GivenArgument T = Option (List ℕ) × T
 
--- the label by which a parameter is given, if it has one
+-- the label by which a parameter of this name and form is given; one that is given in place has none
 abbrev pub label_by : List ℕ → Form → Option (List ℕ)
 label_by name InPlace = None
 label_by name ByLabel = Some name
@@ -30,23 +30,24 @@ is_label None (Some b) = false
 is_label (Some a) None = false
 is_label (Some a) (Some b) = bytes_eq a b
 
--- an argument that was passed over stays before those that are left
+-- the result of a search for an argument, with g, which the search passed over, put back before those that are left
 abbrev pub after : {T : Type 0} → GivenArgument T → Option (T × List (GivenArgument T))
     → Option (T × List (GivenArgument T))
 after g None = None
 after g (Some x) = Some (x.0, g ∷ x.1)
 
--- the first argument with this label, or the first without one, and the others
+-- looks for the first argument with this label, or without one for None: what is known of it, and the arguments that
+-- are left
 abbrev pub argument : {T : Type 0} → Option (List ℕ) → List (GivenArgument T) → Option (T × List (GivenArgument T))
 argument label [] = None
 argument label (g ∷ gs) = cond (is_label label g.0) (Some (g.1, gs)) (after g (argument label gs))
 
--- the arguments that are left once one was taken
+-- the arguments that are left after a search among `gs`: all of them, if it found none
 abbrev pub others : {T : Type 0} → List (GivenArgument T) → Option (T × List (GivenArgument T)) → List (GivenArgument T)
 others gs None = gs
 others gs (Some x) = x.1
 
--- the arguments that no parameter takes
+-- the arguments of a call that no parameter takes: each parameter in turn takes the first argument that fits its label
 abbrev pub left_over : {T : Type 0} → List Parameter → List (GivenArgument T) → List (GivenArgument T)
 left_over [] gs = gs
 left_over (p ∷ ps) gs = left_over ps (others gs (argument (label_of p) gs))
@@ -57,19 +58,22 @@ is_needed InPlace = true
 is_needed ByLabel = true
 is_needed Perhaps = false
 
--- the first missing parameter: this one, if it has no default and nothing was given, or else a later one
+-- the name of the first missing parameter: that of p, if p has no default and the search for its argument found none,
+-- or else `later`, the one found among the parameters after it
 abbrev pub missing_or : {T : Type 0} → Parameter → Option (T × List (GivenArgument T)) → Option (List ℕ)
     → Option (List ℕ)
 missing_or p (Some x) later = later
 missing_or p None later = cond (is_needed p.form) (Some p.name) later
 
--- the first parameter that must have an argument and finds none
+-- the name of the first parameter without a default that finds no argument, once each parameter in turn took the first
+-- that fits its label
 abbrev pub first_missing : {T : Type 0} → List Parameter → List (GivenArgument T) → Option (List ℕ)
 first_missing [] gs = None
 first_missing (p ∷ ps) gs = missing_or p (argument (label_of p) gs)
     (first_missing ps (others gs (argument (label_of p) gs)))
 
--- what each parameter takes, if it takes an argument
+-- for each parameter what is known of the argument that it takes, or None: each in turn takes the first that fits its
+-- label
 abbrev pub arguments_taken : {T : Type 0} → List Parameter → List (GivenArgument T) → List (Option T)
 arguments_taken [] gs = []
 arguments_taken (p ∷ ps) gs = option_map (λ x. x.0) (argument (label_of p) gs)
@@ -83,7 +87,8 @@ TakenAs (o ∷ os) [] = ⊥
 TakenAs (None ∷ os) (t ∷ ts) = TakenAs os ts
 TakenAs (Some x ∷ os) (t ∷ ts) = (x ≡ t) × TakenAs os ts
 
--- Arguments match parameters that stand for these: none is missing, and none is left over.
+-- the arguments gs of a call fit the parameters ps, and ts has one entry for each parameter: none is missing, none is
+-- left over, and each taken argument is the entry in its place
 abbrev pub Matched : {T : Type 0} → List Parameter → List (GivenArgument T) → List T → Type 0
 Matched ps gs ts = (first_missing ps gs ≡ None) × (left_over ps gs ≡ []) × TakenAs (arguments_taken ps gs) ts
 

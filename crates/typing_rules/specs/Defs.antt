@@ -15,7 +15,7 @@ IsDefOf (more (Stmt (BindPart b) semicolon) rest) d = IsDefOf rest d
 IsDefOf (more (Stmt (CallPart c) semicolon) rest) d = IsDefOf rest d
 IsDefOf (more (Stmt (IfPart i) semicolon) rest) d = IsDefOf rest d
 
--- the first def whose name stands at a token, as evaluation finds it
+-- the first def in a script whose name stands at token t, as evaluation finds it
 abbrev pub def_at : ℕ → Script → Option (Tree ADef)
 def_at t none = None
 def_at t (more (Stmt (DefPart d) semicolon) rest) = elim (nat_eq (def_token d) t)
@@ -24,8 +24,9 @@ def_at t (more (Stmt (BindPart b) semicolon) rest) = def_at t rest
 def_at t (more (Stmt (CallPart c) semicolon) rest) = def_at t rest
 def_at t (more (Stmt (IfPart i) semicolon) rest) = def_at t rest
 
--- a call at token `at` of the def with token t leads to this def, to the entries before it and to a typing of its text
--- there
+-- A call at token `at` of the def at token t is well typed: the def stands among the entries es, the arguments gs fit
+-- its parameters, and its text has the type g where it sees only the entries before it. `chain` has the calls around
+-- this one, the last first.
 pub record Leads (ts : Targets) (kinds : Places) (es : List Entry) (chain : List ℕ) (at t : ℕ)
     (gs : List (GivenArgument Ground)) (g : Ground) : Type 0 where
   pub def : Tree ADef

@@ -18,75 +18,83 @@ use Rattle.typing_rules.specs.Scoping.{Name, Scope, names, with_statement, Meani
 use Rattle.typing_rules.specs.Typing.{DefHas}
 use Rattle.typing_rules.specs.Scripts.{Entry, function, Targets, Places, def_token, sight}
 
--- a kind of a use, where the def around it has these open kinds
+-- the kind, mono or stereo, of one entry of a use: a fixed kind is itself, and open kind j is entry j of `given`, the
+-- kinds that the def around the use is called with; None where `given` has no entry j
 abbrev pub known_kind : List Kind → KindOf → Option Kind
 known_kind given (Fixed k) = Some k
 known_kind given (Given j) = slice_get given j
 
--- a kind before others, where all are known
+-- the kind in front of the row of kinds, where both are known; else None
 abbrev pub put : Option Kind → Option (List Kind) → Option (List Kind)
 put None ks = None
 put (Some k) None = None
 put (Some k) (Some ks) = Some (k ∷ ks)
 
--- the kinds of a use within a call, where all are known
+-- the kinds of a use, mono or stereo, where the open kinds of the def around it are `given`; None if one is not known
 abbrev pub kinds_of : List Kind → List KindOf → Option (List Kind)
 kinds_of given [] = Some []
 kinds_of given (w ∷ ws) = put (known_kind given w) (kinds_of given ws)
 
--- the kinds of a use within a call, where the use is there and all its kinds are known
+-- the kinds of a use that was looked up, where the open kinds of the def around it are `given`; None if no use was
+-- found, or if one of its kinds is not known
 abbrev pub kinds_in : Option Use → List Kind → Option (List Kind)
 kinds_in None given = None
 kinds_in (Some u) given = kinds_of given u.kinds
 
--- The open kinds of the def around, behind a chain of calls from a text whose own open kinds are these.
+-- The open kinds of the def whose text a chain of calls leads to. The chain has the tokens of the calls, the last one
+-- first; `given` are the open kinds of the text in which the first call stands. Each call gives the def that it calls
+-- the kinds of its own use.
 abbrev pub around : List Kind → List Use → List ℕ → Option (List Kind)
 around given uses [] = Some given
 around given uses (at ∷ chain) = option_and_then (kinds_in (use_at at uses)) (around given uses chain)
 
--- the kinds of the use at a token behind a chain of calls, read from the uses along the calls
+-- the kinds, mono or stereo, of the use at token `at` behind a chain of calls, the last one first: each call on the
+-- way fixes the open kinds of the def that it calls; `given` are those of the text where the chain starts
 abbrev pub read : List Kind → List Use → Places
 read given uses chain at = around given uses (at ∷ chain)
 
--- a use's token, and what its name means
+-- what a use says of a name: its token, and what the name means there
 abbrev pub said : Use → Meaning
 said u = (u.at, Some u.target)
 
--- what a name means, where it means something
+-- what a name means, by the use that was found for it; None if none was found
 abbrev pub target_said : Option Use → Option Target
 target_said o = option_map (λ u. u.target) o
 
--- what the name at each token means
+-- what the name at each token means, as these uses say
 abbrev pub target_at : List Use → Targets
 target_at uses = target_in (map said uses)
 
--- the names that a statement uses, with the def that the statement is, if it is one
+-- the names that one statement uses; if the statement is a def, with the token of its name before them
 abbrev pub Block : Type 0
 Block = Option ℕ × List Name
 
--- the def that a statement is, if it is one
+-- the token of the name of the def that a statement is; None if it is no def
 abbrev pub owner : Tree AStmt → Option ℕ
 owner (Stmt (DefPart d) semicolon) = Some (def_token d)
 owner (Stmt (BindPart b) semicolon) = None
 owner (Stmt (CallPart c) semicolon) = None
 owner (Stmt (IfPart i) semicolon) = None
 
--- the names of each statement, with the def that it is, if it is one
+-- for each statement of a script the names that it uses, with the token of its def, if it is one; `sc` is the scope
+-- before the first statement
 abbrev pub blocks : Scope → Script → List Block
 blocks sc none = []
 blocks sc (more s rest) = (owner s, names sc s) ∷ blocks (with_statement s sc) rest
 
--- the name is one of these
+-- name n is a member of this list
 abbrev pub IsOneOf : List Name → Name → Type 0
 IsOneOf [] n = ⊥
 IsOneOf (m ∷ ms) n = (m ≡ n) ⊎ IsOneOf ms n
 
--- the name is used in the text of the def; None: outside of defs
+-- name n is used in the text of the def whose name stands at token `def`; with None, in a statement that is no def
 abbrev pub IsUsedIn : List Block → Option ℕ → Name → Type 0
 IsUsedIn [] def n = ⊥
 IsUsedIn (b ∷ bs) def n = ((b.0 ≡ def) × IsOneOf b.1 n) ⊎ IsUsedIn bs def n
 
--- a place of the expansion of a def's text, or of the script's: a chain of calls, and a name that is used behind it
+-- A place where a name is used once all calls of defs are expanded: name n stands in the text that this chain of calls
+-- leads to, the last call first. The expansion starts from the text of the def at token `def`, or with None from the
+-- script. Each call of the chain is a use, at such a place itself, that means a def.
 abbrev pub IsPlace : List Block → Option ℕ → List ℕ → Name → Type 0
 IsPlace bs def [] n = IsUsedIn bs def n
 IsPlace bs def (at ∷ chain) n = (c : Name) × (t : ℕ) × IsPlace bs def chain c × (c.at ≡ at)
@@ -105,17 +113,19 @@ MonoOnly (Some js) (Some ks) = MonoWhere js ks
 MonoOnly (Some js) None = ⊥
 MonoOnly None k = ⊥
 
--- at each place that is a builtin's, the first is mono only where the second is
+-- the first kinds are mono no more often than the second: at each place of the expanded script where a builtin is
+-- used, both are known, and where the first has mono the second has it too
 abbrev pub IsLess : List Block → Places → Places → Type 0
 IsLess bs first second = (chain : List ℕ) (n : Name) (b : Builtin) → IsPlace bs None chain n
     → target_of n.meant ≡ Some (target.Builtin b) → MonoOnly (first chain n.at) (second chain n.at)
 
--- at each place of a def's text that is a builtin's, both are the same
+-- two typings agree within a def: at each place of its expanded text where a builtin is used, both give the same
+-- kinds; `def` is the token of its name
 abbrev pub AreSame : List Block → ℕ → Places → Places → Type 0
 AreSame bs def first second = (chain : List ℕ) (n : Name) (b : Builtin) → IsPlace bs (Some def) chain n
     → target_of n.meant ≡ Some (target.Builtin b) → first chain n.at ≡ second chain n.at
 
--- the number of an open kind, if the kind is open
+-- the number of an open kind, as a list of one; none for a fixed kind
 abbrev pub number_of : KindOf → List ℕ
 number_of (Fixed k) = []
 number_of (Given j) = j ∷ []
@@ -125,11 +135,13 @@ abbrev pub kinds_listed : Option Use → List KindOf
 kinds_listed None = []
 kinds_listed (Some u) = u.kinds
 
--- the open kinds that the uses of these names have, in order
+-- the numbers of the open kinds that the uses of these names have, in the order of the names
 abbrev pub numbers_in : List Use → List Name → List ℕ
 numbers_in uses ns = flat_map number_of (flat_map (λ n. kinds_listed (use_at n.at uses)) ns)
 
--- how many numbers there are, with n before these, if each new one is the next; else None
+-- Whether open kinds are numbered in the order in which they first occur: n numbers were seen before this list, and
+-- each number in it is one of them or the next new one. It gives how many there are in the end, or None if one is
+-- skipped.
 abbrev pub numbered_on : ℕ → List ℕ → Option ℕ
 numbered_on n [] = Some n
 numbered_on n (j ∷ js) = cond (nat_lt j n) (numbered_on n js) (cond (nat_eq j n) (numbered_on (suc n) js) None)
@@ -139,16 +151,18 @@ abbrev pub block_names : Option Block → List Name
 block_names None = []
 block_names (Some b) = b.1
 
--- the block is that of this def
+-- whether a block, by the def that it has, is that of the def whose name stands at token t
 abbrev pub is_of : ℕ → Option ℕ → Bool
 is_of t None = false
 is_of t (Some u) = nat_eq u t
 
--- how many open kinds a def has
+-- how many open kinds the def has whose name stands at token t, by the uses in its text; None if they are not numbered
+-- in the order in which they occur
 abbrev pub open_kinds : List Block → List Use → ℕ → Option ℕ
 open_kinds bs uses t = numbered_on 0 (numbers_in uses (block_names (find (λ b. is_of t b.0) bs)))
 
--- a use has as many kinds as what it means has open ones; a value has none
+-- a use of this target has the right number of kinds: none for a value, as many as the open kinds of the def, or as
+-- many as the kind variables in the type of the builtin
 abbrev pub HasKinds : List Block → List Use → Target → List KindOf → Type 0
 HasKinds bs uses (target.Slot t) ks = ks ≡ []
 HasKinds bs uses (target.Def t) ks = open_kinds bs uses t ≡ Some (length ks)
@@ -159,7 +173,8 @@ abbrev pub EachHasKinds : List Block → List Use → List Use → Type 0
 EachHasKinds bs uses [] = Unit {0}
 EachHasKinds bs uses (u ∷ us) = HasKinds bs uses u.target u.kinds × EachHasKinds bs uses us
 
--- outside of defs each kind is fixed; in a def the numbers are in order
+-- a block is numbered well: outside of defs no kind is open, and in a def the open kinds are numbered in the order in
+-- which they first occur
 abbrev pub IsInOrder : List Block → List Use → Block → Type 0
 IsInOrder bs uses (None, ns) = numbers_in uses ns ≡ []
 IsInOrder bs uses (Some t, ns) = (n : ℕ) × (open_kinds bs uses t ≡ Some n)
@@ -175,12 +190,14 @@ pub record AreKindsNumbered (bs : List Block) (uses : List Use) : Type 0 where
   pub order : AreInOrder bs uses bs
   pub each : EachHasKinds bs uses uses
 
--- the def stands among the entries, and these are its environment
+-- the def is one of the entries, which are the latest first; `before` are those behind it, which are what its text
+-- sees
 abbrev pub Stands : List Entry → Tree ADef → List Entry → Type 0
 Stands [] d before = ⊥
 Stands (e ∷ es) d before = ((e ≡ function d) × (es ≡ before)) ⊎ Stands es d before
 
--- Over all typings of a def in its environment, the kinds at its places are exactly those that its open kinds give.
+-- The open kinds of a def, as the uses have them, are exactly its freedom: for any choice of mono or stereo for them
+-- its text has a typing, and each typing of its text comes from one such choice. `before` is what the text sees.
 pub record IsOpen (bs : List Block) (uses : List Use) (before : List Entry) (d : Tree ADef) : Type 0 where
   pub count : ℕ
   pub number : open_kinds bs uses (def_token d) ≡ Some count
@@ -189,7 +206,8 @@ pub record IsOpen (bs : List Block) (uses : List Use) (before : List Entry) (d :
   pub only : (kinds : Places) (ts : List Ground) (g : Ground) → DefHas (sight (target_at uses) kinds before []) d ts g
       → (given : List Kind) × (length given ≡ count) × AreSame bs (def_token d) (read given uses) kinds
 
--- the same open kind, or the first is mono only where the second is
+-- of two entries for the kind of a use, the first asks no more than the second: both are the same open kind, or both
+-- are fixed, and the first is mono only where the second is
 abbrev pub IsLessKind : KindOf → KindOf → Type 0
 IsLessKind (Fixed j) (Fixed k) = j ≡ Mono → k ≡ Mono
 IsLessKind (Fixed j) (Given n) = ⊥
@@ -204,14 +222,16 @@ AreLessKinds [] (w ∷ ws) = ⊥
 AreLessKinds (v ∷ vs) [] = ⊥
 AreLessKinds (v ∷ vs) (w ∷ ws) = IsLessKind v w × AreLessKinds vs ws
 
--- the same uses with the same open kinds; what is fixed is mono only where it is in the second ones
+-- two lists of uses agree in tokens, in meanings and in open kinds, and a fixed kind of the first is mono only where
+-- that of the second is
 abbrev pub AreLessUses : List Use → List Use → Type 0
 AreLessUses [] [] = Unit {0}
 AreLessUses [] (v ∷ vs) = ⊥
 AreLessUses (u ∷ us) [] = ⊥
 AreLessUses (u ∷ us) (v ∷ vs) = (u.at ≡ v.at) × (u.target ≡ v.target) × AreLessKinds u.kinds v.kinds × AreLessUses us vs
 
--- Among these entries each def is open as other uses say, which are mono at least where these are.
+-- In each of these defs, called or not, the uses are mono no more than they must be: there are uses that are mono at
+-- least where these are, and that say exactly which kinds each def leaves open.
 abbrev pub IsLessInside : List Block → List Use → List Entry → Type 0
 IsLessInside bs uses es = (others : List Use) × AreLessUses uses others
     × ((d : Tree ADef) (before : List Entry) → Stands es d before → IsOpen bs others before d)

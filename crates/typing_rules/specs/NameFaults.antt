@@ -24,12 +24,13 @@ number (Missing at label) = 2
 number (Extra at) = 3
 number (Repeated at) = 4
 
--- the fault of the call at a token of which an argument is missing, if one is
+-- the fault of a call at token `at` that lacks the argument of this label, as a list: empty if none is lacking
 abbrev pub missing_at : ℕ → Option (List ℕ) → List NameFault
 missing_at at None = []
 missing_at at (Some label) = Missing at label ∷ []
 
--- the faults of the name at a token: unknown, or with arguments that do not match
+-- the faults of the name at a token, by what it means and the arguments given: unknown, or a missing argument and
+-- those that no parameter takes
 abbrev pub faults_as : ℕ → Option (Target × List Parameter) → List (GivenArgument ℕ) → List NameFault
 faults_as at None given = Unknown at ∷ []
 faults_as at (Some x) given = missing_at at (first_missing x.1 given) ++ map (λ g. Extra g.1) (left_over x.1 given)
@@ -50,12 +51,12 @@ abbrev pub is_among : List ℕ → List (List ℕ) → Bool
 is_among name [] = false
 is_among name (n ∷ ns) = cond (bytes_eq name n) true (is_among name ns)
 
--- the fault of the name at a token, if it is repeated
+-- a list with the fault of the parameter at a token, if its name is repeated; else the empty list
 abbrev pub repeated_at : ℕ → Bool → List NameFault
 repeated_at at true = Repeated at ∷ []
 repeated_at at false = []
 
--- the faults of parameters that have the name of an earlier one
+-- the faults of parameters of a def whose name an earlier one has; `earlier` are the names before these
 abbrev pub repeats : List (List ℕ) → Tree (Many AParam) → List NameFault
 repeats earlier none = []
 repeats earlier (more p ps) = repeated_at (token_of p) (is_among (param_name p) earlier)
@@ -68,7 +69,8 @@ repeats_in (Stmt (BindPart b) semicolon) = []
 repeats_in (Stmt (CallPart c) semicolon) = []
 repeats_in (Stmt (IfPart i) semicolon) = []
 
--- all faults of names in a statement
+-- all faults of names in a statement that stands in the scope `sc`: repeated parameters, unknown names, and arguments
+-- that do not fit
 abbrev pub faults_in : Scope → Tree AStmt → List NameFault
 faults_in sc s = repeats_in s ++ all_faults (names sc s)
 
@@ -76,12 +78,12 @@ faults_in sc s = repeats_in s ++ all_faults (names sc s)
 abbrev pub is_before : NameFault → NameFault → Bool
 is_before f g = cond (nat_eq (token f) (token g)) (nat_le (number f) (number g)) (nat_le (token f) (token g))
 
--- the fault that comes first
+-- of two faults the one that is told: that at the earlier token, or of the lower number at one token
 abbrev pub earlier : NameFault → Option NameFault → NameFault
 earlier f None = f
 earlier f (Some g) = cond (is_before f g) f g
 
--- of these faults the one that is told
+-- the one of these faults that is told: that at the earliest token, of the lowest number there
 abbrev pub reported_fault : List NameFault → Option NameFault
 reported_fault [] = None
 reported_fault (f ∷ fs) = Some (earlier f (reported_fault fs))

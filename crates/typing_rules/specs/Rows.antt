@@ -15,7 +15,7 @@ use Rattle.typing_rules.specs.Arguments.{Parameter}
 abbrev pub seen_parameter : AParameter → Parameter
 seen_parameter p = record { name = p.name.now; form = p.form }
 
--- a builtin with its name
+-- a row of the builtin table in the program, as plain data: the name with the builtin
 abbrev pub seen_row : Row → List ℕ × Builtin
 seen_row r = (r.name.now, r.builtin)
 

@@ -21,7 +21,7 @@ abbrev pub bound : List ℕ → Scope → Option Bound
 bound name [] = None
 bound name (b ∷ bs) = cond (bytes_eq name b.0) (Some b.1) (bound name bs)
 
--- a name outside a call means a value
+-- what a name outside a call means, by what binds it: the value; a def, or nothing, leaves it unknown
 abbrev pub value_meant : Option Bound → Option Target
 value_meant (Some (bound_value t)) = Some (target.Slot t)
 value_meant (Some (bound_function t ps)) = None
@@ -45,41 +45,42 @@ pub record Name : Type 0 where
   pub meant : Option (Target × List Parameter)
   pub given : List (GivenArgument ℕ)
 
--- what a name means that is not called
+-- what a name outside a call means, with no parameters beside it
 abbrev pub no_parameters : Option Target → Option (Target × List Parameter)
 no_parameters None = None
 no_parameters (Some t) = Some (t, [])
 
--- the labels and the tokens of given arguments
+-- the arguments of a call as their labels and the tokens at which they stand
 abbrev pub tokens_given : Tree (Many AnArg) → List (GivenArgument ℕ)
 tokens_given none = []
 tokens_given (more (Arg at label f) rest) = (label, at) ∷ tokens_given rest
 
--- the scope behind a parameter
+-- the scope after a parameter of a def: its name is now bound to a value, by its token
 abbrev pub with_param : Tree AParam → Scope → Scope
 with_param (Param at name) sc = (name, bound_value at) ∷ sc
 with_param (Labelled at name) sc = (name, bound_value at) ∷ sc
 with_param (Optional at name d) sc = (name, bound_value at) ∷ sc
 
--- the scope behind the parameters of a def
+-- the scope after all parameters of a def, each bound to a value by its token
 abbrev pub with_params : Tree (Many AParam) → Scope → Scope
 with_params none sc = sc
 with_params (more p ps) sc = with_params ps (with_param p sc)
 
--- the scope behind a binding
+-- the scope after a binding `name = ..`: the name is now bound to a value, by its token
 abbrev pub with_bind : Tree ABind → Scope → Scope
 with_bind (Bind at name f) sc = (name, bound_value at) ∷ sc
 
--- the scope behind a binding within a def
+-- the scope after one binding in the body of a def, which ends at a semicolon
 abbrev pub with_inner : Tree AnInner → Scope → Scope
 with_inner (Inner b semicolon) sc = with_bind b sc
 
--- the scope behind all bindings within a def
+-- the scope after all bindings in the body of a def
 abbrev pub with_inners : Tree (Many AnInner) → Scope → Scope
 with_inners none sc = sc
 with_inners (more i is) sc = with_inners is (with_inner i sc)
 
--- the scope behind a statement
+-- the scope after a statement: a binding adds a value, a def adds a function with its parameters, and any other
+-- statement adds nothing
 abbrev pub with_statement : Tree AStmt → Scope → Scope
 with_statement (Stmt (BindPart b) semicolon) sc = with_bind b sc
 with_statement (Stmt (DefPart (Def at name ps equals is e)) semicolon) sc = (name, bound_function at (parameters_of ps))
@@ -133,12 +134,13 @@ abbrev mutual
   inner_names sc none = []
   inner_names sc (more i is) = names sc i ++ inner_names (with_inner i sc) is
 
--- all names that statements use
+-- all names that the statements of a script use, in the order of tokens, each looked up in the scope at its place;
+-- `sc` is the scope before the first statement
 abbrev pub used : Scope → Script → List Name
 used sc none = []
 used sc (more s rest) = names sc s ++ used (with_statement s sc) rest
 
--- what is meant, without its parameters
+-- what a name means, without the parameters beside it
 abbrev pub target_of : Option (Target × List Parameter) → Option Target
 target_of None = None
 target_of (Some x) = Some x.0
@@ -151,7 +153,7 @@ Meaning = ℕ × Option Target
 abbrev pub meant : Name → Meaning
 meant n = (n.at, target_of n.meant)
 
--- what the name at a token means
+-- what the name at token `at` means, by the first entry for it in a list of meanings; None if there is none
 abbrev pub target_in : List Meaning → ℕ → Option Target
 target_in [] at = None
 target_in (m ∷ ms) at = cond (nat_eq m.0 at) m.1 (target_in ms at)

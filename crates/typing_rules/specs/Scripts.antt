@@ -29,7 +29,7 @@ Targets = ℕ → Option Target
 abbrev pub Places : Type 0
 Places = List ℕ → ℕ → Option (List Kind)
 
--- the places behind a chain of calls
+-- the kinds of uses as seen from inside a chain of calls: the chain is added behind the calls of each place
 abbrev pub behind : List ℕ → Places → Places
 behind chain kinds = λ c. kinds (c ++ chain)
 
@@ -70,7 +70,9 @@ sight target kinds es chain = record {
 abbrev pub HasSome : Targets → List Entry → Tree ADef → Type 0
 HasSome target es d = (kinds : Places) × (ts : List Ground) × (g : Ground) × DefHas (sight target kinds es []) d ts g
 
--- behind the entries es the script's statements have types, and then the entries are fs
+-- The statements of a script have types, one after another, and each def has some typing. es is what was bound before
+-- them, fs what is bound after them, the latest first; `target` says what names mean, and `kinds` the kinds of each
+-- use.
 abbrev pub IsTypedTo : Targets → Places → List Entry → Script → List Entry → Type 0
 IsTypedTo target kinds es none fs = fs ≡ es
 IsTypedTo target kinds es (more (Stmt (BindPart (Bind at name f)) semicolon) rest) fs = (g : Ground)
@@ -97,7 +99,8 @@ abbrev pub statement_count : Script → ℕ
 statement_count none = 0
 statement_count (more s rest) = 1 + statement_count rest
 
--- the statements up to the n-th have no typing, those before it have one
+-- types clash in statement n of a script and not before: the first n statements have no typing, the first n - 1 have
+-- one
 pub record IsClash (script : Script) (n : ℕ) : Type 0 where
   pub first : 0 < n
   pub last : n ≤ statement_count script

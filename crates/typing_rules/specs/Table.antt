@@ -133,7 +133,7 @@ builtin_names =
     ∷ (codes "mean", builtin.Mean) ∷ (codes "stereo", builtin.Stereo) ∷ (codes "crossfade", builtin.Crossfade)
     ∷ (codes "mksafe", builtin.Mksafe) ∷ (codes "buffer", builtin.Buffer) ∷ (codes "clock", builtin.Clock) ∷ []
 
--- the builtin of this name in a table
+-- the builtin of this name in a table of names and builtins, if there is one
 abbrev pub named_in : List ℕ → List (List ℕ × Builtin) → Option Builtin
 named_in name [] = None
 named_in name (b ∷ bs) = cond (bytes_eq name b.0) (Some b.1) (named_in name bs)
@@ -146,7 +146,7 @@ builtin_named name = named_in name builtin_names
 abbrev pub params_of_builtin : Builtin → List Parameter
 params_of_builtin b = map (λ p. p.0) (signature b).params
 
--- the kinds of the first n variables
+-- the kinds that f gives to the kind variables 0 to n - 1, in order
 abbrev pub first_kinds : (ℕ → Kind) → ℕ → List Kind
 first_kinds f zero = []
 first_kinds f (suc n) = first_kinds f n ++ f n ∷ []

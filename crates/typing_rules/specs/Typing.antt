@@ -54,7 +54,7 @@ Applied s at (Some (target.Def t)) gs g = (ks : List Kind) × (s.kinds at ≡ So
 Applied s at (Some (target.Builtin b)) gs g = (ks : List Kind) × (s.kinds at ≡ Some ks) × IsCallOf b gs ks g
 Applied s at None gs g = ⊥
 
--- P holds where there are further operands
+-- the demand P, made only where a chain of operators has operands behind the first
 abbrev pub IfAny : {s : Sort} → Tree (Many s) → Type 0 → Type 0
 IfAny none P = ⊤
 IfAny (more x xs) P = P
@@ -106,11 +106,11 @@ abbrev mutual
   AreGiven s (more (Arg at label f) rest) gs = (t : Ground) × (us : List (GivenArgument Ground))
       × (gs ≡ (label, t) ∷ us) × Has s f t × AreGiven s rest us
 
--- what is known behind the bindings us of a def
+-- what is known in the body of a def: the types of its parameters and inner bindings, us, come before those outside
 abbrev pub within : TypesByToken → Sight → Sight
 within us s = record s { types = us ++ s.types }
 
--- the parameters' types by their tokens
+-- the types of the parameters of a def, each with the token of the parameter name
 abbrev pub typed_params : Tree (Many AParam) → List Ground → TypesByToken
 typed_params none ts = []
 typed_params (more p ps) [] = []
@@ -128,13 +128,15 @@ DefaultsHave s none ts = ts ≡ []
 DefaultsHave s (more p ps) [] = ⊥
 DefaultsHave s (more p ps) (t ∷ ts) = DefaultHas s p t × DefaultsHave s ps ts
 
--- inner bindings have types, each behind the ones before it: with them the bindings us become vs
+-- the bindings in the body of a def have types, each of which sees those before it: us are the types before them, by
+-- token, and vs those after them
 abbrev pub InnersHave : Sight → Tree (Many AnInner) → TypesByToken → TypesByToken → Type 0
 InnersHave s none us vs = vs ≡ us
 InnersHave s (more (Inner (Bind at name f) semicolon) is) us vs = (t : Ground) × Has (within us s) f t
     × InnersHave s is (us ++ (at, t) ∷ []) vs
 
--- A def with parameters of these types has the type g. Its defaults are seen without its bindings.
+-- a def called with arguments of the types ts gives the type g: its defaults fit the parameters and do not see its
+-- bindings, its inner bindings have types, and its result has the type g
 abbrev pub DefHas : Sight → Tree ADef → List Ground → Ground → Type 0
 DefHas s (Def at name ps equals is e) ts g = DefaultsHave s ps ts
     × ((us : TypesByToken) × InnersHave s is (typed_params ps ts) us × Has (within us s) e g)

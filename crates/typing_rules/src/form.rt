@@ -1,6 +1,7 @@
 // How a parameter is given.
 
-/// In its place, by its label, or by its label if at all: then it has a default.
+/// How an argument is given to a parameter: in its place, by its label, or by its label if at all: then there is a
+/// default.
 #[derive(Clone, Copy, Debug, PartialEq, Eq)]
 pub enum Form {
     InPlace,

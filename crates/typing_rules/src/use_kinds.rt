@@ -45,7 +45,7 @@ impl UseKinds {
         UseKinds { kinds }
     }
 
-    /// The kinds, to be read.
+    /// The kinds of the use as a slice, to be read.
     pub fn as_slice(&self) -> &[KindOf]
         ensures { result.now ≡ self.now }
     {

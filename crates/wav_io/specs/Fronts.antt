@@ -8,12 +8,13 @@ use Rattle.wav_io.specs.declared.chunks.Chunk.{Chunk}
 use Rattle.wav_io.specs.declared.head.Head.{Head}
 use Rattle.wav_io.specs.declared.fault.WavFault.{WavFault}
 
--- how many bytes the whole blocks have that a data chunk holds in a file of `size` bytes
+-- how many bytes the whole blocks have that a data chunk holds, in a file of `size` bytes which may end before the
+-- chunk does; a block is one sample of each channel
 abbrev pub blocks_size : Bool → Kind → ℕ → Chunk → ℕ
 blocks_size wide kind size chunk =
     min chunk.size (size - (chunk.place + 8)) / block_align wide kind * block_align wide kind
 
--- what a file of this head holds: its blocks stand where the head says
+-- what a WAV file of this head holds: the bytes of its samples stand where the head says
 abbrev pub wav_at : List ℕ → Head → Wav
 wav_at bytes head = record {
   kind = head.kind;

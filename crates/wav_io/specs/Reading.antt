@@ -100,7 +100,7 @@ pub record AreBlocks (wide : Bool) (kind : Kind) (body : List ℕ) : Type 0 wher
   pub some : 0 < count
   pub whole : length body ≡ count * block_align wide kind
 
--- the file of this format and these blocks, of which there is at least one
+-- what a WAV file of this format with these samples holds, or the fault that it has no samples
 abbrev pub with_blocks : Format → List ℕ → Result Wav WavFault
 with_blocks format blocks = if nat_eq (length blocks) 0 then Err Empty else Ok (record {
   kind = format.kind;
@@ -109,17 +109,18 @@ with_blocks format blocks = if nat_eq (length blocks) 0 then Err Empty else Ok (
   body = blocks;
 })
 
--- the file of this format whose first data chunk is this one
+-- what a WAV file of this format holds, by its first data chunk: the whole blocks in it, or the fault that there are
+-- none
 abbrev pub data_step : List ℕ → Format → Option Chunk → Result Wav WavFault
 data_step bytes format None = Err NoData
 data_step bytes format (Some chunk) = with_blocks format (whole_blocks format.wide format.kind (body_of bytes chunk))
 
--- the file whose first format chunk gives this format, and whose first data chunk is this one
+-- what a WAV file holds, by the format that was read, or its fault, and the first data chunk
 abbrev pub format_step : List ℕ → Result Format WavFault → Option Chunk → Result Wav WavFault
 format_step bytes (Err fault) samples = Err fault
 format_step bytes (Ok format) samples = data_step bytes format samples
 
--- the file whose first format chunk and first data chunk are these
+-- what a WAV file holds, by its first format chunk and its first data chunk, or the fault that one is missing or wrong
 abbrev pub chunk_step : List ℕ → Option Chunk → Option Chunk → Result Wav WavFault
 chunk_step bytes None samples = Err NoFormat
 chunk_step bytes (Some chunk) samples = format_step bytes (format_in (body_of bytes chunk) chunk.size) samples

@@ -53,7 +53,7 @@ abbrev pub in_all : (lengths : List ℕ) → Windows
 in_all [] = record { count = 0; shortest = 0; longest = 0 }
 in_all (n ∷ ns) = record { count = length ns + 1; shortest = least n ns; longest = greatest n ns }
 
--- the windows of the week in which each second passes the test
+-- the windows of the week in which each second passes the test: how many there are, the shortest and the longest
 abbrev pub windows_of : (ℕ → Bool) → Windows
 windows_of test = in_all (lengths_of (spans_from test 0 604800))
 
@@ -61,12 +61,14 @@ windows_of test = in_all (lengths_of (spans_from test 0 604800))
 abbrev pub is_first : (earlier : List Predicate) → Predicate → (at : ℕ) → Bool
 is_first earlier pred at = holds pred at && not (some_case_holds earlier at)
 
--- the windows of each of these cases, in the second list, which come after the earlier ones
+-- the windows of each of these cases of a switch: the times of the week at which it holds and no case before it does.
+-- `earlier` are the cases before them.
 abbrev pub case_windows : (earlier : List Predicate) → List Predicate → List Windows
 case_windows earlier [] = []
 case_windows earlier (pred ∷ preds) = windows_of (is_first earlier pred) ∷ case_windows (pred ∷ earlier) preds
 
--- the spans of each of these cases, in the second list, which come after the earlier ones
+-- for each of these cases of a switch the spans of the week, in seconds, at which it holds and no case before it does.
+-- `earlier` are the cases before them.
 abbrev pub case_spans : (earlier : List Predicate) → List Predicate → List (List Span)
 case_spans earlier [] = []
 case_spans earlier (pred ∷ preds) = spans_from (is_first earlier pred) 0 604800 ∷ case_spans (pred ∷ earlier) preds

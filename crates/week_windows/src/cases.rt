@@ -122,7 +122,8 @@ fn take_case(
     Ok(spans)
 }
 
-// The spans of the seconds of a table that are also in the table `free`; it takes them from there.
+// The spans of the seconds that are both in `table` and in `free`, which are tables with a bit for each second of the
+// week; they are taken out of `free`.
 fn take(alloc: Global, free: &mut [u64], table: &mut [u64]) -> Result<Vec<Span>, Memory>
     requires free { IsTable free.old }
     requires table { IsTable table.old }

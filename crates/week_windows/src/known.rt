@@ -62,7 +62,7 @@ pub fn hours_again<'a>(
     Ok(())
 }
 
-// Exchanges the hours that were kept last and those before them.
+// Exchanges the hours of the cases looked at last with the hours of those before them.
 fn turn(known: &mut Known<'_>)
     requires { IsKnown known.old }
     ensures { IsKnown known.new }
@@ -86,7 +86,7 @@ pub fn windows_again<'a>(
     windows_kept(alloc, &mut known.told, preds)
 }
 
-/// The spans at which none of the cases holds whose hours are kept.
+/// The spans of the week at which no case holds, of the cases that were looked at last.
 pub fn known_holes(alloc: Global, known: &Known<'_>) -> Result<Vec<Span>, Memory>
     requires { IsKnown known.now }
     ensures { IfOk result (λ spans. spans.items ≡ hole_spans (map view_shared known.now.preds.now)) }

@@ -38,7 +38,7 @@ pub fn windows_kept<'a>(
     }
 }
 
-// The windows that are kept of these cases.
+// The windows that are kept of a switch with these cases, if there are any.
 fn windows_among<'a>(told: &'a [ToldCases<'_>], preds: &[SharedPred]) -> Option<&'a [Windows]>
     requires { All IsTold told.now }
     ensures { IfSome result (λ windows. windows.now ≡ case_windows [] (map view_shared preds.now)) }
@@ -51,6 +51,7 @@ fn windows_among<'a>(told: &'a [ToldCases<'_>], preds: &[SharedPred]) -> Option<
     None
 }
 
+// A copy of a list of windows.
 fn copied(alloc: Global, windows: &[Windows]) -> Result<Vec<Windows>, Memory>
     ensures { IfOk result (λ all. all.items ≡ windows.now) }
 {
@@ -61,7 +62,7 @@ fn copied(alloc: Global, windows: &[Windows]) -> Result<Vec<Windows>, Memory>
     Ok(all)
 }
 
-// Counts the windows of cases that are new.
+// Counts the windows of cases of which none are kept, keeps them, and answers them.
 fn windows_anew<'a>(
     alloc: Global,
     told: &mut Vec<ToldCases<'a>>,
@@ -78,6 +79,7 @@ fn windows_anew<'a>(
     Ok(all)
 }
 
+// The windows of each of these cases of a switch, counted anew.
 fn windows_of(alloc: Global, preds: &[SharedPred]) -> Result<Vec<Windows>, Memory>
     ensures { IfOk result (λ all. all.items ≡ case_windows [] (map view_shared preds.now)) }
 {
@@ -86,7 +88,7 @@ fn windows_of(alloc: Global, preds: &[SharedPred]) -> Result<Vec<Windows>, Memor
     Ok(all)
 }
 
-// Lets all windows go where those of as many lists are kept as may be.
+// Drops all windows that are kept, once as many lists of cases are kept as may be.
 fn make_room(told: &mut Vec<ToldCases<'_>>)
     requires { All IsTold told.old.items }
     ensures { All IsTold told.new.items }
@@ -96,6 +98,7 @@ fn make_room(told: &mut Vec<ToldCases<'_>>)
     }
 }
 
+// Keeps the windows of one more list of cases.
 fn keep<'a>(told: &mut Vec<ToldCases<'a>>, one: ToldCases<'a>) -> Result<(), Memory>
     requires told { All IsTold told.old.items }
     requires one { IsTold one }

@@ -48,7 +48,8 @@ fn ends_week(spans: &[Span]) -> bool
     false
 }
 
-// How many windows these spans are, and how long; the one that ends with the week goes on for `more` seconds.
+// How many windows these spans of a week are, and how long; the span that ends with the week goes on for `more`
+// seconds at its beginning.
 fn measured(spans: &[Span], more: u32) -> Windows
     ensures { result ≡ in_all (map (seconds_of more) spans.now) }
 {
@@ -62,8 +63,8 @@ fn measured(spans: &[Span], more: u32) -> Windows
     }
 }
 
-// How many windows these spans are, of which there is a first, and how long; the one that ends with the week goes on
-// for `more` seconds.
+// How many windows these spans of a week are, the first one apart, and how long; the span that ends with the week goes
+// on for `more` seconds at its beginning.
 fn measured_from(first: Span, rest: &[Span], more: u32) -> Windows
     ensures { result ≡ in_all (seconds_of more first ∷ map (seconds_of more) rest.now) }
 {

@@ -32,13 +32,13 @@ pub record IsStatementAt (text : List ℕ) (number at : ℕ) : Type 0 where
   pub first_is : first_token script number ≡ Some first
   pub begins : at ≡ start (length text) tokens first
 
--- where a token begins that may be the first of a statement, in a text of `total` bytes; this is for `src/places.rt`
--- alone
+-- the byte at which a token begins, by its number, if one is given; `total` is the length of the text. This is for
+-- `src/places.rt` alone.
 abbrev pub beginning_of : ℕ → List Token → Option ℕ → Option ℕ
 beginning_of total tokens (Some first) = Some (start total tokens first)
 beginning_of total tokens None = None
 
--- what a line names begins at this byte of the script's text
+-- what a line of output names (a byte, a token, a statement, a source, ..) begins at byte `at` of the script `text`
 abbrev pub Begins : List ℕ → List ℕ → Named → ℕ → Type 0
 Begins line text (Byte n) at = at ≡ n
 Begins line text (NamedToken k) at = IsTokenAt text k at
@@ -48,7 +48,8 @@ Begins line text (Clash number) at = IsInStatement text number at
 Begins line text (Text from to) at = IsTextAt text (part line from to) at
 Begins line text (Fallible from to) at = IsCauseAt text (part line from to) at
 
--- the script's text has no place such as a line names
+-- the script `text` has no such token, statement, source, string or output as a line of output names, so that no place
+-- can be shown
 abbrev pub IsNowhere : List ℕ → List ℕ → Named → Type 0
 IsNowhere line text (Byte n) = ⊥
 IsNowhere line text (NamedToken k) = HasNoTokens text

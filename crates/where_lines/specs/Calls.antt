@@ -25,14 +25,14 @@ symbol_role CloseSquare = Closes
 symbol_role CloseCurly = Closes
 symbol_role s = Neither
 
--- whether a token opens a call, opens or closes another bracket, or does neither
+-- what a token does to the brackets that are open: it opens a call, opens or closes another bracket, or neither
 abbrev pub role_of : TokenKind → Role
 role_of (kind.NameOpen name) = OpensCall
 role_of (kind.Symbol s) = symbol_role s
 role_of k = Neither
 
--- The texts of the calls that are closed, each whole and none within another, a line for each; and what stands open,
--- the newest last.
+-- What is known behind some tokens of a statement: the texts of the calls whose bracket is closed, each whole and none
+-- within another, a line for each; and the brackets that are still open, the newest last.
 pub record Closed : Type 0 where
   pub texts : List ℕ
   pub brackets : List Bracket
@@ -41,8 +41,8 @@ pub record Closed : Type 0 where
 abbrev pub newest : List Bracket → Option Bracket
 newest brackets = slice_get brackets (length brackets - 1)
 
--- the texts of closed calls, after a bracket was closed at byte `end`: if it is that of a call, the call takes the
--- place of its arguments
+-- the texts of closed calls, once a bracket is closed at byte `end`: if it opened a call, the text of the call takes
+-- the place of those of its arguments, which stand behind the first `others` bytes
 abbrev pub with_closed : List ℕ → (end : ℕ) → List ℕ → Option Bracket → List ℕ
 with_closed text end texts (Some (bracket.Call start others)) = take others texts ++ part text start end ++ (10 ∷ [])
 with_closed text end texts (Some bracket.Other) = texts
@@ -62,7 +62,7 @@ brackets_behind token Opens texts brackets = brackets ++ bracket.Other ∷ []
 brackets_behind token Closes texts brackets = take (length brackets - 1) brackets
 brackets_behind token Neither texts brackets = brackets
 
--- the calls that are closed and what stands open, after one token more
+-- reads one token more: the closed calls and the open brackets after it, from those before it
 abbrev pub behind : List ℕ → Closed → Token → Closed
 behind text s token = record {
   texts = texts_behind text token (role_of token.kind) s.texts s.brackets;

@@ -7,11 +7,13 @@ use Rattle.where_lines.specs.declared.calls.Found.{Found}
 use Rattle.where_lines.specs.Calls.{calls_of, newest, part}
 use Rattle.where_lines.specs.Clashes.{Clashes}
 
--- the texts of the calls that are closed among some tokens, and what stands open after them
+-- `texts` are the texts of the calls that are closed among some tokens of `text`, and `brackets` those still open
+-- behind them
 abbrev pub AreCalls : List ℕ → List Token → List ℕ → List Bracket → Type 0
 AreCalls text tokens texts brackets = calls_of text tokens ≡ record { texts = texts; brackets = brackets }
 
--- a call that one of these tokens closes
+-- what was found is a call that one of these tokens closes, with its first and last byte and the texts of the calls
+-- closed before it
 pub record IsCandidate (text : List ℕ) (tokens : List Token) (found : Found) : Type 0 where
   pub number : ℕ
   pub last : Token
@@ -20,7 +22,8 @@ pub record IsCandidate (text : List ℕ) (tokens : List Token) (found : Found) :
   pub texts_are : found.texts.items ≡ (calls_of text (take number tokens)).texts
   pub ends : found.end ≡ last.end
 
--- types clash with the call that was found, and not with those before it; it begins at byte `at`
+-- the types of the script up to here (`front`) clash with the call that was found, and do not clash with only the
+-- calls before it; the call begins at byte `at`
 pub record IsCalled (text front : List ℕ) (found : Found) (at : ℕ) : Type 0 where
   pub begins : at ≡ found.start
   pub before : Clashes (front ++ found.texts.items) false

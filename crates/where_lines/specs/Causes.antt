@@ -8,17 +8,17 @@ use Rattle.plan_blames.specs.Needs.{IsCause}
 use Rattle.script_plan.specs.Plans.{IsPlan}
 use Rattle.where_lines.specs.Sources.{IsSourceAt}
 
--- the node of a sink, if it is the output of this name
+-- the node of the plan that a sink plays, if the sink is the output of this name; a feed of a buffer is no output
 abbrev pub node_named : List ℕ → SinkPlan → Option ℕ
 node_named name (Output other node fallible wide) = if bytes_eq other name then Some node else None
 node_named name (Feed buffer node) = None
 
--- the first one, if there is one, and otherwise the next
+-- the node of the first output found, or else the one found later
 abbrev pub or_next : Option ℕ → Option ℕ → Option ℕ
 or_next (Some node) next = Some node
 or_next None next = next
 
--- the node of the first output of this name
+-- the node that the first output of this name among the sinks plays, if there is one
 abbrev pub output_named : List ℕ → List SinkPlan → Option ℕ
 output_named name [] = None
 output_named name (sink ∷ sinks) = or_next (node_named name sink) (output_named name sinks)

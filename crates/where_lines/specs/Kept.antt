@@ -9,7 +9,7 @@ use Rattle.script_plan.specs.Plans.{IsPlan}
 use Rattle.script_plan.specs.Sources.{HasSources}
 use Rattle.where_lines.specs.declared.kept.Kept.{Kept}
 
--- where tokens are kept, they are those of the text
+-- the tokens that are kept between lines, if there are any, are those of the text
 abbrev pub AreKept : (text : List ℕ) → Option (Vec Token Global) → Type 0
 AreKept text kept = IfSome kept (λ tokens. AreTokens text tokens.items)
 
@@ -19,7 +19,7 @@ pub record AreSources (text : List ℕ) (plan : Plan) (calls : List ℕ) : Type 
   pub is_plan : IsPlan text plan
   pub each : length calls ≡ length plan.nodes
 
--- where sources are kept, they are those of the text
+-- the plan and the calls of its sources that are kept between lines, if they are, are those of the text
 abbrev pub SourcesAreKept : (text : List ℕ) → Option Sources → Type 0
 SourcesAreKept text kept = IfSome kept (λ found. AreSources text found.plan found.calls)
 

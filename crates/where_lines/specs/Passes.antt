@@ -8,11 +8,11 @@ use Rattle.script_places.specs.Pointing.{pointer}
 use Rattle.script_places.specs.declared.named.Named.{Named}
 use Rattle.where_lines.specs.Beginning.{Begins, IsNowhere}
 
--- a line without its LF
+-- a line of output without the line feed at its end
 abbrev pub told_of : List ℕ → List ℕ
 told_of line = strip_last 10 line
 
--- a LF behind a line that has none
+-- the line feed that must be added behind a line that has none; else nothing
 abbrev pub closing_of : List ℕ → List ℕ
 closing_of line = if ends_with_byte 10 line then [] else codes "\n"
 
@@ -26,14 +26,15 @@ pub data IsBehind (file : List ℕ) (script : Option (List ℕ)) (line : List �
   Shown : (text : List ℕ) (named : Named) (at : ℕ) → script ≡ Some text → IsUtf8 (told_of line) → IsNamed (told_of line) named
       → Begins line text named at → IsBehind file script line (closing_of line ++ pointer file text at)
 
--- the lines of an input up to the rest of it were passed on, and this is what was told
+-- the lines of `input` up to `rest` were passed on, and `told` is all that was written for them: each line, and behind
+-- it the two lines that show the place that it names, if it names one
 pub data Passes (file : List ℕ) (script : Option (List ℕ)) (input : List ℕ) : (rest told : List ℕ) → Type 0 where
   Begun : Passes file script input input []
   Line : (rest told behind : List ℕ) → rest ≢ [] → Passes file script input rest told
       → IsBehind file script (take_through 10 rest) behind
       → Passes file script input (drop_through 10 rest) (told ++ (take_through 10 rest ++ behind))
 
--- a sink took these bytes, in some pieces
+-- a sink took these bytes whole, in one piece or more; old and new are what it tells before and after
 pub record TookAll (taken : List ℕ) (old new : SinkTold) : Type 0 where
   pub held_grew : new.held ≡ grown taken old.held
   pub room_kept : new.room ≡ old.room

@@ -14,12 +14,13 @@ use Rattle.script_parse.specs.Answer.{IsShallow}
 use Rattle.script_places.specs.Starts.{start, first_token}
 use Rattle.where_lines.specs.Calls.{IsCaller}
 
--- where a token begins, if it is given, and otherwise the end of a text of `total` bytes
+-- the byte at which a token begins, by its number, if one is given; otherwise the end of the text, whose length is
+-- `total`
 abbrev pub begins_at : ℕ → List Token → Option ℕ → ℕ
 begins_at total tokens (Some first) = start total tokens first
 begins_at total tokens None = total
 
--- where a statement begins; behind the last one, the end
+-- the byte at which a statement begins; for a number behind the last statement, the end of the text
 abbrev pub beginning : List ℕ → List Token → Script → ℕ → ℕ
 beginning text tokens script number = begins_at (length text) tokens (first_token script number)
 
@@ -27,12 +28,12 @@ beginning text tokens script number = begins_at (length text) tokens (first_toke
 abbrev pub before : List ℕ → List Token → Script → ℕ → List ℕ
 before text tokens script number = take (beginning text tokens script number) text
 
--- the number of a token, if it is given, and otherwise how many tokens there are
+-- the number of a token, if one is given, and otherwise how many tokens there are
 abbrev pub or_all : List Token → Option ℕ → ℕ
 or_all tokens (Some first) = first
 or_all tokens None = length tokens
 
--- the number of the first token of a statement; behind the last statement, how many tokens there are
+-- the number of the first token of a statement; for a number behind the last statement, how many tokens there are
 abbrev pub first_of : List Token → Script → ℕ → ℕ
 first_of tokens script number = or_all tokens (first_token script number)
 
@@ -60,13 +61,14 @@ begins_def (token ∷ tokens) = is_def token.kind
 abbrev pub calling : List Token → List Token
 calling tokens = if begins_def tokens then drop 2 tokens else tokens
 
--- a byte of a statement: where it begins, or where a call of it begins with which types clash behind the statements
--- before
+-- byte `at` may be shown for a statement whose types clash: where the statement begins, or where that call of it
+-- begins with which the clash arises, behind the statements before it
 abbrev pub IsShown : List ℕ → List Token → Script → ℕ → ℕ → Type 0
 IsShown text tokens script number at = (at ≡ beginning text tokens script number)
     ⊎ IsCaller text (before text tokens script number) (calling (tokens_of tokens script number)) at
 
--- byte `at` is shown of statement `number` of the script that a text spells
+-- byte `at` may be shown for statement `number` of the script that a text spells: its beginning, or that of the call
+-- with which its types clash
 pub record IsInStatement (text : List ℕ) (number at : ℕ) : Type 0 where
   pub tokens : List Token
   pub are_tokens : AreTokens text tokens

@@ -11,7 +11,7 @@ abbrev pub is_text : List ℕ → TokenKind → Bool
 is_text name (kind.Str text) = bytes_eq text name
 is_text name k = false
 
--- where the first token begins that is this string
+-- the byte at which the first token begins that is a quoted text of these characters
 abbrev pub text_among : List ℕ → List Token → Option ℕ
 text_among name [] = None
 text_among name (token ∷ tokens) = if is_text name token.kind then Some token.start else text_among name tokens

@@ -22,7 +22,7 @@ pub enum Bracket {
     Other,
 }
 
-/// What a token does to what stands open.
+/// What a token does to the brackets that are open.
 #[derive(Clone, Copy)]
 pub enum Role {
     /// It opens a call.
@@ -113,9 +113,8 @@ fn clash_with(alloc: Global, done: &[u8], texts: &[u8]) -> Result<bool, Memory>
     clashes(alloc, &whole)
 }
 
-// The call with which types may begin to clash. With the calls that are closed before token `low` types do not clash,
-// with those before token `high` they do: the token in the middle takes the place of one of them, until they are
-// neighbours.
+// The call with which types may begin to clash, found by halving the tokens of the statement; it is not yet confirmed.
+// `done` is the script before the statement.
 fn candidate(
     alloc: Global,
     text: &[u8],
@@ -128,8 +127,8 @@ fn candidate(
     found_at(alloc, text, tokens, low)
 }
 
-// The number of the token that closes the call with which types begin to clash: the last one before which no such call
-// is closed.
+// Halves the tokens of a statement: with the calls closed before token `low` types do not clash, with those before
+// `high` they are taken to. It ends where both are neighbours, with the token that closes the call looked for.
 fn last_token(alloc: Global, text: &[u8], done: &[u8], tokens: &[Token]) -> Result<usize, Memory> {
     let mut low: usize = 0;
     let mut high = tokens.len();
@@ -166,7 +165,8 @@ fn found_at(
     }
 }
 
-// The call that ends at byte `end`, if the newest bracket is one.
+// The call that ends at byte `end`, if the bracket that was opened last is that of a call; `calls` are those closed
+// before.
 fn closed_by(calls: Calls, end: usize) -> Option<Found>
     ensures { IfSome result (λ found. (newest calls.brackets.items ≡ Some (bracket.Call found.start found.others))
         × (found.texts.items ≡ calls.texts.items) × (found.end ≡ end)) }
@@ -197,7 +197,7 @@ fn first_tokens(tokens: &[Token], count: usize) -> &[Token]
     first
 }
 
-// The calls that are closed among some tokens, and what stands open after them.
+// The texts of the calls that are closed among some tokens, and the brackets that are still open behind them.
 fn closed_calls(alloc: Global, text: &[u8], tokens: &[Token]) -> Result<Calls, Memory>
     ensures { IfOk result (λ calls. AreCalls text.now tokens.now calls.texts.items calls.brackets.items) }
 {
@@ -207,7 +207,7 @@ fn closed_calls(alloc: Global, text: &[u8], tokens: &[Token]) -> Result<Calls, M
     Ok(Calls { texts, brackets })
 }
 
-// Takes these tokens more: `texts` has the calls that are closed, and `brackets` what stands open.
+// Reads more tokens: adds the calls that they close to `texts`, and keeps in `brackets` those that are still open.
 fn read_all(
     texts: &mut Vec<u8>,
     brackets: &mut Vec<Bracket>,
@@ -225,7 +225,7 @@ fn read_all(
     Ok(())
 }
 
-// Takes one token more: `texts` has the calls that are closed, and `brackets` what stands open.
+// Reads one more token: adds the call that it closes to `texts`, or notes or removes a bracket in `brackets`.
 fn read(
     texts: &mut Vec<u8>,
     brackets: &mut Vec<Bracket>,
@@ -269,7 +269,7 @@ fn close(
     Ok(())
 }
 
-// What a token does to what stands open.
+// What a token does to the brackets that are open: it opens a call, opens or closes another bracket, or neither.
 fn role_of(kind: &TokenKind) -> Role
     ensures { result ≡ role_of kind.now }
 {

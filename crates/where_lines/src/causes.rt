@@ -79,7 +79,7 @@ fn cause_of(
     source_place(alloc, text, kept, source as u64)
 }
 
-// The node of the first output of this name.
+// The node that the first output of this name plays, in a plan; it is one of its nodes.
 fn output_of(plan: &Plan, name: &[u8]) -> Option<u32>
     requires { IsWellFormed plan.now }
     ensures named { result ≡ output_named name.now plan.now.sinks }
@@ -88,7 +88,7 @@ fn output_of(plan: &Plan, name: &[u8]) -> Option<u32>
     output_named(name, plan.sinks.as_slice())
 }
 
-// The node of the first output of this name among these sinks.
+// The node that the first output of this name among these sinks plays.
 fn output_named(name: &[u8], sinks: &[SinkPlan]) -> Option<u32>
     ensures { result ≡ output_named name.now sinks.now }
 {
@@ -100,7 +100,7 @@ fn output_named(name: &[u8], sinks: &[SinkPlan]) -> Option<u32>
     None
 }
 
-// The node of a sink, if it is the output of this name.
+// The node that a sink plays, if the sink is the output of this name; a feed of a buffer is none.
 fn node_named(name: &[u8], sink: &SinkPlan) -> Option<u32>
     ensures { result ≡ node_named name.now sink.now }
 {

@@ -8,7 +8,7 @@ use script_plan::{ScriptFault, plan_of};
 use std::alloc::Global;
 use typing_rules::TypeFault;
 
-/// Whether the types of a text clash.
+/// Whether a script has no plan because its types clash. Any other fault of it counts as no clash.
 pub fn clashes(alloc: Global, text: &[u8]) -> Result<bool, Memory>
     ensures { IfOk result (Clashes text.now) }
 {
@@ -18,7 +18,7 @@ pub fn clashes(alloc: Global, text: &[u8]) -> Result<bool, Memory>
     }
 }
 
-// Whether a fault says that types clash.
+// Whether the fault of a script is a clash of types. Want of memory tells nothing and is passed on.
 fn of_fault(told: &ScriptFault) -> Result<bool, Memory>
     ensures { IfOk result (λ is. (told.now ≢ fault.Memory) × (is ≡ is_clash_fault told.now)) }
 {
@@ -31,6 +31,7 @@ fn of_fault(told: &ScriptFault) -> Result<bool, Memory>
     }
 }
 
+// Whether a fault of typing is a clash of types, and not one of names or arguments.
 fn is_type_clash(fault: &TypeFault) -> bool
     ensures { result ≡ is_type_clash fault.now }
 {

@@ -60,7 +60,7 @@ pub fn part(text: &[u8], from: usize, to: usize) -> &[u8]
     front(behind(text, from), to.saturating_sub(from))
 }
 
-/// One text behind another.
+/// A new text: the first one, and the second one behind it.
 pub fn joined(alloc: Global, first: &[u8], second: &[u8]) -> Result<Vec<u8>, Memory>
     ensures { IfOk result (λ both. both.items ≡ first.now ++ second.now) }
 {
@@ -70,7 +70,7 @@ pub fn joined(alloc: Global, first: &[u8], second: &[u8]) -> Result<Vec<u8>, Mem
     Ok(both)
 }
 
-/// The tokens of a statement.
+/// The tokens of a statement, by its number: from its first one up to the first one of the next.
 pub fn tokens_of<'a>(tokens: &'a [Token], script: &Script, statement: u64) -> &'a [Token]
     requires placed { IsPlaced 0 (view_script script.now) }
     requires next { statement < u64.MAX }
@@ -115,6 +115,7 @@ fn is_def(kind: &TokenKind) -> bool
     }
 }
 
+// Whether a keyword is `def`.
 fn is_def_word(word: Keyword) -> bool
     ensures { result ≡ is_def_word word }
 {
@@ -132,7 +133,7 @@ fn first_of(tokens: &[Token], script: &Script, statement: u64) -> usize
     or_all(tokens, first_token(script, statement))
 }
 
-// The number of a token, if it is given, and otherwise how many tokens there are.
+// The number of the first token of a statement, if there is such a statement, and otherwise how many tokens there are.
 fn or_all(tokens: &[Token], first: Option<u64>) -> usize
     ensures { result ≡ or_all tokens.now first }
 {

@@ -82,7 +82,7 @@ fn read_line<R: BufRead>(input: &mut R, line: &mut Vec<u8>) -> Result<bool, Brok
     }
 }
 
-// Why a line could not be read.
+// Why a line could not be read, by the error of the system: want of memory, or the input.
 fn cause_of(kind: ErrorKind) -> Broke
     ensures { result ≢ broke.Output }
 {
@@ -106,7 +106,7 @@ fn write<O: Sink>(out: &mut O, piece: &[u8]) -> Result<(), Broke>
     }
 }
 
-// Shows the place that a line names, if it names one.
+// Writes the two lines that show the place of a script that a line names, if it names one.
 fn show<O: Sink>(
     alloc: Global,
     line: &[u8],

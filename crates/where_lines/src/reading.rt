@@ -7,7 +7,7 @@ use liq_base::Memory;
 use script_lex::LexFault;
 use script_parse::ParseFault;
 
-/// Nothing, where a text has no tokens for another reason than want of memory.
+/// The place in a text that has no tokens: none. Where memory was refused it is not known, and that is the error.
 pub fn no_tokens(told: &LexFault) -> Result<Option<usize>, Memory>
     ensures nothing { IfOk result (λ at. at ≡ None) }
     ensures fault { IfOk result (λ at. told.now ≢ lex_fault.Memory) }
@@ -21,7 +21,8 @@ pub fn no_tokens(told: &LexFault) -> Result<Option<usize>, Memory>
     }
 }
 
-/// Nothing, where tokens are no script for another reason than want of memory.
+/// The place in a text whose tokens are no script: none. Where memory was refused it is not known, and that is the
+/// error.
 pub fn no_script(told: &ParseFault) -> Result<Option<usize>, Memory>
     ensures nothing { IfOk result (λ at. at ≡ None) }
     ensures fault { IfOk result (λ at. told.now ≢ parse_fault.Memory) }

@@ -90,14 +90,15 @@ fn call_place(
     }
 }
 
-// The token of the call that makes this source.
+// The token of the call that makes the source of this number, where `calls` has one for each source.
 fn call_of(calls: &[u32], source: u64) -> Option<u32>
     ensures { result ≡ slice_get calls.now source }
 {
     calls.get(source as usize).copied()
 }
 
-/// Nothing, where a script has a fault that is no want of memory.
+/// The place in a script that has a fault, so that it has no plan: none. Where memory was refused it is not known, and
+/// that is the error.
 pub fn nowhere(told: &ScriptFault) -> Result<Option<usize>, Memory>
     ensures nothing { IfOk result (λ at. at ≡ None) }
     ensures fault { IfOk result (λ at. told.now ≢ fault.Memory) }

@@ -19,7 +19,7 @@ pub fn text_place(alloc: Global, text: &[u8], name: &[u8]) -> Result<Option<usiz
     }
 }
 
-// The byte at which the first token begins that is this string.
+// The byte at which the first token begins that is a quoted text of these characters.
 fn text_among(name: &[u8], tokens: &[Token]) -> Option<usize>
     ensures { result ≡ text_among name.now tokens.now }
 {
@@ -31,7 +31,7 @@ fn text_among(name: &[u8], tokens: &[Token]) -> Option<usize>
     None
 }
 
-// Whether a token is this string.
+// Whether a token is a quoted text of these characters.
 fn is_text(name: &[u8], kind: &TokenKind) -> bool
     ensures { result ≡ is_text name.now kind.now }
 {
