@@ -9,7 +9,7 @@ use Rattle.node_states.specs.declared.state.NodeState.{NodeState}
 use Rattle.node_states.specs.States.{Fits, IsSettled, StateStands}
 use Rattle.clock_nodes.specs.declared.scene.Scene.{Scene}
 
--- node i of the plan lies in this clock
+-- this is node i of the plan, and it lies in this clock
 pub record IsIn (setting : Setting) (clock : NodeClock) (i : ℕ) (node : Node) : Type 0 where
   pub there : slice_get setting.plan.nodes i ≡ Some node
   pub inside : lies_in setting clock i ≡ true

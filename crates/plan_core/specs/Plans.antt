@@ -36,13 +36,14 @@ HasKind Mean children kind = (children ≡ Kind.Stereo) × (kind ≡ Mono)
 HasKind Stereo children kind = (children ≡ Mono) × (kind ≡ Kind.Stereo)
 HasKind _ children kind = kind ≡ children
 
--- the pitch of a square wave is above 0, and an overlap is from 1 to MAX_OVERLAP
+-- the numbers of an operator are in range: the pitch of a square wave is above 0, and an overlap is from 1 to
+-- MAX_OVERLAP
 abbrev pub IsInRange : Op → Type 0
 IsInRange (Square pitch) = pos 0 <ℤ pitch.millionths
 IsInRange (Crossfade overlap) = (1 ≤ overlap) × (overlap ≤ MAX_OVERLAP)
 IsInRange _ = ⊤
 
--- 1 for a crossfade, 0 for any other node
+-- how many crossfades a node of this operator is itself: 1 for a crossfade, 0 for any other
 abbrev pub own_crossfades : Op → ℕ
 own_crossfades (Crossfade overlap) = 1
 own_crossfades _ = 0
@@ -88,7 +89,7 @@ crossfade_counts nodes = counts_after [] nodes
 abbrev pub crossfades_from : List Node → Node → ℕ
 crossfades_from nodes node = crossfades_over (crossfade_counts nodes) node
 
--- what a node has to meet whose children are among the nodes `below`
+-- what a node of a well-formed plan has to meet, whose children are among the nodes `below`
 pub record IsNodeOver (below : List Node) (node : Node) : Type 0 where
   pub children : All (λ child. child < length below) node.children
   pub few : length node.children ≤ MAX_CHILDREN
@@ -114,7 +115,7 @@ FeedsBuffer plan buffer i = (node : ℕ) × FeedsFrom plan buffer i node
 abbrev pub ReadsBuffer : Plan → (buffer i : ℕ) → Type 0
 ReadsBuffer plan buffer i = (reader : Node) × (slice_get plan.nodes i ≡ Some reader) × (reader.op ≡ Buffer buffer)
 
--- exactly one number has the property `such`
+-- exactly one number has the property `such`: one has it, and any other that has it is the same
 abbrev pub IsOfOne : (ℕ → Type 0) → Type 0
 IsOfOne such = (i : ℕ) × such i × ((j : ℕ) → such j → j ≡ i)
 

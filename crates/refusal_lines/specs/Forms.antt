@@ -1,11 +1,11 @@
 -- The forms that lines have.
 use Rattle.std.specs.Prelude.{ℕ, List, ◌++◌, codes, decimal}
 
--- a line of a text and a number
+-- the line of a refusal at a place: a text, and the number of a byte, a token or a line
 abbrev pub at_place : List ℕ → ℕ → List ℕ
 at_place text place = text ++ codes " " ++ decimal place ++ codes "\n"
 
--- a line of a text and a name
+-- the line of a refusal that names a file or an output: a text and the name
 abbrev pub of_name : List ℕ → List ℕ → List ℕ
 of_name text name = text ++ codes " " ++ name ++ codes "\n"
 

@@ -41,7 +41,8 @@ clock_halt (Nested node) = Refused (Clocks (Nested node))
 clock_halt TooManyClocks = Refused (Clocks TooManyClocks)
 clock_halt ClockFault.Memory = Memory
 
--- the fault of a plan with an output that needs an infallible node and has none: it names the first one
+-- the fault of a plan whose outputs may have gaps: it names the first output that needs an infallible node and has
+-- none
 pub record IsGapped (plan : Plan) (fault : StationFault) : Type 0 where
   pub name : List ℕ
   pub fault_is : fault ≡ FallibleOutput name

@@ -35,7 +35,7 @@ abbrev pub list_in : Op → List (List ℕ)
 list_in (Playlist name again) = name ∷ []
 list_in _ = []
 
--- the names in each of these, one after another
+-- the names that `names` finds in each item of a list, one after another
 abbrev pub in_each : {A : Type 0} → (A → List (List ℕ)) → List A → List (List ℕ)
 in_each names [] = []
 in_each names (x ∷ xs) = names x ++ in_each names xs
@@ -97,11 +97,11 @@ wav_number NotPcm = 4
 wav_number NoData = 5
 wav_number Empty = 6
 
--- what becomes of a file, in a word
+-- the member `state`, which says in a word what becomes of a file
 abbrev pub state_member : (word : List ℕ) → List Token
 state_member word = text_member (codes "state") word
 
--- why a file or a list is of no use
+-- the members that say why a file or a list is of no use
 abbrev pub unusable_members : Unusable → List Token
 unusable_members NotThere = state_member (codes "missing")
 unusable_members TooLong = state_member (codes "too large")

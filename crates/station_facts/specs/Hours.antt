@@ -26,11 +26,11 @@ cases_to n (node ∷ nodes) = cases_to (min (n + cases_in node.op) 100001) nodes
 abbrev pub most_spans : List Node → ℕ
 most_spans nodes = min (100000 / max (cases_to 0 nodes) 1) 2000
 
--- a span: its first second, and the second behind its last one
+-- a span of seconds of the week as a JSON list: its first second, and the second behind its last one
 abbrev pub span_list : Span → List Token
 span_list span = begin_array ∷ number (decimal span.from) ∷ number (decimal span.to) ∷ end_array ∷ []
 
--- the spans of a case, unless they are more than `most`
+-- the member `spans`, the spans of a case; none if they are more than `most`
 abbrev pub spans_member : (most : ℕ) → List Span → List Token
 spans_member most spans = if nat_le (length spans) most then list_member (codes "spans") span_list spans else []
 
@@ -38,8 +38,8 @@ spans_member most spans = if nat_le (length spans) most then list_member (codes 
 abbrev pub hours_object : (most : ℕ) → List Span → List Token
 hours_object most spans = object (number_member (codes "count") (length spans) ++ spans_member most spans)
 
--- a switch: its number, the byte of the script at which the call that made it begins, the spans in which each case is the
--- first that holds, and those in which none holds
+-- The JSON object of a switch: its number, the byte of the script at which the call that made it begins, the spans in
+-- which each case is the first that holds, and those in which none holds.
 abbrev pub switch_of : (most place : ℕ) → (cases : List (List Span)) → (none : List Span) → (at : ℕ) → List Token
 switch_of most place cases none at = object (number_member (codes "source") place
     ++ (number_member (codes "at") at

@@ -75,7 +75,7 @@ pub record HoldsSome (idle : Type 0) (device : Bool) (files : Files) (outputs : 
   pub risen : device ≡ true → (others ≡ []) ⊎ Rose old.writes first ⊎ Rose first new.writes
   pub parts : HoldsParts first files created after new.writes
 
--- the file of an output that has its last bytes
+-- an output as a file that is complete: with the most bytes that it holds
 abbrev pub whole_of : OutputPart → OutputFile
 whole_of output = record { name = output.name; bytes = output.most }
 

@@ -11,7 +11,7 @@ use Rattle.run_records.specs.Records.{Run, answers_of, puts_of}
 use Rattle.stations.specs.Stations.{Station, bare}
 use Rattle.stations.specs.Streams.{gaps_of}
 
--- the line of an output that was rendered, without its line end
+-- what a report says of an output that was rendered, without its line end: its name, its samples and its gaps
 abbrev pub counted_part : (name : List ℕ) (samples gaps : ℕ) → List ℕ
 counted_part name samples gaps = codes "output " ++ name ++ codes " samples " ++ decimal samples ++ codes " gaps "
     ++ decimal gaps

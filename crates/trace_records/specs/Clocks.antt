@@ -31,7 +31,7 @@ pub record IsFront {A : Type 0} (front whole : List A) : Type 0 where
 abbrev pub Agree : {A : Type 0} → List A → List A → Type 0
 Agree one other = IsFront one other ⊎ IsFront other one
 
--- buffer b joins two clocks
+-- buffer b joins two clocks: one main clock feeds it, and another reads it
 abbrev pub Joins : Setting → ℕ → Type 0
 Joins base b = feeder base b ≡ reader base b → ⊥
 
@@ -58,7 +58,7 @@ Suits capacity put got (Took b (Some chunk)) = slice_get put got ≡ Some chunk
 Suits capacity put got (Given b chunk true) = length put < capacity + got
 Suits capacity put got (Given b chunk false) = length put ≡ capacity + got
 
--- the buffer of a call
+-- the number of the buffer on which a call is
 abbrev pub buffer_of : Call → ℕ
 buffer_of (Took b answer) = b
 buffer_of (Given b chunk accepted) = b

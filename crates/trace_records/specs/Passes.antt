@@ -12,7 +12,8 @@ use Rattle.run_records.specs.Records.{AreWindows, Run, answers_of, capacity_of, 
 use Rattle.trace_records.specs.Clocks.{AreAnswered, AreInOrder, HasReplayed, Log, Waits, got_in, put_by, takes_in}
 use Rattle.trace_records.specs.Told.{are_legal}
 
--- the text is what a trace tells of this run
+-- the text is what a trace tells of this run: of each window of each buffer, which puts were accepted and which takes
+-- got a chunk
 abbrev pub IsTold : Setting → (text : ℕ → Log) → Run → Type 0
 IsTold base text run = (b : ℕ) → b < length base.plan.buffers → map text_of_window (windows_of run b) ≡ text b
 
@@ -23,7 +24,7 @@ pub record IsOrderedText (base : Setting) (clocks W N : ℕ) (text : ℕ → Log
   pub told : IsTold base text run
   pub ordered : IsOrdered (setting_in base run) clocks lawful.accepted N
 
--- no answers for any buffer
+-- no answers for any buffer: what follows calls after which no take is answered
 abbrev pub nothing : ℕ → List Answer
 nothing b = []
 

@@ -4,11 +4,11 @@ use Rattle.frame_core.specs.declared.cell.Cell.{Cell}
 use Rattle.trace_turns.specs.declared.told.Mark.{Mark}
 use Rattle.trace_turns.specs.Answering.{BufferState, begun}
 
--- the mark before the first call
+-- the mark of a clock that has made no call on a buffer: all counts are 0
 abbrev pub no_mark : Mark
 no_mark = record { put_at = 0; take_at = 0; got = 0 }
 
--- how far the calls of a run came on a buffer
+-- how far the calls of a run came on a buffer: its counts of puts, of takes and of chunks that were got
 abbrev pub mark_of : BufferState → Mark
 mark_of s = record { put_at = s.put_at; take_at = s.take_at; got = s.got }
 
@@ -44,7 +44,8 @@ resumed s fed read mark = record {
   gone = s.gone;
 }
 
--- over each buffer the run of clock m goes on at its mark
+-- each buffer of `new` is that of `old` where the run of clock m goes on at its mark; `feeders` and `readers` name the
+-- main clocks of its ends
 abbrev pub HaveResumed : (feeders readers : List ℕ) → (m : ℕ) → List Mark → List BufferState → List BufferState → Type 0
 HaveResumed feeders readers m marks old new = (b : ℕ) (d : BufferState) (e : Mark) → b < length old
     → slice_index_or new b d

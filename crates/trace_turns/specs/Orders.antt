@@ -28,10 +28,10 @@ AreTurns base clocks W N text (turn ∷ turns) made chunks =
     (next : ℕ → List (List Cell)) × IsTurn base clocks (timed text W N) turn made chunks next
     × AreTurns base clocks W N text turns (made_then turn made) next
 
--- no tick of any clock
+-- how many ticks each clock has made before a replay: none
 abbrev pub no_ticks : ℕ → ℕ
 no_ticks k = 0
 
--- no chunk of any buffer
+-- the chunks of each buffer before a replay: none
 abbrev pub no_chunks : ℕ → List (List Cell)
 no_chunks b = []

@@ -57,7 +57,7 @@ AreFound station ends window ticks states turns = (text : ℕ → Log)
     → AreFit (base_at station) window ticks text states ends
     → AreTurns (base_at station) station.clocks.now.running window ticks text turns no_ticks no_chunks
 
--- each text that the buffers told before, they tell after
+-- each text that the buffers told before, with windows that end as `ends` says, they tell after
 abbrev pub TellOn : Station → List Ends → (window ticks : ℕ) → (before after : List BufferState) → Type 0
 TellOn station ends window ticks before after = (text : ℕ → Log)
     → AreFit (base_at station) window ticks text before ends → AreFit (base_at station) window ticks text after ends

@@ -22,7 +22,7 @@ use Rattle.trace_records.specs.Clocks.{AreWhole, Log, puts_in, takes_in}
 use Rattle.trace_records.specs.Passes.{IsFormed, IsMadeBy, ticks_in}
 use Rattle.trace_turns.specs.Answering.{AllStand, BufferState, begun}
 
--- what stands where there is no buffer
+-- the state that stands for a buffer which the plan does not have: without a chunk, an answer or a clock
 abbrev pub no_state : BufferState
 no_state = record {
   capacity = 0;
@@ -91,12 +91,12 @@ pub record RunsAt (base : Setting) (text : ℕ → Log) (W N m n : ℕ) (chunks 
   pub of : AreOf base text m chunks states
   pub whole : AreWhole base text W N m n (λ t. ticks_in base accepted calls m t)
 
--- on each buffer the clock is at the end of window j
+-- on each buffer the clock made just the calls that the windows up to window j have
 abbrev pub AreAtEnd : List BufferState → List Ends → (j : ℕ) → Type 0
 AreAtEnd states ends j = (b : ℕ) (s : BufferState) (e : Ends) → b < length states
     → IsAtEnd (slice_index_or states b s) (slice_index_or ends b e) j
 
--- on some buffer the clock is not at the end of window j
+-- on some buffer the clock made other calls than the windows up to window j have
 pub record IsOffEnd (states : List BufferState) (ends : List Ends) (j : ℕ) : Type 0 where
   pub buffer : ℕ
   pub known : buffer < length states
@@ -135,7 +135,8 @@ pub record MayTurn (score : Score) (W N m : ℕ) (parts : EngineParts) (states :
   pub ends_are : (b : ℕ) (e : Ends) → b < length score.base.plan.buffers
       → AreEnds (score.text b) (slice_index_or ends b e)
 
--- buffers that tell the answers of a text
+-- buffers that tell the answers of a text: one for each of the plan, with its capacity, and with the answers that the
+-- text has of its puts and takes
 pub record AreTold (base : Setting) (text : ℕ → Log) (states : List BufferState) : Type 0 where
   pub many : length states ≡ length base.plan.buffers
   pub puts : (b : ℕ) (d : BufferState) → b < length base.plan.buffers
@@ -152,7 +153,8 @@ pub record AreSides (base : Setting) (feeders readers : List ℕ) : Type 0 where
   pub fed : (b : ℕ) → b < length base.plan.buffers → slice_index_or feeders b 0 ≡ feeder base b
   pub read : (b : ℕ) → b < length base.plan.buffers → slice_index_or readers b 0 ≡ reader base b
 
--- each buffer begins a run of clock m
+-- each buffer of `new` is that of `old` at the beginning of a run of clock m: it counts as fed or read by the clock
+-- where `feeders` or `readers` name m
 abbrev pub HaveBegun : (feeders readers : List ℕ) → (m : ℕ) → List BufferState → List BufferState → Type 0
 HaveBegun feeders readers m old new = (b : ℕ) (d : BufferState) → b < length old
     → slice_index_or new b d
@@ -177,7 +179,7 @@ pub record AreFit (base : Setting) (W N : ℕ) (text : ℕ
   pub formed : IsFormed (length base.plan.buffers) W N text
   pub ends_are : (b : ℕ) (e : Ends) → b < length base.plan.buffers → AreEnds (text b) (slice_index_or ends b e)
 
--- over any plan, what the buffers told they tell still
+-- whatever plan and text the buffers fitted before, they fit after: their answers and the ends of their windows stay
 abbrev pub StayFit : List Ends → (W N : ℕ) → (before after : List BufferState) → Type 0
 StayFit ends W N before after = (base : Setting) (text : ℕ → Log) → AreFit base W N text before ends
     → AreFit base W N text after ends
