@@ -52,7 +52,7 @@ pub fn steady_seconds(op: &Op, at: WeekSecond) -> u32
     }
 }
 
-// For how many seconds, at most a week, every predicate stays as it is at this second.
+// For how many seconds from this one on, at most a week, each predicate stays true or false as it is now.
 fn least_steady(preds: &[SharedPred], at: WeekSecond) -> u32
     ensures some { 0 < result }
     ensures most { result ≤ 604800 }

@@ -115,7 +115,7 @@ impl NodeState {
         }
     }
 
-    /// Gives a crossfade the next slot of its child.
+    /// Gives a crossfade the next slot of its child, a cell or nothing.
     pub fn feed(&mut self, slot: Option<Cell>)
         requires { wants self.old ≡ true }
         ensures fits { (library : Sounds) (children : ℕ) → Fits library children self.old

@@ -36,7 +36,7 @@ impl NodeState {
     }
 }
 
-// Takes what the reader takes at the start of a tick, and then begins the tick.
+// Takes from the buffer all chunks that a reader takes at the start of a tick, and then begins the tick.
 fn take_all<T: Taps>(reader: &mut ReaderState, buffer: u32, taps: &mut T) -> Result<(), Memory>
     requires { buffer < T.buffers taps.old }
     ensures buffers { T.buffers taps.new ≡ T.buffers taps.old }

@@ -74,7 +74,7 @@ impl Class {
     }
 }
 
-/// The index of the first of these tokens among `total`, of which they are the last.
+/// The index of the token at which reading stands: the first of these among `total`, of which they are the last.
 pub fn place(total: usize, tokens: &[Token]) -> u32
     requires within { length tokens.now ≤ total }
     requires small { total < 2 ^ 32 }
@@ -83,7 +83,7 @@ pub fn place(total: usize, tokens: &[Token]) -> u32
     (total - tokens.len()) as u32
 }
 
-/// Whether a token of this class stands first.
+/// Whether a token of this class, such as a name or a comma, stands first.
 pub fn next_is(tokens: &[Token], class: Class) -> bool
     ensures { result ≡ next (is_in class) (kinds tokens.now) }
 {

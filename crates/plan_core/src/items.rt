@@ -18,7 +18,7 @@ impl<T> Model for Items<T> {
 }
 
 impl<T> Items<T> {
-    /// No items. It takes no memory.
+    /// A list of a plan without items. It takes no memory.
     pub fn new(alloc: Global) -> Items<T>
         ensures { result ≡ [] }
     {
@@ -34,14 +34,14 @@ impl<T> Items<T> {
         Items { items }
     }
 
-    /// The items, to be read.
+    /// The items of a list of a plan, to be read.
     pub fn as_slice(&self) -> &[T]
         ensures { result.now ≡ self.now }
     {
         self.items.as_slice()
     }
 
-    /// How many items there are.
+    /// How many items a list of a plan has.
     pub fn len(&self) -> usize
         ensures { result ≡ length self.now }
     {
@@ -59,7 +59,7 @@ impl<T: Drop> Items<T> {
         Ok(())
     }
 
-    /// Keeps the first `keep` items alone.
+    /// Drops the items of a list behind its first `keep` ones.
     pub fn truncate(&mut self, keep: usize)
         ensures { self.new ≡ take keep self.old }
     {

@@ -34,14 +34,14 @@ impl Preds {
         Preds { preds }
     }
 
-    /// The predicates, to be read.
+    /// The predicates of a switch, one for each child, to be read.
     pub fn as_slice(&self) -> &[SharedPred]
         ensures { map view_shared result.now ≡ self.now }
     {
         self.preds.as_slice()
     }
 
-    /// How many predicates there are.
+    /// How many predicates a switch has.
     pub fn len(&self) -> usize
         ensures { result ≡ length self.now }
     {

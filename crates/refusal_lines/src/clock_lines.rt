@@ -24,7 +24,7 @@ pub fn clock_line(alloc: Global, fault: &ClockFault) -> Result<String, Memory>
     }
 }
 
-// The line of a source, `node`, that must lie in two clocks.
+// The line for source number `node`, which must lie in two clocks at once.
 fn two_clocks(
     alloc: Global,
     node: u32,
@@ -57,7 +57,7 @@ fn sub_clock(alloc: Global, node: u32) -> Result<String, Memory>
     Ok(format!(in alloc; "crossfade {node}")?)
 }
 
-// The line of a crossfade, `node`, that lies in its own clock.
+// The line for a crossfade, source number `node`, that lies in the clock which it drives itself.
 fn nested(alloc: Global, node: u32) -> Result<String, Memory>
     ensures { IfOk result (λ line. string_bytes line
         ≡ codes "E27 crossfade " ++ decimal node ++ codes " lies in its own clock\n") }

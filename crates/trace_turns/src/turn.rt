@@ -26,6 +26,7 @@ impl Sink for NoSink {
 
     ghost told = { λ s. faults_alone 0 };
 
+    // Drops the bytes of an output: a replay that is only judged writes no file.
     fn append(&mut self, _piece: &[u8]) -> Result<(), Failed>
         ensures sure { result ≡ Ok tt }
     {
