@@ -12,8 +12,8 @@ use Rattle.op_mix.specs.Stretches.{Lanes, samples_of}
 use Rattle.node_states.specs.declared.state.NodeState.{NodeState}
 use Rattle.node_states.specs.declared.state.NodeState.TheVariants.{Leaf, Select, Turn, Mix, Cross, Read, Idle}
 
--- it is a crossfade that holds as much of a track as overlaps, and nothing else: each cell that goes on with it settles
--- one item
+-- Whether a state is that of a crossfade through which cells of its child pass one by one. It holds as much of a track
+-- as overlaps, and nothing else: each cell that goes on with it settles one item.
 abbrev pub passes : NodeState → Bool
 passes (Leaf state) = false
 passes (Select state) = false

@@ -19,17 +19,17 @@ use Rattle.op_mix.specs.Mixings.{mixing_of}
 use Rattle.node_states.specs.declared.state.NodeState.{NodeState}
 use Rattle.node_states.specs.declared.state.NodeState.TheVariants.{Leaf, Select, Turn, Mix, Cross, Read, Idle}
 
--- the state is that of this leaf after it gave so many cells
+-- a state of a leaf is the one that this leaf has after it gave so many cells
 pub record LeafStands (library : Sounds) (leaf : TheLeaf) (given : ℕ) (state : LeafState) : Type 0 where
   pub plays : leaf_of state ≡ leaf
   pub stands : StandsAt library state given
 
--- a selection by this rule used this child when it last gave
+-- a state of a fallback, a switch or a sequence has this rule, and knows the child that it used when it last gave
 pub record SelectStands (rule : Rule) (last : Option ℕ) (state : Selection) : Type 0 where
   pub rule_is : state.rule ≡ rule
   pub last_is : state.last ≡ last
 
--- the choice is a selection's, whose state says which child it used when it last gave
+-- the choice of a node is by a rule; its state knows the child that it used when it last gave
 abbrev pub HasSelected : Choice → (last : Option ℕ) → Selection → Type 0
 HasSelected (Selects rule) last state = SelectStands rule last state
 HasSelected (TakesTurns turn) last state = ⊥
@@ -99,7 +99,7 @@ Fits library children (Cross state) = ⊤
 Fits library children (Read reader) = ⊤
 Fits library children Idle = ⊤
 
--- whether it is a crossfade whose item is not settled
+-- whether a state is that of a crossfade that needs another slot of its child, since its next item is not settled yet
 abbrev pub wants : NodeState → Bool
 wants (Leaf state) = false
 wants (Select state) = false
@@ -142,6 +142,6 @@ abbrev pub reads_in : Setting → ℕ → Option Node → Bool
 reads_in setting i None = false
 reads_in setting i (Some node) = reads (work_at setting i node)
 
--- node i reads a buffer
+-- whether node i of the plan reads a buffer
 abbrev pub reads_at : Setting → ℕ → Bool
 reads_at setting i = reads_in setting i (slice_get setting.plan.nodes i)

@@ -33,7 +33,8 @@ pub fn of_name(alloc: Global, text: &str, name: &str) -> Result<String, Memory>
     Ok(format!(in alloc; "{text} {name}\n")?)
 }
 
-/// A line of what is wrong with a statement; `number` is that of the refusal, as `E12`.
+/// The line of a refusal of a statement: its number, as `E12`, the number of the statement, and a text of what is
+/// wrong.
 pub fn at_statement(
     alloc: Global,
     number: &str,
@@ -45,7 +46,8 @@ pub fn at_statement(
     Ok(format!(in alloc; "{number} statement {statement}: {text}\n")?)
 }
 
-/// A line of what is wrong at a token of a statement; `number` is that of the refusal, as `E08`.
+/// The line of a refusal at a token of a statement: its number, as `E08`, that of the statement, a text of what is
+/// wrong, and the number of the token.
 pub fn at_token(
     alloc: Global,
     number: &str,

@@ -14,7 +14,7 @@ use Rattle.stations.specs.Findings.{Fits, IsFound, first_name}
 use Rattle.stations.specs.Reports.{checked_line}
 use Rattle.stations.specs.Stations.{Station}
 
--- each output of a plan has an infallible node, or is written with `fallible=true`
+-- no output of a plan might have gaps: each has an infallible node, or is written with `fallible=true`
 pub record IsUngapped (plan : Plan) : Type 0 where
   pub mark : ℕ → Bool
   pub marking : IsMarking plan.nodes mark

@@ -112,7 +112,7 @@ abbrev pub use_word : (fits : Bool) → List ℕ
 use_word true = codes "used"
 use_word false = codes "too large"
 
--- the members of a sound: whether it is used, and its facts
+-- the members of a sound: whether it is used, its format and its lengths
 abbrev pub facts_members : Rules → Facts → List Token
 facts_members rules facts = state_member (use_word (nat_le facts.bytes rules.file)) ++ (kind_member facts.kind
     ++ (number_member (codes "bits") (bits_of facts.wide) ++ (number_member (codes "rate") facts.rate
@@ -125,7 +125,7 @@ look_members rules Unread = state_member (codes "unread")
 look_members rules (Bad fault) = unusable_members fault
 look_members rules (Sound facts) = facts_members rules facts
 
--- the object of the audio file of this name
+-- the JSON object of the audio file of this name, by what a look at it found
 abbrev pub sound_object : Rules → (name : List ℕ) → Look → List Token
 sound_object rules name found = object (text_member (codes "name") name ++ look_members rules found)
 
@@ -136,7 +136,7 @@ list_look_members (list_look.Bad fault) = unusable_members fault
 list_look_members (list_look.Names names skipped) = state_member (codes "read")
     ++ (list_member (codes "entries") (λ name. string name ∷ []) names.items ++ number_member (codes "skipped") skipped)
 
--- the object of the list of this name
+-- the JSON object of the list of this name, by what a look at it found
 abbrev pub list_object : (name : List ℕ) → ListLook → List Token
 list_object name found = object (text_member (codes "name") name ++ list_look_members found)
 
@@ -150,12 +150,14 @@ abbrev pub all_bytes : Rules → List Look → ℕ
 all_bytes rules [] = 0
 all_bytes rules (found ∷ looks) = count_or_none (counted_as rules found) + all_bytes rules looks
 
--- the most bytes of all sounds that are used, of one sound, of a list and of a script
+-- the members for the limits of sizes: the most bytes of all sounds that are used, of one sound, of a list and of a
+-- script
 abbrev pub limit_members : Rules → List Token
 limit_members rules = number_member (codes "most") rules.all ++ (number_member (codes "file_most") rules.file
     ++ (number_member (codes "list_most") MAX_LIST_BYTES ++ number_member (codes "script_most") MAX_SCRIPT_BYTES))
 
--- the whole object of a plan and its files
+-- the whole JSON object of a plan and its files: the plan, what looks at its lists and audio files found, the bytes of
+-- all sounds, and the limits
 abbrev pub files_object : Rules → Plan → (ats : List ℕ) → Inferred → List ListLook → List Look → List Token
 files_object rules plan ats inferred list_looks looks = object (plan_members plan ats inferred
     ++ (paired_member (codes "lists") list_object (lists_of plan) list_looks

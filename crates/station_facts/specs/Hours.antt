@@ -16,7 +16,7 @@ abbrev pub cases_in : Op → ℕ
 cases_in (Switch sensitive preds) = length preds + 1
 cases_in _ = 0
 
--- n and how many cases these sources have; where they are more than 100,000, 100,001
+-- how many cases these sources and others with n cases have; where they are more than 100,000, 100,001
 abbrev pub cases_to : ℕ → List Node → ℕ
 cases_to n [] = n
 cases_to n (node ∷ nodes) = cases_to (min (n + cases_in node.op) 100001) nodes
@@ -34,7 +34,7 @@ span_list span = begin_array ∷ number (decimal span.from) ∷ number (decimal 
 abbrev pub spans_member : (most : ℕ) → List Span → List Token
 spans_member most spans = if nat_le (length spans) most then list_member (codes "spans") span_list spans else []
 
--- the object of a case: how many spans it has, and these, unless they are more than `most`
+-- the JSON object of a case: how many spans of the week it has, and these, unless they are more than `most`
 abbrev pub hours_object : (most : ℕ) → List Span → List Token
 hours_object most spans = object (number_member (codes "count") (length spans) ++ spans_member most spans)
 
@@ -64,12 +64,12 @@ switches_from most place (node ∷ nodes) [] = []
 switches_from most place (node ∷ nodes) (at ∷ ats) =
     source_hours most place node.op at ++ switches_from most (place + 1) nodes ats
 
--- the object of the switches among these sources; no more than `most` spans are told of a case
+-- the JSON object of the switches among these sources; no more than `most` spans are told of a case
 abbrev pub switches_object : (most : ℕ) → List Node → (ats : List ℕ) → List Token
 switches_object most nodes ats = object (number_member (codes "most") most
     ++ (key (codes "switches") ∷ begin_array ∷ (switches_from most 0 nodes ats ++ end_array ∷ [])))
 
--- the whole object of the hours of a plan
+-- the whole JSON object of the hours of a plan: when in the week each case of its switches holds
 abbrev pub week_object : Plan → (ats : List ℕ) → List Token
 week_object plan ats = switches_object (most_spans plan.nodes) plan.nodes ats
 

@@ -32,7 +32,7 @@ abbrev pub sink_name : SinkPlan → List ℕ
 sink_name (Output name node fallible wide) = name
 sink_name (Feed buffer node) = []
 
--- the name of the first sink for which `such` holds
+-- the name of the first sink for which `such` holds; None if there is none
 abbrev pub first_name : (such : SinkPlan → Bool) → List SinkPlan → Option (List ℕ)
 first_name such [] = None
 first_name such (sink ∷ sinks) = if such sink then Some (sink_name sink) else first_name such sinks
@@ -47,19 +47,19 @@ is_too_long plan ticks (Output name node fallible wide) = is_none
     (header_at wide (node_kind plan node) plan.rate (ticks * plan.frame))
 is_too_long plan ticks (Feed buffer node) = false
 
--- these are the audio files of the plan
+-- loading the audio files of the plan from the files of a shelf gives this library
 abbrev pub IsLoaded : Files → Plan → (library : Sounds) → Type 0
 IsLoaded files plan library = load_of (rules_of plan) files plan.nodes ≡ Ok library
 
--- these are the audio files of the plan, and each output has a node that is infallible, or is written with
--- `fallible=true`
+-- The plan has these audio files, and no output of it might have gaps: each has a node that is infallible, or is
+-- written with `fallible=true`.
 pub record IsSafe (files : Files) (plan : Plan) (library : Sounds) : Type 0 where
   pub loaded : IsLoaded files plan library
   pub mark : ℕ → Bool
   pub marking : IsMarking plan.nodes mark
   pub none : first_name (refuses mark) plan.sinks ≡ None
 
--- these are the audio files and the clocks of the plan, and no output needs an infallible node and has none
+-- The plan has these audio files and these clocks, and no output that needs an infallible node lacks one.
 pub record IsClocked (files : Files) (plan : Plan) (library : Sounds) (clocks : ClockMap) : Type 0 where
   pub safe : IsSafe files plan library
   pub map : IsClockMap plan clocks
@@ -70,7 +70,7 @@ pub record IsRenderable (files : Files) (plan : Plan) (ticks : ℕ) (library : S
   pub sounds : IsLibrary library
   pub none : first_name (is_too_long plan ticks) plan.sinks ≡ None
 
--- the audio files of the plan are not loaded, for this fault
+-- loading the audio files of the plan from the files of a shelf ends at this fault
 abbrev pub IsUnloaded : Files → Plan → LoadFault → Type 0
 IsUnloaded files plan fault = load_of (rules_of plan) files plan.nodes ≡ Err fault
 

@@ -22,8 +22,8 @@ pub record OutputPart : Type 0 where
   pub least : List ℕ
   pub most : List ℕ
 
--- the name holds at least and at most these bytes; or, where its closing failed, a prefix of them or what it held
--- before; nothing else changed
+-- In `after` the file of this output begins with its least bytes and is a prefix of its most; or, where its closing
+-- failed, it is a prefix of them or what it was before. No other file changed.
 abbrev pub HoldsBetween : (failed : Type 0) → Files → OutputPart → Files → Type 0
 HoldsBetween failed files output after =
     ((part : List ℕ) × IsPrefix output.least part × IsPrefix part output.most

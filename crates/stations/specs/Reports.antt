@@ -16,7 +16,7 @@ abbrev pub counted_part : (name : List ℕ) (samples gaps : ℕ) → List ℕ
 counted_part name samples gaps = codes "output " ++ name ++ codes " samples " ++ decimal samples ++ codes " gaps "
     ++ decimal gaps
 
--- the line of an output that was rendered
+-- the line of a report for an output that was rendered: its name, its samples and its gaps
 abbrev pub rendered_line : (name : List ℕ) (samples gaps : ℕ) → List ℕ
 rendered_line name samples gaps = counted_part name samples gaps ++ codes "\n"
 

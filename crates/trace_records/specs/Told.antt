@@ -15,13 +15,13 @@ pub record IsToldLegal (X : Type 0) (capacity opening : ℕ) (puts takes : List 
   pub takes_are : map is_some taken ≡ takes
   pub legal : Legal capacity rest queue given taken
 
--- how many answers are true
+-- how many of these answers are true: puts that were accepted, or takes that got a chunk
 abbrev pub yes : List Bool → ℕ
 yes [] = 0
 yes (true ∷ answers) = suc (yes answers)
 yes (false ∷ answers) = yes answers
 
--- P holds at each false answer, of the number of true ones before it
+-- P holds at each false answer, a refused put or an empty take, of the number of true answers before it
 abbrev pub AtNo : List Bool → (ℕ → Type 0) → Type 0
 AtNo answers P = (before after : List Bool) → answers ≡ before ++ false ∷ after → P (yes before)
 
@@ -64,7 +64,7 @@ refusals_fit capacity count got floor (false ∷ puts) takes =
     && refusals_fit capacity count (passed capacity count got floor takes).got
     (passed capacity count got floor takes).floor puts (passed capacity count got floor takes).left
 
--- whether the first `count` answers are true, or all where there are fewer
+-- whether the first `count` of these answers are true, or all where there are fewer
 abbrev pub begins_true : ℕ → List Bool → Bool
 begins_true count answers = list_all (λ answer. answer) (take count answers)
 

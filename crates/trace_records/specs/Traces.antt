@@ -12,7 +12,8 @@ use Rattle.trace_log.specs.Values.{TraceValue}
 use Rattle.trace_records.specs.Clocks.{Log}
 use Rattle.trace_records.specs.Passes.{IsOrderedText}
 
--- a plan with its files, its clocks and its start second, as the streams rest on them, without answers
+-- the setting of a plan with its audio files, its clocks and its start second, before its buffers have answered any
+-- take
 abbrev pub base_of : Plan → Sounds → ClockMap → (start : ℕ) → Setting
 base_of plan library clocks start = record {
   plan = plan;
@@ -22,7 +23,7 @@ base_of plan library clocks start = record {
   answers = λ buffer. [];
 }
 
--- the answers of a window, as a pair
+-- the answers of a window, of its puts and of its takes, as a pair
 abbrev pub pair_of : Answers → List Bool × List Bool
 pair_of answers = (answers.puts, answers.takes)
 

@@ -128,8 +128,8 @@ fn refusals_fit(capacity: u32, opening: u32, puts: &[bool], takes: &[bool]) -> b
     true
 }
 
-// Passes over takes of a window that come before a refused put: from a place on, to the first empty take that has got
-// `count` chunks or more before it, which is how many were there or put before the refused one.
+// Passes over the takes of a window that come before a refused put, from a place on: to the first empty take before
+// which `count` chunks were got, which is how many were there or put before the refused one.
 fn pass(capacity: u32, count: u64, from: Place, takes: &[bool]) -> Place
     requires at { from.at ≤ length takes.now }
     requires got { from.got ≤ from.at }

@@ -174,7 +174,8 @@ pub fn sides_of(alloc: Global, plan: &Plan, clocks: &ClockMap) -> Result<Sides, 
     })
 }
 
-/// Whether each buffer's windows, as a trace tells them in `logs`, are those of some queue of its capacity.
+/// Whether each buffer's windows, as a trace tells them in `logs`, are legal: a queue of its capacity can have
+/// answered so.
 pub fn all_legal(plans: &[BufferPlan], logs: &[BufferLog]) -> bool
     requires buffers { All IsBuffer plans.now }
     requires many { length logs.now ≡ length plans.now }
@@ -191,7 +192,7 @@ pub fn all_legal(plans: &[BufferPlan], logs: &[BufferLog]) -> bool
     true
 }
 
-// Whether the windows of a buffer, as its log tells them, are those of some queue of this capacity.
+// Whether the windows of a buffer, as its log tells them, are legal: a queue of this capacity can have answered so.
 fn is_legal_log(capacity: u32, log: &BufferLog) -> bool
     requires { 1 ≤ capacity }
     ensures { result ≡ are_legal capacity 0 (map pair_of log.now) }

@@ -60,7 +60,7 @@ fn can_serve(
 }
 
 // Foresees whether the chunks that are there suffice for the next tick of a clock in its turn, in window number
-// `window`: whether each buffer that only others feed can serve it.
+// `window`: whether each buffer that the clock reads and another feeds can serve it.
 fn can_go(
     engine: &ClockEngine<'_, NoSink>,
     buffers: &[ToldBuffer],

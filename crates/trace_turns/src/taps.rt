@@ -181,7 +181,7 @@ impl Taps for ToldTaps {
 
     ghost same_trans = { λ s t u a b. same_buffers_trans s.buffers.items t.buffers.items u.buffers.items a b };
 
-    // Answers a take as the trace tells. Once a call had no right answer it gets nothing.
+    // Answers a take as the trace tells. Once a call of the run could not be answered, each take gets nothing.
     fn take(&mut self, buffer: u32) -> Result<Option<Chunk>, Memory> {
         match self.course {
             Course::Goes => self.take_told(buffer),
@@ -190,7 +190,7 @@ impl Taps for ToldTaps {
         }
     }
 
-    // Answers a put as the trace tells. Once a call had no right answer the chunk is dropped.
+    // Answers a put as the trace tells. Once a call of the run could not be answered, each chunk is dropped.
     fn give(&mut self, buffer: u32, chunk: Chunk) -> Result<Gave, (Chunk, Memory)> {
         match self.course {
             Course::Goes => self.give_told(buffer, chunk),

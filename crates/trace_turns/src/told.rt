@@ -103,7 +103,7 @@ impl Model for ToldBuffer {
 
 impl ToldBuffer {
     /// Begins a run of a clock from its first tick on, which feeds the buffer or not, and reads it or not. What the
-    /// clock feeds is put anew, so its chunks are dropped; the chunks of other clocks stay.
+    /// clock feeds it puts anew, so the buffer is empty then; the chunks of another clock stay.
     pub fn begin(&mut self, fed: bool, read: bool)
         ensures { self.new ≡ begun self.old fed read }
     {
