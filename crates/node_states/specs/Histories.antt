@@ -25,7 +25,7 @@ history_of setting sub clock past = record {
   past = past;
 }
 
--- what the nodes of the clock do at the instant after its past
+-- the moment after the past of a clock: what its nodes offer at the next instant, and which of them are demanded
 abbrev pub next_of : History → Moment
 next_of history = moment_after history.setting history.sub history.clock history.past
 

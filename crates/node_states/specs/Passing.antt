@@ -29,7 +29,7 @@ abbrev pub asked : (through : Bool) → (j : ℕ) → ℕ
 asked true j = suc j
 asked false j = 0
 
--- the part of node i at an instant if it gave there, and otherwise silence
+-- what node i did at an instant if it gave a cell there, and otherwise silence
 abbrev pub given_part : Moment → ℕ → Part
 given_part moment i = if gives moment i then part_at moment.parts i else silent
 
@@ -48,7 +48,7 @@ pub record ChildFills (slots_of : ℕ
   pub there : slice_get children 0 ≡ Some child
   pub fills : LaneFills slots_of n count title (samples_of lefts child count) (samples_of rights child count)
 
--- the samples of node i over so many instants, as cells of this title that begin no track
+-- the samples that node i gave over so many instants, as cells of this title that begin no track
 abbrev pub cells_before : (title : ℕ) → Before → (i count : ℕ) → List Cell
 cells_before title before i count = inner_cells title (samples_of before.left.now i count)
     (samples_of before.right.now i count)

@@ -34,7 +34,8 @@ abbrev pub HasSelected : Choice → (last : Option ℕ) → Selection → Type 0
 HasSelected (Selects rule) last state = SelectStands rule last state
 HasSelected (TakesTurns turn) last state = ⊥
 
--- the choice is by turns: its state stands for so many choices, and for the child that was used when the node last gave
+-- The choice of a node is by turns, a rotate or a random; its state stands for so many choices, and for the child that
+-- was used when the node last gave.
 abbrev pub HasTurned : Choice → (last : Option ℕ) → (choices : ℕ) → Turning → Type 0
 HasTurned (Selects rule) last choices state = ⊥
 HasTurned (TakesTurns turn) last choices state = TurnStandsFor turn (record { last = last; choices = choices }) state
@@ -85,11 +86,11 @@ FadesOn sub past filled i (Mixes mixing) = ⊥
 FadesOn sub past filled i (Fades overlap) = filled < run_of overlap (sub i) (position past i)
 FadesOn sub past filled i (Reads buffer) = ⊥
 
--- the first m slots of each crossfade's child are a list of m
+-- the first m slots of the child of each crossfade are a list of m: an instant of a sub-clock adds one slot
 pub record AreLong (sub : ℕ → ℕ → List Slot) : Type 0 where
   pub each : (k m : ℕ) → length (sub k m) ≡ m
 
--- the state is one of a node with so many children, in a plan with these audio files
+-- a state is one that a node with so many children may have, in a plan with these audio files
 abbrev pub Fits : Sounds → (children : ℕ) → NodeState → Type 0
 Fits library children (Leaf state) = IsPlacedIn library state
 Fits library children (Select state) = state.children ≡ children

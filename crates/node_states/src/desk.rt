@@ -33,7 +33,7 @@ impl Model for Desk {
 }
 
 impl Desk {
-    /// Room for `children` children. No later call takes memory.
+    /// Makes room for the slots and marks of up to `children` children of a node. No later call takes memory.
     pub fn new(alloc: Global, children: usize) -> Result<Desk, Memory>
         ensures { IfOk result (λ desk. desk ≡ children) }
     {
@@ -42,8 +42,8 @@ impl Desk {
         Ok(Desk { slots, marks })
     }
 
-    /// What a node offers at an instant in second `at` of the week, and if it chooses, which child it uses. `parts` are
-    /// those of the nodes before it.
+    /// What a node offers at an instant in second `at` of the week, and if it chooses, which child it uses. `parts`
+    /// has what each node before it offered.
     pub fn offer(
         &mut self,
         state: &NodeState,

@@ -63,7 +63,7 @@ pub fn item(state: &CrossState) -> Option<Cell>
     state.offer()
 }
 
-/// Moves a leaf on by one cell, if it gave.
+/// Moves the state of a leaf, which plays files or a tone, on by one cell, if it gave one.
 pub fn step_leaf(state: &mut LeafState, gave: bool, library: &Library)
     requires { IsPlacedIn library.now state.old }
     ensures placed { IsPlacedIn library.now state.new }
@@ -124,7 +124,7 @@ pub fn step_crossfade(state: &mut CrossState, gave: bool)
     }
 }
 
-/// Moves a reader on by one cell, if it gave.
+/// Moves the state of the reader of a buffer on by one cell, if it gave one.
 pub fn step_reader(state: &mut ReaderState, gave: bool)
     ensures { state.new ≡ (if gave then after_cell state.old else state.old) }
 {

@@ -65,7 +65,7 @@ impl Draft {
         &self.plan
     }
 
-    /// The plan, whose making ends here.
+    /// Ends the making of a plan, and returns it.
     pub fn into_plan(self) -> Plan
         ensures same { result ≡ self }
     {

@@ -27,7 +27,7 @@ impl<T> Items<T> {
         }
     }
 
-    /// The items of a `Vec`. It takes no memory.
+    /// A list of a plan from the items of a `Vec`. It takes no memory.
     pub fn from_vec(items: Vec<T>) -> Items<T>
         ensures { result ≡ items.items }
     {
@@ -50,7 +50,7 @@ impl<T> Items<T> {
 }
 
 impl<T: Drop> Items<T> {
-    /// Adds an item at the end. Where memory is refused, the list is as it was.
+    /// Adds an item at the end of a list of a plan. Where memory is refused, the list is as it was.
     pub fn push(&mut self, item: T) -> Result<(), Memory>
         ensures added { OnOk result (self.new ≡ self.old ++ item ∷ []) }
         ensures unchanged { OnErr result (self.new ≡ self.old) }

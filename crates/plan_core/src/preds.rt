@@ -27,7 +27,7 @@ impl Model for Preds {
 }
 
 impl Preds {
-    /// The predicates of a `Vec`, one for each child in order. It takes no memory.
+    /// The predicates of a switch from a `Vec`, one for each child in order. It takes no memory.
     pub fn from_vec(preds: Vec<SharedPred>) -> Preds
         ensures { result ≡ map view_shared preds.items }
     {

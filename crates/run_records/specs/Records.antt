@@ -20,15 +20,16 @@ Window = List (Option (List Cell)) × List (Option (List Cell))
 pub record Run : Type 0 where
   pub buffers : List (List Window)
 
--- the windows of a buffer
+-- the windows of one buffer in the record of a run, each with its puts and its takes
 abbrev pub windows_of : Run → (buffer : ℕ) → List Window
 windows_of run buffer = slice_index_or run.buffers buffer []
 
--- what a buffer answered to its puts, window after window: the chunk, or nothing where it was full
+-- what a buffer answered to its puts in a run, window after window: the chunk where it was accepted, or nothing where
+-- the buffer was full
 abbrev pub puts_of : Run → (buffer : ℕ) → List (Option (List Cell))
 puts_of run buffer = flat_map (λ (window : Window). window.0) (windows_of run buffer)
 
--- what the takes of a buffer got, window after window
+-- what the takes of a buffer got in a run, window after window: a chunk, or nothing where it was empty
 abbrev pub answers_of : Run → (buffer : ℕ) → List Answer
 answers_of run buffer = flat_map (λ (window : Window). window.1) (windows_of run buffer)
 
