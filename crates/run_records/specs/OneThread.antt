@@ -6,7 +6,8 @@ use Rattle.stream_meaning.specs.Instants.{Setting, answered}
 use Rattle.stream_meaning.specs.Calls.{answers_in, calls_of_tick, takes_of_tick}
 use Rattle.run_records.specs.Records.{Run, Window, capacity_of, on}
 
--- the chunks that a bounded list holds after these calls on it, if it held those of `queue` before
+-- the chunks that a list holds after these calls on it, if it held those of `queue` before: a put adds one behind, and
+-- a take drops the first
 abbrev pub held_after : List (List Cell) → List Call → List (List Cell)
 held_after queue [] = queue
 held_after queue (Took buffer None ∷ calls) = held_after queue calls

@@ -58,7 +58,7 @@ fn push_lines(
     Ok(())
 }
 
-// The name of the main clock to which the clock of a node belongs.
+// The name of the main clock to which a node belongs, also where it lies in a sub-clock of it.
 fn clock_name<'a>(plan: &Plan, clocks: &'a ClockMap, node: u32) -> &'a str
     ensures { (station : Station) → IsOf plan.now clocks.now station
         → result.now ≡ slice_index_or clocks.now.names (main_of (bare station) node) [] }

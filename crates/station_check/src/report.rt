@@ -60,7 +60,7 @@ fn output_line(alloc: Global, name: &str, clock: &str, infallible: bool) -> Resu
     Ok(format!(in alloc; "output {name} clock {clock} {word}\n")?)
 }
 
-// How a report calls a source that is infallible, or is not.
+// The word in a report for a source that always has a cell, or does not.
 fn fallible_word(infallible: bool) -> &'static str
     ensures { result.now ≡ fallible_word infallible }
 {

@@ -40,21 +40,21 @@ abbrev pub in_each : {A : Type 0} → (A → List (List ℕ)) → List A → Lis
 in_each names [] = []
 in_each names (x ∷ xs) = names x ++ in_each names xs
 
--- the files that these sources play by `single`
+-- the names of the files that these sources play by `single`, in their order
 abbrev pub singles : List Node → List (List ℕ)
 singles nodes = in_each (λ node. single_in node.op) nodes
 
--- the lists that these sources play
+-- the names of the lists that the playlists among these sources play, in their order
 abbrev pub lists : List Node → List (List ℕ)
 lists nodes = in_each (λ node. list_in node.op) nodes
 
--- the names in a list; none if it could not be read or is of no use
+-- the names of audio files in a list, by what a look at it found; none if it could not be read or is of no use
 abbrev pub entries_in : ListLook → List (List ℕ)
 entries_in list_look.Unread = []
 entries_in (list_look.Bad fault) = []
 entries_in (list_look.Names names skipped) = names.items
 
--- each name once, where it stands first
+-- each of these names once, at the place where it stands first
 abbrev pub once : List (List ℕ) → List (List ℕ)
 once names = insert_all bytes_eq [] names
 
@@ -80,15 +80,15 @@ AreFound IsFound [] old new (found ∷ looks) = ⊥
 AreFound IsFound (name ∷ names) old new (found ∷ looks) =
     (mid : ShelfTold) × IsFound name old mid found × OnlyRead old mid × AreFound IsFound names mid new looks
 
--- each of these lists was looked at
+-- in calls of the shelf one after another, each list of these names was looked at, and `looks` is what was found
 abbrev pub AreListLooks : List (List ℕ) → (old new : ShelfTold) → List ListLook → Type 0
 AreListLooks names old new looks = AreFound IsListLook names old new looks
 
--- each of these audio files was looked at
+-- in calls of the shelf one after another, each audio file of these names was looked at, and `looks` is what was found
 abbrev pub AreLooks : Rules → List (List ℕ) → (old new : ShelfTold) → List Look → Type 0
 AreLooks rules names old new looks = AreFound (IsLooked rules) names old new looks
 
--- the number of a fault of a WAV file, as the line E21 has it
+-- the number that stands for a fault of a WAV file, the same as in the printed line E21
 abbrev pub wav_number : WavFault → ℕ
 wav_number NotRiff = 1
 wav_number NoFormat = 2
@@ -107,7 +107,8 @@ unusable_members NotThere = state_member (codes "missing")
 unusable_members TooLong = state_member (codes "too large")
 unusable_members (NotWav fault) = state_member (codes "not wav") ++ number_member (codes "fault") (wav_number fault)
 
--- the word for a sound, by whether it counts for no more bytes than a sound may: only then it is used
+-- the word for what becomes of a sound: it is used only if it counts for no more bytes than a sound may, which `fits`
+-- says
 abbrev pub use_word : (fits : Bool) → List ℕ
 use_word true = codes "used"
 use_word false = codes "too large"
@@ -145,7 +146,7 @@ abbrev pub count_or_none : Result ℕ Unusable → ℕ
 count_or_none (Ok bytes) = bytes
 count_or_none (Err fault) = 0
 
--- for how many bytes all sounds count that are used
+-- for how many bytes all sounds count that are used, by what the looks at them found
 abbrev pub all_bytes : Rules → List Look → ℕ
 all_bytes rules [] = 0
 all_bytes rules (found ∷ looks) = count_or_none (counted_as rules found) + all_bytes rules looks

@@ -46,18 +46,18 @@ switch_of most place cases none at = object (number_member (codes "source") plac
     ++ (list_member (codes "cases") (hours_object most) cases
     ++ (key (codes "none") ∷ hours_object most none))))
 
--- the object of switch `place`, by the predicates of its cases; its call begins at byte `at` of the script, and no more
--- than `most` spans are told of a case
+-- The JSON object of switch `place`, by the predicates of its cases. Its call begins at byte `at` of the script, and
+-- no more than `most` spans are told of a case.
 abbrev pub switch_object : (most place : ℕ) → List Predicate → (at : ℕ) → List Token
 switch_object most place preds at = switch_of most place (case_spans [] preds) (hole_spans preds) at
 
--- the object of source `place`, if it is a switch; of another source nothing is told
+-- the JSON object of source `place` if it is a switch; nothing of another source
 abbrev pub source_hours : (most place : ℕ) → Op → (at : ℕ) → List Token
 source_hours most place (Switch sensitive preds) at = switch_object most place preds at
 source_hours most place _ at = []
 
--- the objects of the switches among these sources; the first source has number `place`, and `ats` has the byte of the
--- script at which the call of each begins
+-- The JSON objects of the switches among these sources. The first source has number `place`, `ats` has the byte of the
+-- script at which the call of each begins, and no more than `most` spans are told of a case.
 abbrev pub switches_from : (most place : ℕ) → List Node → (ats : List ℕ) → List Token
 switches_from most place [] ats = []
 switches_from most place (node ∷ nodes) [] = []

@@ -18,7 +18,8 @@ use Rattle.week_windows.specs.Windows.{case_windows}
 use Rattle.week_windows.specs.declared.windows.Windows.{Windows}
 use Rattle.station_facts.specs.Members.{bits_of, flag_member, kind_member, list_member, member_by_threes, number_member, object, text_member}
 
--- the clocks of a plan, or why it has none
+-- this is what is found of the clocks of a plan: the clock of each node, or why the plan has none; want of memory is
+-- no such cause
 abbrev pub AreClocks : Plan → Result ClockMap ClockFault → Type 0
 AreClocks plan (Ok clocks) = IsClockMap plan clocks
 AreClocks plan (Err cause) = (cause ≢ ClockFault.Memory) × IsCause plan cause
@@ -101,7 +102,8 @@ source_object node always at = object (op_members node.op ++ (kind_member node.k
     ++ (list_member (codes "children") (λ child. number (decimal child) ∷ []) node.children
     ++ (flag_member (codes "always") always ++ number_member (codes "at") at))))
 
--- the members of a plan; `ats` has the byte of the script at which the call of each source begins
+-- The members of a plan: its rate, its tick, its outputs and its sources. `ats` has the byte of the script at which
+-- the call of each source begins.
 abbrev pub plan_members : Plan → (ats : List ℕ) → Inferred → List Token
 plan_members plan ats inferred = number_member (codes "rate") plan.rate ++ (number_member (codes "tick") plan.frame
     ++ (list_member (codes "outputs") (output_object plan inferred) plan.sinks

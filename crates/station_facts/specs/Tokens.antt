@@ -10,7 +10,7 @@ use Rattle.script_lex.specs.declared.token.TokenKind.{TokenKind}
 use Rattle.script_lex.specs.declared.token.TokenKind.TheVariants as kind
 use Rattle.station_facts.specs.Members.{list_member, number_member, object}
 
--- the word for the kind of a token
+-- the word by which a kind of token of a script is told
 abbrev pub kind_word : TokenKind → List ℕ
 kind_word (kind.Name text) = codes "name"
 kind_word (kind.NameOpen text) = codes "open"

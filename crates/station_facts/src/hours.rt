@@ -231,7 +231,7 @@ fn push_key(out: &mut Out, name: &str) -> Result<(), Memory>
     Ok(())
 }
 
-// Writes the object of a case: how many spans it has, and these, unless they are more than `most`.
+// Writes the JSON object of a case: how many spans of the week it has, and these, unless they are more than `most`.
 fn push_spans(out: &mut Out, spans: &[Span], most: u64) -> Result<(), Memory>
     ensures { OnOk result (Adds out.old out.new (hours_object most spans.now)) }
 {

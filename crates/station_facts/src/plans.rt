@@ -184,7 +184,8 @@ fn push_each_source<'a>(
     Ok(())
 }
 
-// Writes the object of a source, which is never silent if `always` says so; its call begins at byte `at` of the script.
+// Writes the JSON object of a source: its operator, its channels, its children, whether it is never silent, and byte
+// `at` of the script, at which its call begins.
 fn push_source<'a>(
     alloc: Global,
     out: &mut Out,
@@ -300,7 +301,7 @@ fn push_choice(out: &mut Out, word: &str, sensitive: bool) -> Result<(), Memory>
     Ok(())
 }
 
-// Writes a switch: whether it is track-sensitive, and the windows of its cases.
+// Writes the members of a switch: its word, whether it is track-sensitive, and the windows of its cases.
 fn push_switch<'a>(
     alloc: Global,
     out: &mut Out,

@@ -68,7 +68,7 @@ fn push_token(out: &mut Out, token: &Token) -> Result<(), Memory>
     Ok(())
 }
 
-// The word for the kind of a token.
+// The word by which a kind of token of a script is told.
 fn kind_word(kind: &TokenKind) -> &'static str
     ensures { result.now ≡ kind_word kind.now }
 {

@@ -27,7 +27,7 @@ use Rattle.stations.specs.declared.fault.StationFault.TheVariants.{FallibleOutpu
 abbrev pub rules_of : Plan → Rules
 rules_of plan = record { rate = plan.rate; file = 2 ^ 28; all = 2 ^ 32 }
 
--- the name of an output; a feed has none
+-- the name of the file of an output; empty for a feed of a buffer, which has none
 abbrev pub sink_name : SinkPlan → List ℕ
 sink_name (Output name node fallible wide) = name
 sink_name (Feed buffer node) = []
@@ -37,7 +37,7 @@ abbrev pub first_name : (such : SinkPlan → Bool) → List SinkPlan → Option 
 first_name such [] = None
 first_name such (sink ∷ sinks) = if such sink then Some (sink_name sink) else first_name such sinks
 
--- whether a node is mono or stereo
+-- whether the node of this number is mono or stereo; stereo if there is none
 abbrev pub node_kind : Plan → (node : ℕ) → Kind
 node_kind plan node = option_map_or (λ node. node.kind) (slice_get plan.nodes node) Stereo
 
@@ -64,7 +64,8 @@ pub record IsClocked (files : Files) (plan : Plan) (library : Sounds) (clocks : 
   pub safe : IsSafe files plan library
   pub map : IsClockMap plan clocks
 
--- the plan is rendered for so many ticks, over these audio files and clocks: no output is too long
+-- The plan can be rendered for so many ticks, over these audio files and clocks: no output of it might have gaps or is
+-- too long.
 pub record IsRenderable (files : Files) (plan : Plan) (ticks : ℕ) (library : Sounds) (clocks : ClockMap) : Type 0 where
   pub clocked : IsClocked files plan library clocks
   pub sounds : IsLibrary library
@@ -82,14 +83,14 @@ pub record IsUnsafe (files : Files) (plan : Plan) (name : List ℕ) : Type 0 whe
   pub marking : IsMarking plan.nodes mark
   pub first : first_name (refuses mark) plan.sinks ≡ Some name
 
--- the plan has no clocks, for this cause
+-- the plan loads and is safe, and its sources can have no clocks, for this cause
 pub record IsUnclocked (files : Files) (plan : Plan) (fault : ClockFault) : Type 0 where
   pub library : Sounds
   pub safe : IsSafe files plan library
   pub of_plan : fault ≢ ClockFault.Memory
   pub cause : IsCause plan fault
 
--- the output of this name is the first that is too long
+-- the output of this name is the first that is too long for the header of its file after so many ticks
 pub record IsTooLong (files : Files) (plan : Plan) (ticks : ℕ) (name : List ℕ) : Type 0 where
   pub library : Sounds
   pub clocks : ClockMap
@@ -117,7 +118,8 @@ pub data Finding : Type 0 where
   Fits : Sounds → ClockMap → Finding
   Fails : StationFault → Finding
 
--- this is found of the plan, to be rendered for so many ticks
+-- this is found of the plan, to be rendered for so many ticks: that it can be, with these audio files and clocks, or
+-- its first fault
 abbrev pub IsFinding : Files → Plan → (ticks : ℕ) → Finding → Type 0
 IsFinding files plan ticks (Fits library clocks) = IsRenderable files plan ticks library clocks
 IsFinding files plan ticks (Fails fault) = IsStationFault files plan ticks fault

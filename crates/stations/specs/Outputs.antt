@@ -11,7 +11,7 @@ pub record OutputFile : Type 0 where
   pub name : List ℕ
   pub bytes : List ℕ
 
--- the files of a shelf after these were written, in order
+-- the files of a shelf after these outputs were written, in order: a file of the same name is replaced
 abbrev pub with_outputs : Files → List OutputFile → Files
 with_outputs files [] = files
 with_outputs files (output ∷ outputs) = with_outputs (with_file files output.name output.bytes) outputs
@@ -98,8 +98,8 @@ pub record HoldsEnds (count : ℕ) (files : Files) (outputs : List OutputPart) (
   pub part : HoldsPart (with_outputs files (map whole_of whole)) broken.name broken.most midway
   pub behind : HoldsParts next midway (map unended others) after last
 
--- the name of the first of these files, if there is one, holds a prefix of its bytes, or what it held before; nothing
--- else changed
+-- After a fault at the first of these files, if there is one, its name holds a prefix of its bytes, or what it held
+-- before; nothing else changed.
 abbrev pub HoldsNext : Files → List OutputFile → Files → Type 0
 HoldsNext files [] after = after ≡ files
 HoldsNext files (output ∷ outputs) after = HoldsPart files output.name output.bytes after
