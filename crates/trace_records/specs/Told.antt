@@ -54,8 +54,8 @@ passed capacity count got floor (false ∷ takes) =
       left = false ∷ takes;
     }
 
--- whether each refused put has enough chunks before it, from a place among the takes and a put with `count` chunks
--- before it on
+-- Whether each refused put of a window has enough chunks before it: from a place among the takes on, which `got` and
+-- `floor` describe, and from a put with `count` chunks before it on.
 abbrev pub refusals_fit : (capacity count got floor : ℕ) → (puts takes : List Bool) → Bool
 refusals_fit capacity count got floor [] takes = true
 refusals_fit capacity count got floor (true ∷ puts) takes = refusals_fit capacity (suc count) got floor puts takes
@@ -68,13 +68,15 @@ refusals_fit capacity count got floor (false ∷ puts) takes =
 abbrev pub begins_true : ℕ → List Bool → Bool
 begins_true count answers = list_all (λ answer. answer) (take count answers)
 
--- whether some legal window of a queue of at most `capacity` chunks, which opens with `opening`, has these answers
+-- Whether a queue of at most `capacity` chunks, which holds `opening` at first, can answer the puts and takes of a
+-- window so, in some order; true is an accepted put, or a take that got a chunk.
 abbrev pub is_legal : (capacity opening : ℕ) → (puts takes : List Bool) → Bool
 is_legal capacity opening puts takes =
     nat_le (yes takes) (opening + yes puts) && (nat_le (opening + yes puts) (capacity + yes takes)
     && (begins_true opening takes && refusals_fit capacity opening 0 capacity puts takes))
 
--- whether windows of a buffer, one after another, are legal by their answers, from one that opens with `opening` chunks
+-- whether a queue of at most `capacity` chunks, which holds `opening` at first, can answer these windows of a buffer
+-- so, one after another
 abbrev pub are_legal : (capacity opening : ℕ) → List (List Bool × List Bool) → Bool
 are_legal capacity opening [] = true
 are_legal capacity opening (window ∷ windows) = is_legal capacity opening window.0 window.1

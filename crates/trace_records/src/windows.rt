@@ -35,8 +35,8 @@ pub fn next_opening(capacity: u32, opening: u32, puts: &[bool], takes: &[bool]) 
     Some((held - count_true(takes)) as u32)
 }
 
-/// Whether windows of a buffer of at most `capacity` chunks, one after another from an empty buffer on, are legal, by
-/// their answers alone.
+/// Whether a queue of at most `capacity` chunks, which is empty at first, can answer the windows of a buffer as a
+/// trace tells them, one after another.
 pub fn are_legal(capacity: u32, windows: &[WindowLog]) -> bool
     requires some { 1 ≤ capacity }
     ensures { result ≡ are_legal capacity 0 (map pair_of windows.now) }

@@ -37,7 +37,7 @@ pub record BufferState : Type 0 where
   pub chunks : List (List Cell)
   pub gone : ℕ
 
--- a buffer's state as nested pairs, which code to numbers
+-- a code of a buffer's state by nested pairs, so that states are coded as numbers are
 abbrev pub state_coded : Coded BufferState
 state_coded = code_by (ℕ × (List Bool × (List Bool × (Bool × (Bool × (ℕ × (ℕ × (ℕ × (ℕ × (List (List Cell) × ℕ))))))))))
     (coded× coded_ℕ (coded× (coded_list coded_bool)
@@ -146,7 +146,7 @@ pub record CanComeBy (states : List BufferState) (front : List Call) (call : Cal
       → Suits (slice_index_or states (buffer_of call) d).capacity (somes (puts_to (buffer_of call) front))
       (got_in (buffer_of call) front) call
 
--- the buffers stand for these calls up to a take that gets a chunk by the trace, which is not there yet
+-- the buffers stand for these calls up to a take that gets a chunk by the trace, which another clock has not put yet
 pub record HasWaited (states : List BufferState) (calls : List Call) : Type 0 where
   pub front : List Call
   pub behind : List Call
@@ -160,7 +160,7 @@ pub record HasWaited (states : List BufferState) (calls : List Call) : Type 0 wh
       ≤ (slice_index_or states buffer d).got
   pub joins : (d : BufferState) → is_list (slice_index_or states buffer d) ≡ false
 
--- the buffers stand for these calls up to one that no answer makes right
+-- the buffers stand for these calls up to one to which no answer is right: none is told, or a list would not answer so
 pub record HasFailed (states : List BufferState) (calls : List Call) : Type 0 where
   pub front : List Call
   pub behind : List Call
@@ -240,12 +240,14 @@ same_buffers_trans bs cs ds a b = record {
       };
 }
 
--- the chunks that a buffer begins a run with: those of a clock's own feeds are made again
+-- the chunks with which a buffer begins a run of a clock: none if the clock feeds it, which `true` says, and otherwise
+-- those that are there
 abbrev pub chunks_at : Bool → List (List Cell) → List (List Cell)
 chunks_at true chunks = []
 chunks_at false chunks = chunks
 
--- how many of the chunks were let go with which a buffer begins a run: none of a clock's own feed
+-- how many of the chunks with which a buffer begins a run were let go: none if the clock feeds it, which `true` says,
+-- and otherwise as many as before
 abbrev pub gone_at : Bool → ℕ → ℕ
 gone_at true gone = 0
 gone_at false gone = gone

@@ -48,8 +48,8 @@ pub record MayFlow (score : Score) (W N m n : ℕ) (parts : EngineParts) (states
   pub unlost : NoneLost states
   pub may : MayGoOn score W N m n parts full ends
 
--- A clock that has made n ticks may make a few more: every call was answered so far, and of some score they may be
--- made.
+-- A clock that has made n of its N ticks may make a few more: every call was answered so far, and its buffers and
+-- engine stand in the middle of some replay.
 pub record MayMakeMore (W N n : ℕ) (parts : EngineParts) (course : Course) (states : List BufferState)
     (ends : List Ends) : Type 0 where
   pub some : 1 ≤ W
@@ -66,7 +66,7 @@ pub record HasFlown (base : Setting) (told : TimedText) (m n : ℕ) (chunks : �
   pub unlost : NoneLost states
   pub run : RunsAt base told.text told.window told.ticks m n chunks parts full
 
--- by a buffer's number, the main clocks of its feed and of its reader
+-- two lists by a buffer's number: the main clock of its feed, and that of its reader
 pub record Mains : Type 0 where
   pub feeders : List ℕ
   pub readers : List ℕ
@@ -90,8 +90,8 @@ pub record IsPaused (base : Setting) (told : TimedText) (ends : Mains) (m n : �
       → StandsFor (resumed (slice_index_or states b d) (nat_eq (slice_index_or ends.feeders b 0) m)
       (nat_eq (slice_index_or ends.readers b 0) m) (slice_index_or marks b e)) b calls
 
--- in a turn, by which the buffers came from `opening` to `states`, clock m came to n ticks, and its calls came to these
--- marks
+-- In a turn of clock m, its run of some ticks in a replay, it came to n ticks, and its calls came to these marks; the
+-- buffers came from `opening` to `states`.
 pub record HasGone (base : Setting) (told : TimedText) (ends : Mains) (m n : ℕ) (parts : EngineParts)
     (marks : List Mark) (opening states : List BufferState) : Type 0 where
   pub come : HasCome base told.window told.ticks told.text m n (chunks_of opening) (chunks_of states)
@@ -126,7 +126,8 @@ pub record MayResume (score : FullScore) (of : Sides) (ends : List Ends) (W N n 
   pub paused : IsPaused score.base (timed score.text W N) (mains of.feeders.items of.readers.items)
       live.engine.parts.clock n live.engine.parts live.marks.items score.full
 
--- the turn of a clock that has made n ticks may begin: there is a score with which it may go on
+-- A turn of a clock that has made n of its N ticks may begin, its run of some further ticks in a replay: there is a
+-- plan, a text and buffers with which it may go on.
 pub record MayTakeTurn (of : Sides) (ends : List Ends) (W N n : ℕ) (live : LiveClock)
     (states : List BufferState) : Type 0 where
   pub some : 1 ≤ W
@@ -141,7 +142,7 @@ abbrev pub HasResumed : FullScore → Sides → (W N m n : ℕ) → LiveClock �
 HasResumed score of W N m n live states = HasFlownOn score.base (timed score.text W N)
     (mains of.feeders.items of.readers.items) m n live.engine.parts live.marks.items score.full states
 
--- clock m of a station, before its first tick
+-- this is clock m of a station before its first tick: with a new engine, and no call on any buffer
 pub record IsNewClock (base : Setting) (m : ℕ) (live : LiveClock) : Type 0 where
   pub over : setting_of live.engine.parts ≡ base
   pub clock : live.engine.parts.clock ≡ m

@@ -12,18 +12,19 @@ no_mark = record { put_at = 0; take_at = 0; got = 0 }
 abbrev pub mark_of : BufferState → Mark
 mark_of s = record { put_at = s.put_at; take_at = s.take_at; got = s.got }
 
--- up to a mark no more calls came than are told of a buffer, and no more chunks were got than are there
+-- The calls of a clock on a buffer can have come to this mark: it counts no more puts and takes than are told, and no
+-- more chunks than are there.
 pub record IsWithin (s : BufferState) (mark : Mark) : Type 0 where
   pub puts : mark.put_at ≤ length s.puts
   pub takes : mark.take_at ≤ length s.takes
   pub got : mark.got ≤ length s.chunks
 
--- up to each mark no more calls came than are told of its buffer, and no more chunks were got than are there
+-- the calls of a clock can have come to each of these marks on its buffer: it counts no more than is told and is there
 abbrev pub AreWithin : List BufferState → List Mark → Type 0
 AreWithin states marks = (b : ℕ) (d : BufferState) (e : Mark) → b < length states
     → IsWithin (slice_index_or states b d) (slice_index_or marks b e)
 
--- how many of a buffer's chunks come from other clocks: none if the clock feeds it
+-- how many chunks are there of a buffer when a run goes on: none count if the clock feeds it itself, which `true` says
 abbrev pub others_in : Bool → List (List Cell) → ℕ
 others_in true chunks = 0
 others_in false chunks = length chunks
@@ -67,7 +68,7 @@ pub record HasLetGo (before after : BufferState) : Type 0 where
   pub low : before.gone ≤ before.got → after.gone ≤ before.got
   pub most : after.gone ≤ length after.chunks
 
--- of each buffer that the clock reads, chunks that were got may have been let go
+-- of each buffer that the clock reads, chunks that were got may have been let go; all others are still there
 abbrev pub HaveLetGo : List BufferState → List BufferState → Type 0
 HaveLetGo old new = (b : ℕ) (d : BufferState) → b < length old
     → HasLetGo (slice_index_or old b d) (slice_index_or new b d)

@@ -19,7 +19,7 @@ pub record AreFull (states full : List BufferState) : Type 0 where
   pub each : (b : ℕ) (d : BufferState) → b < length states
       → IsFull (slice_index_or states b d) (slice_index_or full b d)
 
--- among these calls is a take that is to get a chunk which was let go
+-- these calls come to a take that is to get a chunk which its buffer has let go
 pub record HasLost (states full : List BufferState) (calls : List Call) : Type 0 where
   pub front : List Call
   pub behind : List Call

@@ -38,7 +38,7 @@ no_state = record {
   gone = 0;
 }
 
--- the chunks that were put to buffer b; none if there is no such buffer
+-- the chunks that were put to buffer b so far; none if there is no such buffer
 abbrev pub chunks_of : List BufferState → ℕ → List (List Cell)
 chunks_of states b = (slice_index_or states b no_state).chunks
 
@@ -47,7 +47,8 @@ pub record AreEnds (log : Log) (ends : Ends) : Type 0 where
   pub puts : (j : ℕ) → j < length log → slice_get ends.puts.items j ≡ Some (length (puts_in (take (suc j) log)))
   pub takes : (j : ℕ) → j < length log → slice_get ends.takes.items j ≡ Some (length (takes_in (take (suc j) log)))
 
--- on a buffer the clock made as many calls as its windows up to window j have, at each end that it has
+-- On a buffer the clock made as many calls as its windows up to window j have: with its puts if it feeds it, and with
+-- its takes if it reads it.
 pub record IsAtEnd (s : BufferState) (ends : Ends) (j : ℕ) : Type 0 where
   pub puts : s.fed ≡ true → slice_get ends.puts.items j ≡ Some s.put_at
   pub takes : s.read ≡ true → slice_get ends.takes.items j ≡ Some s.take_at
@@ -78,7 +79,8 @@ pub record AreOf (base : Setting) (text : ℕ → Log) (m : ℕ) (chunks : ℕ
   pub front : (b : ℕ) (d : BufferState) → b < length base.plan.buffers → (feeder base b ≡ m → ⊥)
       → (rest : List (List Cell)) × ((slice_index_or states b d).chunks ≡ chunks b ++ rest)
 
--- Clock m has made its first n ticks, and its engine and its buffers stand for their calls.
+-- Clock m has made its first n ticks as the text of a trace tells, and its engine and its buffers stand for its calls.
+-- The text has N ticks in windows of W; `chunks` are those of other clocks at first.
 pub record RunsAt (base : Setting) (text : ℕ → Log) (W N m n : ℕ) (chunks : ℕ
     → List (List Cell)) (parts : EngineParts) (states : List BufferState) : Type 0 where
   pub calls : List Call
@@ -114,14 +116,16 @@ GoesOn W N n before states ends Waits = before ≡ Waits
 GoesOn W N n before states ends Fails = (before ≡ Fails)
     ⊎ ((before ≡ Goes) × EndsWith W N n × IsOffEnd states ends (n / W))
 
--- what a replay is of: a plan with its clocks and files, a text, and the chunks that are there
+-- what a replay of a trace rests on: a plan with its clocks and files, the text of the trace, and the chunks that are
+-- there of each buffer
 pub record Score : Type 0 where
   pub base : Setting
   pub clocks : ClockMap
   pub text : ℕ → Log
   pub chunks : ℕ → List (List Cell)
 
--- an engine of clock m may be run over these buffers from its first tick on
+-- an engine of clock m may be run over these buffers from its first tick on: it is new, and they tell the text of a
+-- trace, with windows that end as `ends` says
 pub record MayTurn (score : Score) (W N m : ℕ) (parts : EngineParts) (states : List BufferState)
     (ends : List Ends) : Type 0 where
   pub is : IsSetting score.base score.clocks
@@ -146,7 +150,7 @@ pub record AreTold (base : Setting) (text : ℕ → Log) (states : List BufferSt
   pub capacity : (b : ℕ) (d : BufferState) → b < length base.plan.buffers
       → (slice_index_or states b d).capacity ≡ capacity_of base b
 
--- by a buffer's number, the main clocks of its feed and of its reader
+-- these lists have, by the number of a buffer, the main clock of its feed and that of its reader
 pub record AreSides (base : Setting) (feeders readers : List ℕ) : Type 0 where
   pub feeders_many : length feeders ≡ length base.plan.buffers
   pub readers_many : length readers ≡ length base.plan.buffers
@@ -160,13 +164,13 @@ HaveBegun feeders readers m old new = (b : ℕ) (d : BufferState) → b < length
     → slice_index_or new b d
     ≡ begun (slice_index_or old b d) (nat_eq (slice_index_or feeders b 0) m) (nat_eq (slice_index_or readers b 0) m)
 
--- whether a sink is an output of clock m
+-- whether a sink of a plan is an output whose node lies in main clock m
 abbrev pub is_output_in : List NodeClock → (m : ℕ) → SinkPlan → Bool
 is_output_in clocks m (Output name node fallible wide) = same_clock (slice_index_or clocks node (NodeClock.Main 0))
     (NodeClock.Main m)
 is_output_in clocks m (Feed buffer node) = false
 
--- how many of these sinks are outputs of clock m
+-- how many of these sinks are outputs whose node lies in main clock m
 abbrev pub outputs_in : List NodeClock → (m : ℕ) → List SinkPlan → ℕ
 outputs_in clocks m [] = 0
 outputs_in clocks m (sink ∷ sinks) = if is_output_in clocks m sink then suc (outputs_in clocks m sinks)

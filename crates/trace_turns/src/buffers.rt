@@ -98,7 +98,7 @@ fn mains_of(
     Ok(mains)
 }
 
-// The overlap of a crossfade, in cells; 0 of any other node.
+// The overlap of the crossfade that is this node, in cells; 0 for any other node.
 fn overlap_of(plan: &Plan, node: u32) -> u64 {
     let Some(node) = plan.nodes.as_slice().get(node as usize) else {
         return 0;
@@ -153,8 +153,8 @@ fn reaches_of(
     Ok(reaches)
 }
 
-/// The sides of a plan's buffers: the main clocks of feeds and readers, the readers' nodes, and how many cells readers
-/// take in a tick at most.
+/// Finds, for each buffer of a plan, the main clocks of its two ends, the node that reads it, and a bound on the cells
+/// which that takes in a tick.
 pub fn sides_of(alloc: Global, plan: &Plan, clocks: &ClockMap) -> Result<Sides, Memory>
     requires { IsWellFormed plan.now }
     ensures { IfOk result (λ sides. (setting : Setting) → setting.plan ≡ plan.now → setting.clocks ≡ clocks.now.of

@@ -27,9 +27,10 @@ fn note_turn(turns: &mut Vec<TurnMade>, clock: u32, ticks: u64) -> Result<(), Me
     Ok(())
 }
 
-// Searches the turns by new engines, and adds them to `turns`: goes over the clocks in order, again and again, and runs
-// each from its first tick on, as far as it can be run with the chunks that are there. Returns whether all `ticks`
-// ticks of each were made; it ends if a pass over all clocks made no tick more, or if a turn was refused.
+// Searches the turns by new engines, and adds them to `turns`: goes over the clocks in order, again and again, and
+// runs each from its first tick on, as far as it can be run with the chunks that are there. Returns whether all
+// `ticks` ticks of each were made; it ends if a pass over all clocks made no tick more, or if a clock cannot make its
+// ticks as the trace tells.
 fn search_chunks(
     alloc: Global,
     station: &Station<'_>,

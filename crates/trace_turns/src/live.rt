@@ -38,7 +38,7 @@ fn new_clock<'a>(alloc: Global, station: &Station<'a>, clock: u32) -> Result<Liv
     }
 }
 
-/// Makes the clocks that run, each before its first tick.
+/// Adds to `lives` each clock of the station that runs, before its first tick and with an engine of its own.
 pub fn make_clocks<'a>(
     alloc: Global,
     station: &Station<'a>,

@@ -38,7 +38,7 @@ fn end_of(ends: &[Ends], b: usize, window: u64) -> usize {
     ends[b].takes[window as usize]
 }
 
-// Whether buffer b, which another clock feeds, seems to have the chunks for the takes of a tick in this window that
+// Foresees whether buffer b, which another clock feeds, has the chunks for the takes of a tick in this window that
 // follow a mark. A reader in the main clock says how many cells it wants; of another it is known how many it wants at
 // most.
 fn can_serve(

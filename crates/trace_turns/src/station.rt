@@ -32,7 +32,7 @@ pub struct Sides {
     pub frame: u64,
 }
 
-/// The clock of a node; main clock 0 if there is no such node.
+/// The clock in which a node lies, looked up in `clocks`; main clock 0 if there is no such node.
 pub fn clock_at(clocks: &[NodeClock], node: u32) -> NodeClock
     ensures { result ≡ slice_index_or clocks.now node (NodeClock.Main 0) }
 {
@@ -52,7 +52,7 @@ fn is_main(of: NodeClock, clock: u32) -> bool
     }
 }
 
-// Whether a sink is an output of main clock `clock`.
+// Whether a sink of a plan is an output whose node lies in main clock `clock`.
 fn is_output(sink: &SinkPlan, clocks: &[NodeClock], clock: u32) -> bool
     ensures { result ≡ is_output_in clocks.now clock sink.now }
 {

@@ -131,7 +131,8 @@ impl ToldBuffer {
         self.spare.clear();
     }
 
-    /// Goes on with the run of a clock, which feeds it or not, and reads it or not, and whose calls came to this mark.
+    /// Goes on with a run of a clock where it paused, at this mark. The clock feeds the buffer or not, and reads it or
+    /// not; the chunks stay.
     pub fn resume(&mut self, fed: bool, read: bool, mark: Mark)
         requires { IsWithin self.old mark }
         ensures { self.new ≡ resumed self.old fed read mark }
