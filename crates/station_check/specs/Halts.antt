@@ -41,8 +41,8 @@ clock_halt (Nested node) = Refused (Clocks (Nested node))
 clock_halt TooManyClocks = Refused (Clocks TooManyClocks)
 clock_halt ClockFault.Memory = Memory
 
--- the fault of a plan whose outputs may have gaps: it names the first output that needs an infallible node and has
--- none
+-- the fault of a plan in which an output may have gaps though the script does not allow it: it names the first output
+-- that needs an infallible node and has none
 pub record IsGapped (plan : Plan) (fault : StationFault) : Type 0 where
   pub name : List ℕ
   pub fault_is : fault ≡ FallibleOutput name

@@ -14,7 +14,8 @@ use Rattle.stations.specs.Findings.{Fits, IsFound, first_name}
 use Rattle.stations.specs.Reports.{checked_line}
 use Rattle.stations.specs.Stations.{Station}
 
--- no output of a plan might have gaps: each has an infallible node, or is written with `fallible=true`
+-- no output of a plan may have gaps that the script does not allow: each has an infallible node, or is written with
+-- `fallible=true`
 pub record IsUngapped (plan : Plan) : Type 0 where
   pub mark : ℕ → Bool
   pub marking : IsMarking plan.nodes mark

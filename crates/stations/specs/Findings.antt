@@ -51,8 +51,8 @@ is_too_long plan ticks (Feed buffer node) = false
 abbrev pub IsLoaded : Files → Plan → (library : Sounds) → Type 0
 IsLoaded files plan library = load_of (rules_of plan) files plan.nodes ≡ Ok library
 
--- The plan has these audio files, and no output of it might have gaps: each has a node that is infallible, or is
--- written with `fallible=true`.
+-- The plan has these audio files, and no output may have gaps that the script does not allow: each has a node that is
+-- infallible, or is written with `fallible=true`.
 pub record IsSafe (files : Files) (plan : Plan) (library : Sounds) : Type 0 where
   pub loaded : IsLoaded files plan library
   pub mark : ℕ → Bool
@@ -64,8 +64,8 @@ pub record IsClocked (files : Files) (plan : Plan) (library : Sounds) (clocks : 
   pub safe : IsSafe files plan library
   pub map : IsClockMap plan clocks
 
--- The plan can be rendered for so many ticks, over these audio files and clocks: no output of it might have gaps or is
--- too long.
+-- The plan can be rendered for so many ticks, over these audio files and clocks: no output lacks an infallible node
+-- that it needs, and none is too long for its header.
 pub record IsRenderable (files : Files) (plan : Plan) (ticks : ℕ) (library : Sounds) (clocks : ClockMap) : Type 0 where
   pub clocked : IsClocked files plan library clocks
   pub sounds : IsLibrary library

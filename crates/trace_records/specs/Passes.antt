@@ -105,8 +105,8 @@ pub record HasTurned (base : Setting) (W N : ℕ) (text : ℕ → Log) (m n : �
   pub come : HasCome base W N text m n chunks others
   pub halted : n < N → IsHalted base text chunks m n
 
--- no lawful run has this text: clock m cannot make its N ticks as the text tells them, whatever is put into the
--- buffers after these chunks
+-- clock m cannot make its N ticks as the text of a trace tells them, whatever is put into the buffers after these
+-- chunks
 pub record IsRefused (base : Setting) (W N : ℕ) (text : ℕ → Log) (chunks : ℕ → List (List Cell)) (m : ℕ) : Type 0 where
   pub none : (others : ℕ → List (List Cell)) (given : ℕ → List Answer) (accepted : ℕ → ℕ → Bool)
       → ((b : ℕ) → b < length base.plan.buffers → (rest : List (List Cell)) × (others b ≡ chunks b ++ rest))
