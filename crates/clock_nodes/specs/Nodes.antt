@@ -5,11 +5,11 @@ use Rattle.clock_infer.specs.declared.clock_map.NodeClock.TheVariants.{Main, Sub
 use Rattle.stream_meaning.specs.Instants.{same_clock}
 use Rattle.clock_nodes.specs.declared.nodes.ClockNodes.{ClockNodes}
 
--- whether node i lies in a clock
+-- whether node i lies in a clock; `clocks` has the clock of each node
 abbrev pub lies_at : List NodeClock → NodeClock → ℕ → Bool
 lies_at clocks clock i = same_clock (slice_index_or clocks i (Main 0)) clock
 
--- the number of a clock: even for a main clock, odd for a sub-clock
+-- the number under which the chains of nodes keep a clock: even for a main clock, odd for a sub-clock
 abbrev pub number_of : NodeClock → ℕ
 number_of (Main m) = 2 * m
 number_of (Sub k) = 2 * k + 1

@@ -5,7 +5,8 @@ use Rattle.plan_core.specs.Plans.{AreNodes}
 use Rattle.stream_meaning.specs.Instants.{Setting}
 use Rattle.clock_nodes.specs.declared.scene.Scene.{Scene}
 
--- each node's children come before it, there are no more nodes than a plan may have, and each has its clock
+-- What an engine may rely on in its plan: each node's children come before it, there are no more nodes than a plan may
+-- have, and each node has its clock.
 pub record IsScene (scene : Scene) : Type 0 where
   pub nodes : AreNodes scene.plan.now.nodes
   pub few : length scene.plan.now.nodes ≤ MAX_NODES

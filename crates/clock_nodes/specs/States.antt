@@ -9,7 +9,7 @@ use Rattle.node_states.specs.declared.state.NodeState.{NodeState}
 use Rattle.node_states.specs.States.{Fits, IsSettled, StateStands}
 use Rattle.clock_nodes.specs.declared.scene.Scene.{Scene}
 
--- node i of the plan lies in this clock
+-- this is node i of the plan, and it lies in this clock
 pub record IsIn (setting : Setting) (clock : NodeClock) (i : ℕ) (node : Node) : Type 0 where
   pub there : slice_get setting.plan.nodes i ≡ Some node
   pub inside : lies_in setting clock i ≡ true
@@ -28,13 +28,13 @@ pub record AreSettled (setting : Setting) (sub : ℕ → ℕ → List Slot) (clo
   pub each : (i : ℕ) (node : Node) → IsIn setting clock i node
       → IsSettled sub past (filled i) i (work_at setting i node)
 
--- there is a state for each node of the plan, and it fits its node
+-- there is a state for each node of the plan, and each is one that its node may have
 pub record AllFit (scene : Scene) (states : List NodeState) : Type 0 where
   pub size : length states ≡ length scene.plan.now.nodes
   pub each : (i : ℕ) (node : Node) (state : NodeState) → slice_get scene.plan.now.nodes i ≡ Some node
       → slice_get states i ≡ Some state → Fits scene.library.now (length node.children) state
 
--- there is room for the children of any node of the plan
+-- `room` is at least the number of children of any node of the plan
 pub record HasRoomFor (plan : Plan) (room : ℕ) : Type 0 where
   pub each : (i : ℕ) (node : Node) → slice_get plan.nodes i ≡ Some node → length node.children ≤ room
 

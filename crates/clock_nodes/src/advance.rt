@@ -12,8 +12,8 @@ use clock_infer::NodeClock;
 use node_states::NodeState;
 use stream_meaning::Part;
 
-/// Moves the states of a clock's nodes on by one instant. By node, `parts` is what it did there, and `demanded` whether
-/// it was demanded.
+/// Moves the states of all nodes of a clock on by one instant. By a node's number, `parts` has what it offered there,
+/// and `demanded` whether it was demanded.
 pub fn advance_all(
     scene: &Scene<'_>,
     nodes: &ClockNodes,

@@ -24,7 +24,7 @@ pub struct ClockNodes {
     pub befores: Vec<u32>,
 }
 
-// The number of a clock: even for a main clock, odd for a sub-clock.
+// The number under which the chains of nodes keep a clock: even for a main clock, odd for a sub-clock.
 fn clock_number(clock: NodeClock) -> usize
     ensures is { result ≡ number_of clock }
     ensures small { result < 8589934592 }
@@ -35,7 +35,7 @@ fn clock_number(clock: NodeClock) -> usize
     }
 }
 
-// A number above the numbers of all these clocks; 0 if there is none.
+// How many numbers the lists by clock need: one more than the greatest number of these clocks, or 0 if there is none.
 fn numbers_of(clocks: &[NodeClock]) -> usize
     ensures { (i : ℕ) → i < length clocks.now → number_of (slice_index_or clocks.now i (NodeClock.Main 0)) < result }
 {
@@ -89,7 +89,7 @@ fn link_back(clocks: &[NodeClock], ends: &mut [u32], befores: &mut [u32])
 }
 
 impl ClockNodes {
-    /// The nodes of each clock; `clocks` has the clock of each node.
+    /// Chains the nodes of each clock together, forward and back; `clocks` has the clock of each node.
     pub fn new(alloc: Global, clocks: &[NodeClock]) -> Result<ClockNodes, Memory>
         requires { length clocks.now ≤ MAX_NODES }
         ensures { IfOk result (AreNodesOf clocks.now) }
@@ -109,7 +109,7 @@ impl ClockNodes {
         })
     }
 
-    /// The first node of a clock, or the number of all nodes.
+    /// The first node of a clock, or the number of all nodes if it has none.
     pub fn first(&self, clock: NodeClock) -> usize
         ensures { (clocks : List Clock) → AreNodesOf clocks self.now → IsFirst clocks clock 0 result }
     {
@@ -119,7 +119,7 @@ impl ClockNodes {
         }
     }
 
-    /// The next node of the clock of node i, or the number of all nodes.
+    /// The next node in the clock of node i, or the number of all nodes if i is the last.
     pub fn after(&self, i: usize) -> usize
         requires { i < length self.now.nexts.items }
         ensures { (clocks : List Clock) → AreNodesOf clocks self.now
@@ -128,7 +128,7 @@ impl ClockNodes {
         self.nexts[i] as usize
     }
 
-    /// One more than the last node of a clock, or 0.
+    /// One more than the last node of a clock, or 0 if it has none.
     pub fn end(&self, clock: NodeClock) -> usize
         ensures { (clocks : List Clock) → AreNodesOf clocks self.now → IsEnd clocks clock (length clocks) result }
     {
@@ -138,7 +138,7 @@ impl ClockNodes {
         }
     }
 
-    /// One more than the node before node i in its clock, or 0.
+    /// One more than the node before node i in its clock, or 0 if i is the first.
     pub fn before(&self, i: usize) -> usize
         requires { i < length self.now.befores.items }
         ensures { (clocks : List Clock) → AreNodesOf clocks self.now

@@ -9,11 +9,11 @@ use Rattle.plan_core.specs.declared.sink.SinkPlan.{SinkPlan}
 use Rattle.plan_core.specs.declared.sink.SinkPlan.TheVariants.{Output, Feed}
 use Rattle.time_pred.specs.Predicates.{Predicate, is_always}
 
--- the mark of node i in a list of marks; false if there is none
+-- whether node i is marked in a list of marks, one for each node; false if it has no mark
 abbrev pub mark_at : List Bool → ℕ → Bool
 mark_at marks i = slice_index_or marks i false
 
--- the last child, if there is one
+-- the number of the last child of a node, if there is one
 abbrev pub last_of : List ℕ → Option ℕ
 last_of children = slice_get children (length children - 1)
 
@@ -52,7 +52,8 @@ rests_on mark OnLast children = option_map_or mark (last_of children) false
 abbrev pub infallible_by : (mark : ℕ → Bool) → Op → List ℕ → Bool
 infallible_by mark op children = rests_on mark (rests_of op) children
 
--- the mark of each node says whether it is infallible
+-- `mark` says of each node whether it is infallible, that is, always offers a cell: by its operator and the marks of
+-- its children
 abbrev pub IsMarking : List Node → (mark : ℕ → Bool) → Type 0
 IsMarking nodes mark = (i : ℕ) (node : Node) → slice_get nodes i ≡ Some node
     → mark i ≡ infallible_by mark node.op node.children

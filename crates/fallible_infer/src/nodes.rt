@@ -28,7 +28,7 @@ pub fn infallible(alloc: Global, plan: &Plan) -> Result<Vec<bool>, Memory>
     Ok(marks)
 }
 
-// Whether some child is infallible, by the marks of the nodes.
+// Whether some of these children is infallible, that is, always offers a cell; `marks` says it of each node.
 fn some_child(children: &[u32], marks: &[bool]) -> bool
     requires { All (λ child. child < length marks.now) children.now }
     ensures { result ≡ list_any (mark_at marks.now) children.now }
@@ -41,7 +41,7 @@ fn some_child(children: &[u32], marks: &[bool]) -> bool
     false
 }
 
-// Whether some child of a switch is infallible whose predicate is always true by its form.
+// Whether some child of a switch is infallible, as `marks` says, and its predicate is always true by its form.
 fn some_always(preds: &[SharedPred], children: &[u32], marks: &[bool]) -> bool
     requires number { length children.now ≡ length preds.now }
     requires children { All (λ child. child < length marks.now) children.now }
@@ -56,7 +56,7 @@ fn some_always(preds: &[SharedPred], children: &[u32], marks: &[bool]) -> bool
     false
 }
 
-// Whether there is a last child that is infallible, by the marks of the nodes.
+// Whether the last of these children is infallible, as `marks` says of each node; false if there is none.
 fn last_child(children: &[u32], marks: &[bool]) -> bool
     requires { All (λ child. child < length marks.now) children.now }
     ensures { result ≡ option_map_or (mark_at marks.now) (last_of children.now) false }
@@ -67,7 +67,8 @@ fn last_child(children: &[u32], marks: &[bool]) -> bool
     }
 }
 
-// Whether a node is infallible, by the marks of the nodes before it.
+// Whether a node is infallible, that is, always offers a cell: it follows from its operator and the marks of the nodes
+// before it.
 fn follows(node: &Node, marks: &[bool]) -> bool
     requires number { HasChildren node.now.op (length node.now.children) }
     requires children { All (λ child. child < length marks.now) node.now.children }

@@ -16,6 +16,7 @@ pub record History : Type 0 where
   pub clock : NodeClock
   pub past : List Moment
 
+-- the four as one record: a setting, the slots of the sub-clocks, a clock, and its past, the latest instant first
 abbrev pub history_of : Setting → (sub : ℕ → ℕ → List Slot) → NodeClock → List Moment → History
 history_of setting sub clock past = record {
   setting = setting;
@@ -24,7 +25,7 @@ history_of setting sub clock past = record {
   past = past;
 }
 
--- what the nodes of the clock do at the instant after its past
+-- the moment after the past of a clock: what its nodes offer at the next instant, and which of them are demanded
 abbrev pub next_of : History → Moment
 next_of history = moment_after history.setting history.sub history.clock history.past
 
@@ -34,7 +35,7 @@ abbrev pub StandsOn : History → (n filled i : ℕ) → Node → NodeState → 
 StandsOn history n filled i node state = StateStands history.setting history.sub
     (going_on history.setting history.sub history.clock n history.past) filled i (work_at history.setting i node) state
 
--- at the `many` instants after the next one, node i has these samples
+-- these are the left and right samples of node i at the `many` instants after the next one
 abbrev pub IsLaneOf : History → (i many : ℕ) → (left right : List ℤ) → Type 0
 IsLaneOf history i many left right = IsLane
     (λ j. lane history.setting history.sub history.clock history.past (suc j) i) many left right

@@ -12,8 +12,8 @@ use Rattle.op_mix.specs.Stretches.{Lanes, samples_of}
 use Rattle.node_states.specs.declared.state.NodeState.{NodeState}
 use Rattle.node_states.specs.declared.state.NodeState.TheVariants.{Leaf, Select, Turn, Mix, Cross, Read, Idle}
 
--- it is a crossfade that holds as much of a track as overlaps, and nothing else: each cell that goes on with it settles
--- one item
+-- Whether a state is that of a crossfade through which cells of its child pass one by one. It holds as much of a track
+-- as overlaps, and nothing else: each cell that goes on with it settles one item.
 abbrev pub passes : NodeState → Bool
 passes (Leaf state) = false
 passes (Select state) = false
@@ -29,7 +29,7 @@ abbrev pub asked : (through : Bool) → (j : ℕ) → ℕ
 asked true j = suc j
 asked false j = 0
 
--- the part of node i at an instant if it gave there, and otherwise silence
+-- what node i did at an instant if it gave a cell there, and otherwise silence
 abbrev pub given_part : Moment → ℕ → Part
 given_part moment i = if gives moment i then part_at moment.parts i else silent
 
@@ -48,7 +48,7 @@ pub record ChildFills (slots_of : ℕ
   pub there : slice_get children 0 ≡ Some child
   pub fills : LaneFills slots_of n count title (samples_of lefts child count) (samples_of rights child count)
 
--- the samples of node i over so many instants, as cells of this title that begin no track
+-- the samples that node i gave over so many instants, as cells of this title that begin no track
 abbrev pub cells_before : (title : ℕ) → Before → (i count : ℕ) → List Cell
 cells_before title before i count = inner_cells title (samples_of before.left.now i count)
     (samples_of before.right.now i count)

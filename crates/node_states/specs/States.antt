@@ -19,22 +19,23 @@ use Rattle.op_mix.specs.Mixings.{mixing_of}
 use Rattle.node_states.specs.declared.state.NodeState.{NodeState}
 use Rattle.node_states.specs.declared.state.NodeState.TheVariants.{Leaf, Select, Turn, Mix, Cross, Read, Idle}
 
--- the state is that of this leaf after it gave so many cells
+-- a state of a leaf is the one that this leaf has after it gave so many cells
 pub record LeafStands (library : Sounds) (leaf : TheLeaf) (given : ℕ) (state : LeafState) : Type 0 where
   pub plays : leaf_of state ≡ leaf
   pub stands : StandsAt library state given
 
--- a selection by this rule used this child when it last gave
+-- a state of a fallback, a switch or a sequence has this rule, and knows the child that it used when it last gave
 pub record SelectStands (rule : Rule) (last : Option ℕ) (state : Selection) : Type 0 where
   pub rule_is : state.rule ≡ rule
   pub last_is : state.last ≡ last
 
--- the choice is a selection's, whose state says which child it used when it last gave
+-- the choice of a node is by a rule; its state knows the child that it used when it last gave
 abbrev pub HasSelected : Choice → (last : Option ℕ) → Selection → Type 0
 HasSelected (Selects rule) last state = SelectStands rule last state
 HasSelected (TakesTurns turn) last state = ⊥
 
--- the choice is by turns: its state stands for so many choices, and for the child that was used when the node last gave
+-- The choice of a node is by turns, a rotate or a random; its state stands for so many choices, and for the child that
+-- was used when the node last gave.
 abbrev pub HasTurned : Choice → (last : Option ℕ) → (choices : ℕ) → Turning → Type 0
 HasTurned (Selects rule) last choices state = ⊥
 HasTurned (TakesTurns turn) last choices state = TurnStandsFor turn (record { last = last; choices = choices }) state
@@ -85,11 +86,11 @@ FadesOn sub past filled i (Mixes mixing) = ⊥
 FadesOn sub past filled i (Fades overlap) = filled < run_of overlap (sub i) (position past i)
 FadesOn sub past filled i (Reads buffer) = ⊥
 
--- the first m slots of each crossfade's child are a list of m
+-- the first m slots of the child of each crossfade are a list of m: an instant of a sub-clock adds one slot
 pub record AreLong (sub : ℕ → ℕ → List Slot) : Type 0 where
   pub each : (k m : ℕ) → length (sub k m) ≡ m
 
--- the state is one of a node with so many children, in a plan with these audio files
+-- a state is one that a node with so many children may have, in a plan with these audio files
 abbrev pub Fits : Sounds → (children : ℕ) → NodeState → Type 0
 Fits library children (Leaf state) = IsPlacedIn library state
 Fits library children (Select state) = state.children ≡ children
@@ -99,7 +100,7 @@ Fits library children (Cross state) = ⊤
 Fits library children (Read reader) = ⊤
 Fits library children Idle = ⊤
 
--- whether it is a crossfade whose item is not settled
+-- whether a state is that of a crossfade that needs another slot of its child, since its next item is not settled yet
 abbrev pub wants : NodeState → Bool
 wants (Leaf state) = false
 wants (Select state) = false
@@ -142,6 +143,6 @@ abbrev pub reads_in : Setting → ℕ → Option Node → Bool
 reads_in setting i None = false
 reads_in setting i (Some node) = reads (work_at setting i node)
 
--- node i reads a buffer
+-- whether node i of the plan reads a buffer
 abbrev pub reads_at : Setting → ℕ → Bool
 reads_at setting i = reads_in setting i (slice_get setting.plan.nodes i)

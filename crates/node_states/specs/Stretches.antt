@@ -39,8 +39,8 @@ pub record GoesOn (history : History) (many i : ℕ) (node : Node) : Type 0 wher
   pub is : IsNode history.setting history.clock i node
   pub gave : gives (next_of history) i ≡ true
 
--- `filled` after `many` instants more: for a reader, and for a crossfade through which cells pass, as many more; for
--- any other node as before
+-- how many slots a crossfade was given, or instants a reader has begun, after `many` instants more: as many more where
+-- `reading` says that cells come in one by one, and otherwise as before
 abbrev pub filled_on : Bool → (many filled : ℕ) → ℕ
 filled_on reading many filled = if reading then filled + many else filled
 
@@ -65,8 +65,8 @@ pub record ChildrenGive (history : History) (many i : ℕ) (node : Node) (pick :
   pub lanes : (c : ℕ) → list_any (nat_eq c) node.children ≡ true → gives (next_of history) c ≡ true
       → IsLaneOf history c many (samples_of before.left.now c many) (samples_of before.right.now c many)
 
--- an instant of a clock behind those before it, with the slots of the sub-clocks; of a node i, how many slots it was
--- filled, or how many instants it has begun as a reader
+-- A clock's latest instant with those before it, and the slots of its sub-clocks; and of one node i, how many slots of
+-- its child a crossfade was given, or how many instants a reader has begun.
 pub record Latest : Type 0 where
   pub setting : Setting
   pub sub : ℕ → ℕ → List Slot
@@ -75,8 +75,8 @@ pub record Latest : Type 0 where
   pub filled : ℕ
   pub i : ℕ
 
--- The state of node i stands for that instant too, at which it gave or did not. Where cells pass through it, its child
--- has so many slots more, of this title.
+-- The state of node i stands for the latest instant too, at which it gave or did not, as `gave` says. Where cells pass
+-- through it as a crossfade, its child has so many slots more, of this title.
 pub record HasStood (latest : Latest) (work : Work) (gave : Bool) (below title : ℕ) (state : NodeState) : Type 0 where
   pub long : AreLong latest.sub
   pub stands : StateStands latest.setting latest.sub (latest.moment ∷ latest.past) latest.filled latest.i work state
@@ -84,7 +84,8 @@ pub record HasStood (latest : Latest) (work : Work) (gave : Bool) (below title :
   pub fills : gave ≡ true → passes state ≡ true
       → AreFilled latest.setting latest.sub latest.i latest.filled below title
 
--- over these audio files, and it had this part there; a reader has begun the next instant
+-- After the latest instant the state of node i stands for it, over these audio files; `part` is what the node had
+-- there. A reader has begun the next instant.
 pub record HasRested (latest : Latest) (work : Work) (sounds : Sounds) (part : Part) (gave : Bool) (below title : ℕ)
     (state : NodeState) : Type 0 where
   pub library : latest.setting.library ≡ sounds

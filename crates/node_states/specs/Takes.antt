@@ -8,7 +8,8 @@ use Rattle.stream_meaning.specs.Instants.{Setting, Moment, next_answers, reading
 use Rattle.node_states.specs.declared.state.NodeState.{NodeState}
 use Rattle.node_states.specs.States.{StateStands, reading_by}
 
--- by the first takes of a tick a reader came from `before` to `now`, whatever answers follow
+-- By the first takes of a tick a reader came from `before` to `now`, whatever answers follow. `stands` says for which
+-- calls the ends of the buffers stand, `taps_old` before these takes and `taps_new` after.
 pub record IsTaking {T : Type 0} (stands : T → List Call
     → Type 0) (buffer : ℕ) (before now : Reader) (taps_old taps_new : T) : Type 0 where
   pub more : List Answer
@@ -16,7 +17,8 @@ pub record IsTaking {T : Type 0} (stands : T → List Call
   pub takes : (rest : List Answer) → reader_takes (more ++ rest) before ≡ more ++ reader_takes rest now
   pub holds : (rest : List Answer) → after_takes (more ++ rest) before ≡ after_takes rest now
 
--- by all takes of a tick a reader came from `before` to `now`; it has not begun the tick yet
+-- By all takes of a tick a reader came from `before` to `now`; it has not begun the tick yet. `stands` says for which
+-- calls the ends of the buffers stand, `taps_old` before and `taps_new` after.
 pub record HasHeld {T : Type 0} (stands : T → List Call
     → Type 0) (buffer : ℕ) (before now : Reader) (taps_old taps_new : T) : Type 0 where
   pub more : List Answer
@@ -24,7 +26,8 @@ pub record HasHeld {T : Type 0} (stands : T → List Call
   pub takes : (rest : List Answer) → reader_takes (more ++ rest) before ≡ more
   pub holds : (rest : List Answer) → after_takes (more ++ rest) before ≡ now
 
--- a reader made all takes of a tick and then began it: so it came from `before` to `now`
+-- A reader made all takes of a tick and then began it: so it came from `before` to `now`. `stands` says for which
+-- calls the ends of the buffers stand, `taps_old` before and `taps_new` after.
 pub record HasTaken {T : Type 0} (stands : T → List Call
     → Type 0) (buffer : ℕ) (before now : Reader) (taps_old taps_new : T) : Type 0 where
   pub more : List Answer
@@ -32,7 +35,8 @@ pub record HasTaken {T : Type 0} (stands : T → List Call
   pub takes : (rest : List Answer) → reader_takes (more ++ rest) before ≡ more
   pub begun : (rest : List Answer) → at_start (more ++ rest) before ≡ now
 
--- a reader made some of the takes of a tick, from the first on
+-- A reader made some of the takes of a tick, from the first on, when a fault broke it off. `stands` says for which
+-- calls the ends of the buffers stand, `taps_old` before and `taps_new` after.
 pub record IsTaken {T : Type 0} (stands : T → List Call
     → Type 0) (buffer : ℕ) (before : Reader) (taps_old taps_new : T) : Type 0 where
   pub more : List Answer
@@ -48,8 +52,9 @@ pub record HasBegunAt (setting : Setting) (sub : ℕ → ℕ
       (reading_after setting i buffer past).reader ≡ more
   pub taken : (reading_by setting i buffer past (suc (length past))).taken ≡ length (front ++ more)
 
--- a reader has begun a tick: whatever instants its state stood for, by which it had taken the answers `front`, it has
--- taken the next ones
+-- The state of a reader has begun a tick: whatever instants it stood for, by which it had taken the answers `front`,
+-- it has taken the next ones. `stands` says for which calls the ends of the buffers stand, `taps_old` before and
+-- `taps_new` after.
 pub record HasBegun {T : Type 0} (stands : T → List Call
     → Type 0) (buffer : ℕ) (before now : NodeState) (taps_old taps_new : T) : Type 0 where
   pub more : List Answer
@@ -60,7 +65,8 @@ pub record HasBegun {T : Type 0} (stands : T → List Call
       → setting.answers buffer ≡ (front ++ more) ++ rest → (reading_after setting i buffer past).taken ≡ length front
       → HasBegunAt setting sub past i buffer front more now
 
--- a reader has made some of the takes of a tick, from the first on, whatever instants its state stood for
+-- The state of a reader has made some of the takes of a tick, from the first on, whatever instants it stood for.
+-- `stands` says for which calls the ends of the buffers stand, `taps_old` before and `taps_new` after.
 pub record HasTakenSome {T : Type 0} (stands : T → List Call
     → Type 0) (buffer : ℕ) (before : NodeState) (taps_old taps_new : T) : Type 0 where
   pub more : List Answer

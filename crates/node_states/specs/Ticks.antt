@@ -12,8 +12,8 @@ use Rattle.stream_meaning.specs.Calls.{IsBegin, calls_of_tick, after_calls}
 abbrev pub past_of : Setting → (sub : ℕ → ℕ → List Slot) → (ran : NodeClock → ℕ) → ℕ → List Moment
 past_of setting sub ran i = first_instants setting sub (clock_of setting i) (ran (clock_of setting i))
 
--- after tick t, which made these calls: the engine stands for one tick more and for their answers, whatever answers
--- follow; `held` and `now` are what each sink held before and holds now, where it tells it
+-- After tick t of main clock m, which made the calls `more`: the engine stands for one tick more and for their
+-- answers, whatever answers follow. `held` and `now` are what each sink held before and holds now, where it tells it.
 pub record HasTicked (stands : ℕ → (ℕ → List Answer) → Type 0) (setting : Setting) (m t : ℕ) (answers : ℕ → List Answer)
     (more : List Call) (held now : ℕ → Option (List ℕ)) : Type 0 where
   pub accepted : ℕ → Bool
@@ -24,7 +24,8 @@ pub record HasTicked (stands : ℕ → (ℕ → List Answer) → Type 0) (settin
   pub grew : (rest : ℕ → List Answer) (sink node : ℕ) (output : IsOutput setting m sink node)
       → now sink ≡ grown (tick_bytes (with_rest setting (after_calls answers more) rest) output.wide node t) (held sink)
 
--- after a fault in tick t: the calls made in it are the first ones of the tick's, whatever answers follow
+-- After a fault in tick t of main clock m: the calls `made` in it are the first ones of the tick's, whatever answers
+-- follow. `held` and `now` are what each sink held before and holds now, where it tells it.
 pub record HasStopped (setting : Setting) (m t : ℕ) (answers : ℕ → List Answer) (made : List Call) (held now : ℕ
     → Option (List ℕ)) : Type 0 where
   pub accepted : ℕ → Bool
@@ -36,7 +37,8 @@ pub record HasStopped (setting : Setting) (m t : ℕ) (answers : ℕ → List An
       (tick_bytes (with_rest setting (after_calls answers made) rest) output.wide node t)
       × (now sink ≡ grown bytes (held sink))
 
--- each output of main clock m has grown by the bytes of so many ticks, whatever answers follow these
+-- each output of main clock m has grown by the bytes of so many ticks, from what it held at `first` to what it holds
+-- `now`, whatever answers follow these
 pub record HoldTicks (setting : Setting) (m ticks : ℕ) (answers : ℕ → List Answer) (first now : ℕ
     → Option (List ℕ)) : Type 0 where
   pub each : (rest : ℕ → List Answer) (sink node : ℕ) (output : IsOutput setting m sink node)

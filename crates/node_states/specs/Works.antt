@@ -5,7 +5,8 @@ use Rattle.op_mix.specs.Mixings.{mixing_of}
 use Rattle.node_states.specs.declared.task.Task.{Task}
 use Rattle.node_states.specs.declared.task.Task.TheVariants as task
 
--- the code's task is this work of a node
+-- the task by which the code sorts a node is this work, by which the meaning of streams does; the predicates of a
+-- switch are left out of it
 abbrev pub IsTask : Task → Work → Type 0
 IsTask (task.Play one) (Plays leaf) = one ≡ leaf
 IsTask (task.Pick one) (Picks (Selects rule) eligible) = one ≡ rule

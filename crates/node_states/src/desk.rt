@@ -33,7 +33,7 @@ impl Model for Desk {
 }
 
 impl Desk {
-    /// Room for `children` children. No later call takes memory.
+    /// Makes room for the slots and marks of up to `children` children of a node. No later call takes memory.
     pub fn new(alloc: Global, children: usize) -> Result<Desk, Memory>
         ensures { IfOk result (λ desk. desk ≡ children) }
     {
@@ -42,8 +42,8 @@ impl Desk {
         Ok(Desk { slots, marks })
     }
 
-    /// What a node offers at an instant in second `at` of the week, and if it chooses, which child it uses. `parts` are
-    /// those of the nodes before it.
+    /// What a node offers at an instant in second `at` of the week, and if it chooses, which child it uses. `parts`
+    /// has what each node before it offered.
     pub fn offer(
         &mut self,
         state: &NodeState,
@@ -75,8 +75,8 @@ impl Desk {
     }
 }
 
-// What a node offers and which child it uses, by the parts of the nodes before it. `slots` and `marks` are room for its
-// children; their content does not matter.
+// What a node offers at an instant, and which child it uses, by what the nodes before it did, in `parts`. `slots` and
+// `marks` are room for its children; their content does not matter.
 fn offer_over(
     state: &NodeState,
     node: &Node,
@@ -104,7 +104,8 @@ fn offer_over(
     state.offer(node, slots, marks, library, at)
 }
 
-// Copies the slots of a node's children from the parts of all nodes; a child without a part has an empty slot.
+// Copies the slot of each child of a node, a cell or nothing, from the parts of all nodes to `slots`; a child without
+// a part has an empty slot.
 fn gather(parts: &[Part], children: &[u32], slots: &mut [Option<Cell>])
     requires { length slots.old ≡ length children.now }
     ensures { slots.new ≡ slots_at parts.now children.now }

@@ -23,7 +23,8 @@ impl NodeState {
         }
     }
 
-    /// Whether cells of a crossfade's child pass through it, one by one: each one more settles one item.
+    /// Whether each further cell of a crossfade's child settles one item of it, so that cells pass through it one by
+    /// one; false for other nodes.
     pub fn passes(&self) -> bool
         ensures { result ≡ passes self.now }
     {
@@ -57,7 +58,7 @@ impl NodeState {
     }
 }
 
-// How many cells of a track that goes on settle the item of a crossfade; 0 where it is settled.
+// How many cells of a track that goes on settle the next item of a crossfade; 0 where it is settled.
 fn room_of(state: &CrossState) -> u32
     ensures { result ≡ (if crossing_wants state.now then track_room state.now else 0) }
 {

@@ -13,8 +13,8 @@ use time_pred::SharedPred;
 // The seconds of a week.
 const WEEK: u32 = 604_800;
 
-/// Marks the children that are eligible at this second of the week: of a switch those whose predicate holds, and else
-/// each.
+/// Sets a mark for each child of a node that chooses, whether it may be chosen at this second of the week: of a switch
+/// those may whose predicate holds, and else all.
 pub fn mark_eligible(op: &Op, at: WeekSecond, marks: &mut [bool])
     requires { HasChildren op.now (length marks.old) }
     ensures { (rate i : ℕ) (kind : Kind) (choice : Choice) (eligible : Eligible)
@@ -27,7 +27,7 @@ pub fn mark_eligible(op: &Op, at: WeekSecond, marks: &mut [bool])
     }
 }
 
-// Marks each child whose predicate holds at this second of the week.
+// Sets a mark for each child of a switch, whether its predicate holds at this second of the week.
 fn test_all(preds: &[SharedPred], at: WeekSecond, marks: &mut [bool])
     requires { length marks.old ≡ length preds.now }
     ensures { marks.new ≡ map (λ pred. holds (view_shared pred) at.second) preds.now }
@@ -52,7 +52,7 @@ pub fn steady_seconds(op: &Op, at: WeekSecond) -> u32
     }
 }
 
-// For how many seconds, at most a week, every predicate stays as it is at this second.
+// For how many seconds from this one on, at most a week, each predicate stays true or false as it is now.
 fn least_steady(preds: &[SharedPred], at: WeekSecond) -> u32
     ensures some { 0 < result }
     ensures most { result ≤ 604800 }

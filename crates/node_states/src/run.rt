@@ -72,7 +72,8 @@ impl NodeState {
     }
 }
 
-// Copies the samples of the child that a node used, at place `pick` among its children; without one nothing is written.
+// Copies to `left` and `right` the samples of the child that a node used, at place `pick` among its children; without
+// one nothing is written.
 fn copy_picked(
     children: &[u32],
     pick: Option<u32>,

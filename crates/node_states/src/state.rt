@@ -59,7 +59,7 @@ pub enum NodeState {
 }
 
 impl NodeState {
-    /// The state of node `i` of a plan before the first instant.
+    /// Makes the state of node `i` of a plan before the first instant of its clock.
     pub fn new(alloc: Global, plan: &Plan, node: &Node, i: u32) -> Result<NodeState, Memory>
         requires rate { 0 < plan.now.rate }
         requires range { IsInRange node.now.op }
@@ -115,7 +115,7 @@ impl NodeState {
         }
     }
 
-    /// Gives a crossfade the next slot of its child.
+    /// Gives a crossfade the next slot of its child, a cell or nothing.
     pub fn feed(&mut self, slot: Option<Cell>)
         requires { wants self.old ≡ true }
         ensures fits { (library : Sounds) (children : ℕ) → Fits library children self.old
@@ -249,8 +249,8 @@ impl NodeState {
         }
     }
 
-    /// Goes on by one instant, at which the node had this part; `is_demanded` says whether it was demanded there, and
-    /// `children` how many children it has.
+    /// Moves the state of a node on by one instant, at which it had this part; `is_demanded` says whether it was
+    /// demanded there, and `children` how many children it has.
     pub fn next(&mut self, part: Part, is_demanded: bool, library: &Library, children: usize)
         requires fits { Fits library.now children self.old }
         ensures fits { Fits library.now children self.new }

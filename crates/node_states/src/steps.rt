@@ -21,14 +21,15 @@ use op_select::{Picked, SelectState};
 use op_turn::TurnState;
 use stream_meaning::Part;
 
-/// The part of a node that has this slot and does not choose a child.
+/// What a node with this slot does at an instant, if it is none that chooses among its children.
 pub fn unpicked(slot: Option<Cell>) -> Part
     ensures { result ≡ unpicked slot }
 {
     Part { slot, pick: None }
 }
 
-/// The part of a node that chooses: the cell and the place of the child that it picked, or nothing.
+/// What a node that chooses does at an instant: it offers the cell of the child that it picked, and names the child;
+/// or it offers nothing.
 pub fn picked(picked: Option<Picked>) -> Part
     ensures { result ≡ picked_part picked }
 {
@@ -44,14 +45,14 @@ pub fn picked(picked: Option<Picked>) -> Part
     }
 }
 
-/// Whether a node with this part gives: it is demanded and offers a cell.
+/// Whether a node gives its cell at an instant: something above it demands it, and it offers one.
 pub fn gives(part: Part, demanded: bool) -> bool
     ensures { result ≡ (demanded && is_some part.slot) }
 {
     demanded && part.slot.is_some()
 }
 
-/// The item of a crossfade; `None` if it is not settled, or is an empty slot.
+/// The next item that a crossfade offers; `None` if it is not settled yet, or is an empty slot.
 pub fn item(state: &CrossState) -> Option<Cell>
     ensures { (slots : List Slot) (p : ℕ) → StandsFor state.now slots p → p < length (cross state.now.overlap slots)
         → result ≡ slot_at (cross state.now.overlap slots) p }
@@ -62,7 +63,7 @@ pub fn item(state: &CrossState) -> Option<Cell>
     state.offer()
 }
 
-/// Moves a leaf on by one cell, if it gave.
+/// Moves the state of a leaf, which plays files or a tone, on by one cell, if it gave one.
 pub fn step_leaf(state: &mut LeafState, gave: bool, library: &Library)
     requires { IsPlacedIn library.now state.old }
     ensures placed { IsPlacedIn library.now state.new }
@@ -75,7 +76,8 @@ pub fn step_leaf(state: &mut LeafState, gave: bool, library: &Library)
     }
 }
 
-/// If a selection gave, keeps which child it used: `pick` is the child's place, and `children` how many there are.
+/// Moves a fallback, a switch or a sequence on by an instant: if it gave, it keeps which child it used. `pick` is the
+/// child's place, and `children` how many there are.
 pub fn step_selection(state: &mut SelectState, gave: bool, pick: Option<u32>, children: usize)
     requires { state.old.children ≡ children }
     ensures children { state.new.children ≡ state.old.children }
@@ -122,7 +124,7 @@ pub fn step_crossfade(state: &mut CrossState, gave: bool)
     }
 }
 
-/// Moves a reader on by one cell, if it gave.
+/// Moves the state of the reader of a buffer on by one cell, if it gave one.
 pub fn step_reader(state: &mut ReaderState, gave: bool)
     ensures { state.new ≡ (if gave then after_cell state.old else state.old) }
 {

@@ -36,7 +36,7 @@ impl NodeState {
     }
 }
 
-// Takes what the reader takes at the start of a tick, and then begins the tick.
+// Takes from the buffer all chunks that a reader takes at the start of a tick, and then begins the tick.
 fn take_all<T: Taps>(reader: &mut ReaderState, buffer: u32, taps: &mut T) -> Result<(), Memory>
     requires { buffer < T.buffers taps.old }
     ensures buffers { T.buffers taps.new ≡ T.buffers taps.old }
@@ -49,7 +49,7 @@ fn take_all<T: Taps>(reader: &mut ReaderState, buffer: u32, taps: &mut T) -> Res
     Ok(())
 }
 
-// Takes chunks while the reader wants one, until the buffer is found empty.
+// Takes chunks from the buffer while the reader wants one, until the buffer is found empty.
 fn take_chunks<T: Taps>(reader: &mut ReaderState, buffer: u32, taps: &mut T) -> Result<(), Memory>
     requires { buffer < T.buffers taps.old }
     ensures buffers { T.buffers taps.new ≡ T.buffers taps.old }

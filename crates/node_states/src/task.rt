@@ -24,7 +24,8 @@ pub enum Task {
     Read(u32),
 }
 
-/// What node `i` does, in a plan of `rate` samples a second. The predicates of a switch are left out.
+/// What node `i` does, sorted by the code that does it, in a plan of `rate` samples a second. The predicates of a
+/// switch are left out.
 pub fn task_of(node: &Node, i: u32, rate: u32) -> Task
     ensures { IsTask result (work_of rate i node.now.kind node.now.op) }
 {
@@ -56,7 +57,7 @@ pub fn task_of(node: &Node, i: u32, rate: u32) -> Task
     }
 }
 
-// A leaf that plays the files of this node; `again` says whether the first one follows the last.
+// A leaf that plays the audio files of this node, one or a list; `again` says whether the first one follows the last.
 fn files(node: u32, again: bool, kind: Kind) -> Leaf
     ensures { result ≡ Leaf.Files node again kind }
 {

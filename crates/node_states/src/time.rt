@@ -28,7 +28,8 @@ pub struct WeekTime {
 impl WeekTime {
     ghost use Rattle.node_states.specs.Times.{TimeStands};
 
-    /// The time of a clock's first instant: the beginning of this second.
+    /// The time of a clock's first instant, the beginning of second `start` of the week; `rate` is in samples a
+    /// second, and a tick has `frame` samples.
     pub fn new(start: WeekSecond, rate: u32, frame: u32) -> WeekTime
         requires rate { 0 < rate }
         requires frame { 0 < frame }
@@ -45,7 +46,7 @@ impl WeekTime {
         }
     }
 
-    /// Whether a tick begins with this instant.
+    /// Whether the instant of this time is the first of a tick of the clock.
     pub fn begins_tick(self) -> bool
         ensures { result ≡ nat_eq self.place 0 }
     {
@@ -63,7 +64,7 @@ impl WeekTime {
         (self.rate - 1 - self.samples).saturating_add(later)
     }
 
-    /// How many instants after this one lie in its tick.
+    /// How many instants of the tick come after the instant of this time.
     pub fn tick_left(self) -> u32
         ensures { (start n j : ℕ) → TimeStands start n self → 0 < j → j ≤ result
             → nat_eq ((n + j) % self.frame) 0 ≡ false }
@@ -71,7 +72,7 @@ impl WeekTime {
         self.frame - 1 - self.place
     }
 
-    /// The time `count` instants later, at most a second.
+    /// The time of the instant that comes `count` instants later, at most a second.
     pub fn later(self, count: u32) -> WeekTime
         requires { count ≤ self.rate }
         ensures rate { result.rate ≡ self.rate }
@@ -98,7 +99,7 @@ impl WeekTime {
         }
     }
 
-    /// The time of the next instant.
+    /// The time of the clock's next instant, one sample later.
     pub fn next(self) -> WeekTime
         ensures rate { result.rate ≡ self.rate }
         ensures frame { result.frame ≡ self.frame }
@@ -124,7 +125,7 @@ impl WeekTime {
     }
 }
 
-// The second after this one; after the last of the week comes the first.
+// The second of the week after this one; after the last comes the first.
 fn next_second(at: WeekSecond) -> WeekSecond
     ensures { result.second ≡ (at.second + 1) % 604800 }
 {

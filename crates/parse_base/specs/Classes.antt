@@ -17,15 +17,17 @@ abbrev pub is_open_name : TokenKind → Bool
 is_open_name (NameOpen n) = true
 is_open_name k = false
 
+-- whether a token is the keyword `def`
 abbrev pub is_def : TokenKind → Bool
 is_def (Keyword word.Def) = true
 is_def k = false
 
+-- whether a token is the keyword `if`
 abbrev pub is_if : TokenKind → Bool
 is_if (Keyword word.If) = true
 is_if k = false
 
--- whether a token is in this class
+-- whether a token is in this class, that is, one for which the parser asks
 abbrev pub is_in : Class → TokenKind → Bool
 is_in class.Any = is_any
 is_in class.Name = is_name

@@ -14,28 +14,32 @@ token_kind t = t.kind
 abbrev pub kinds : List Token → List TokenKind
 kinds ts = map token_kind ts
 
--- a fault is right for what reading gives: want of memory always, and a fault of the tokens if reading stops there
+-- a fault that the parser returned is right for what the grammar reads: want of memory always is, and a fault of the
+-- tokens if reading stops with as many tokens left
 abbrev pub Fails : {Y : Type 0} → Fault → Result Y ℕ → Type 0
 Fails faults.Memory read = Unit {0}
 Fails (faults.Syntax left) read = read ≡ Err left
 
--- what was returned, seen by view, is what reading gives
+-- what the parser returned is what the grammar reads: the same thing, where `view` turns a tree of the code into one
+-- of the grammar, or a right fault
 abbrev pub Gives : {X Y : Type 0} → (X → Y) → Result X Fault → Result Y ℕ → Type 0
 Gives view (Ok x) read = read ≡ Ok (view x)
 Gives view (Err e) read = Fails e read
 
--- the index of the token from which on so many of `total` are left
+-- the index of the first token that is left, where so many of `total` are left
 abbrev pub places : ℕ → ℕ → ℕ
 places total left = total - left
 
--- what was read of these tokens by a rule: a whole tree, and the tokens behind it, of which there are fewer
+-- What the parser read of these tokens is what `rule` of the grammar reads: a tree that is whole, as `Whole` says, and
+-- the tokens behind it, of which there are fewer. `view` turns a tree of the code into one of the grammar.
 pub record Reads {X Y : Type 0} (view : X → Y) (Whole : X → Type 0) (rule : List TokenKind → Result (Y × List TokenKind) ℕ)
     (tokens : List Token) (result : Result (X × Bor (List Token)) Fault) : Type 0 where
   pub shorter : IfOk result (λ x. length x.1.now < length tokens)
   pub gives : Gives (λ x. (view x.0, kinds x.1.now)) result (rule (kinds tokens))
   pub whole : IfOk result (λ x. Whole x.0)
 
--- what was read of these tokens by a rule that may read nothing: a whole tree, and the tokens behind it
+-- What the parser read of these tokens is what `rule` of the grammar reads, which may read no token: a tree that is
+-- whole, as `Whole` says, and the tokens behind it. `view` turns a tree of the code into one of the grammar.
 pub record ReadsOn {X Y : Type 0} (view : X → Y) (Whole : X → Type 0) (rule : List TokenKind → Result (Y × List TokenKind) ℕ)
     (tokens : List Token) (result : Result (X × Bor (List Token)) Fault) : Type 0 where
   pub shorter : IfOk result (λ x. length x.1.now ≤ length tokens)

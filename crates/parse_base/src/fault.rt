@@ -17,6 +17,7 @@ pub enum Fault {
 impl From<liq_base::Memory> for Fault {
     ghost from_gives = { λ _ e. e ≡ faults.Memory };
 
+    // Turns a refusal of memory into the fault of a parser.
     fn from(_refused: liq_base::Memory) -> Fault {
         Fault::Memory
     }
@@ -25,6 +26,7 @@ impl From<liq_base::Memory> for Fault {
 impl From<AllocError> for Fault {
     ghost from_gives = { λ _ e. e ≡ faults.Memory };
 
+    // Turns a refusal of memory by the allocator into the fault of a parser.
     fn from(_refused: AllocError) -> Fault {
         Fault::Memory
     }
@@ -33,6 +35,7 @@ impl From<AllocError> for Fault {
 impl<T: Drop> From<AllocFailed<T>> for Fault {
     ghost from_gives = { λ _ e. e ≡ faults.Memory };
 
+    // Turns a refusal of memory by the allocator into the fault of a parser; the value that found no room is dropped.
     fn from(_refused: AllocFailed<T>) -> Fault {
         Fault::Memory
     }

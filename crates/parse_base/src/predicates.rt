@@ -26,8 +26,8 @@ pub fn predicate(alloc: Global, tokens: &[Token]) -> Result<(POr, &[Token]), Fau
     por(alloc, tokens.len() + 1, tokens)
 }
 
-// A predicate of at most `levels` levels: one for itself, and one for each that it nests. More levels than tokens are
-// enough.
+// Reads the predicate that the tokens begin with, of at most `levels` levels: one for itself, and one for each that it
+// nests. More levels than tokens are enough.
 #[cycle(predicate)]
 fn por(alloc: Global, levels: usize, tokens: &[Token]) -> Result<(POr, &[Token]), Fault>
     ensures { Reads view_por IsWholePOr (por_by levels) tokens.now result }
@@ -39,7 +39,8 @@ fn por(alloc: Global, levels: usize, tokens: &[Token]) -> Result<(POr, &[Token])
     }
 }
 
-// predicate: and (`or` and)*, where others nest in at most `levels` levels.
+// Reads terms joined by `or`, the grammar's predicate: and (`or` and)*, where predicates in parentheses nest in at
+// most `levels` levels.
 #[cycle(predicate)]
 #[tactic(auto, unfolding(script_grammar::specs::ReadPredicate::por_step, script_grammar::specs::Read::chain))]
 fn por_step(alloc: Global, levels: usize, tokens: &[Token]) -> Result<(POr, &[Token]), Fault>
@@ -50,7 +51,7 @@ fn por_step(alloc: Global, levels: usize, tokens: &[Token]) -> Result<(POr, &[To
     Ok((make::predicate(first, others)?, rest))
 }
 
-// (`or` and)*
+// Reads the further terms of a predicate, each behind an `or`: (`or` and)*.
 #[cycle(predicate)]
 fn pands(alloc: Global, levels: usize, tokens: &[Token]) -> Result<(Vec<PAnd>, &[Token]), Fault>
     ensures shorter { IfOk result (λ x. length x.1.now ≤ length tokens.now) }
@@ -68,7 +69,7 @@ fn pands(alloc: Global, levels: usize, tokens: &[Token]) -> Result<(Vec<PAnd>, &
     Ok((items, rest))
 }
 
-// `or` and
+// Reads one further term of a predicate: `or` and.
 #[cycle(predicate)]
 #[tactic(auto, unfolding(script_grammar::specs::Read::behind))]
 fn or_pand(alloc: Global, levels: usize, tokens: &[Token]) -> Result<(PAnd, &[Token]), Fault>
@@ -78,7 +79,7 @@ fn or_pand(alloc: Global, levels: usize, tokens: &[Token]) -> Result<(PAnd, &[To
     pand(alloc, levels, rest)
 }
 
-// and: not (`and` not)*
+// Reads factors joined by `and`, the grammar's and: not (`and` not)*.
 #[cycle(predicate)]
 #[tactic(auto, unfolding(script_grammar::specs::ReadPredicate::pand, script_grammar::specs::Read::chain))]
 fn pand(alloc: Global, levels: usize, tokens: &[Token]) -> Result<(PAnd, &[Token]), Fault>
@@ -89,7 +90,7 @@ fn pand(alloc: Global, levels: usize, tokens: &[Token]) -> Result<(PAnd, &[Token
     Ok((make::predicate_term(first, others)?, rest))
 }
 
-// (`and` not)*
+// Reads the further factors of a term, each behind an `and`: (`and` not)*.
 #[cycle(predicate)]
 fn pnots(alloc: Global, levels: usize, tokens: &[Token]) -> Result<(Vec<PNot>, &[Token]), Fault>
     ensures shorter { IfOk result (λ x. length x.1.now ≤ length tokens.now) }
@@ -107,7 +108,7 @@ fn pnots(alloc: Global, levels: usize, tokens: &[Token]) -> Result<(Vec<PNot>, &
     Ok((items, rest))
 }
 
-// `and` not
+// Reads one further factor of a term: `and` not.
 #[cycle(predicate)]
 #[tactic(auto, unfolding(script_grammar::specs::Read::behind))]
 fn and_pnot(alloc: Global, levels: usize, tokens: &[Token]) -> Result<(PNot, &[Token]), Fault>
@@ -117,7 +118,7 @@ fn and_pnot(alloc: Global, levels: usize, tokens: &[Token]) -> Result<(PNot, &[T
     pnot(alloc, levels, rest)
 }
 
-// not: `not`? atom
+// Reads an atom of a predicate that may be negated, the grammar's not: `not`? atom.
 #[cycle(predicate)]
 #[tactic(auto, unfolding(script_grammar::specs::ReadPredicate::pnot))]
 fn pnot(alloc: Global, levels: usize, tokens: &[Token]) -> Result<(PNot, &[Token]), Fault>
@@ -128,7 +129,7 @@ fn pnot(alloc: Global, levels: usize, tokens: &[Token]) -> Result<(PNot, &[Token
     Ok((PNot { negated, atom }, rest))
 }
 
-// atom: `true` | `false` | time | time `-` time | `(` predicate `)`
+// Reads an atom of a predicate: `true` | `false` | time | time `-` time | `(` predicate `)`.
 #[cycle(predicate)]
 #[tactic(auto, unfolding(script_grammar::specs::ReadPredicate::patom))]
 fn patom(alloc: Global, levels: usize, tokens: &[Token]) -> Result<(PAtom, &[Token]), Fault>
@@ -150,7 +151,7 @@ fn patom(alloc: Global, levels: usize, tokens: &[Token]) -> Result<(PAtom, &[Tok
     }
 }
 
-// time | time `-` time, behind the first time, which is `from`.
+// Reads what follows the first time of an atom, which is `from`: `-` and a second time, or nothing.
 #[tactic(auto, unfolding(script_grammar::specs::ReadPredicate::interval))]
 fn interval(from: TimeMark, tokens: &[Token]) -> Result<(PAtom, &[Token]), Fault>
     ensures shorter { IfOk result (λ x. length x.1.now ≤ length tokens.now) }

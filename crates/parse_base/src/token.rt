@@ -45,7 +45,7 @@ pub enum Class {
 }
 
 impl Class {
-    /// Whether a token of this kind is in the class.
+    /// Whether a token of this kind is one of the class for which the parser asks.
     pub fn holds(self, kind: &TokenKind) -> bool
         ensures { result ≡ is_in self kind.now }
     {
@@ -74,7 +74,7 @@ impl Class {
     }
 }
 
-/// The index of the first of these tokens among `total`, of which they are the last.
+/// The index of the token at which reading stands: the first of these among `total`, of which they are the last.
 pub fn place(total: usize, tokens: &[Token]) -> u32
     requires within { length tokens.now ≤ total }
     requires small { total < 2 ^ 32 }
@@ -83,7 +83,7 @@ pub fn place(total: usize, tokens: &[Token]) -> u32
     (total - tokens.len()) as u32
 }
 
-/// Whether a token of this class stands first.
+/// Whether a token of this class, such as a name or a comma, stands first.
 pub fn next_is(tokens: &[Token], class: Class) -> bool
     ensures { result ≡ next (is_in class) (kinds tokens.now) }
 {
@@ -93,7 +93,8 @@ pub fn next_is(tokens: &[Token], class: Class) -> bool
     }
 }
 
-/// The tokens behind the first one, which must be of this class. Any other token, or none, is a fault there.
+/// Reads one token, which must be of this class, and returns the tokens behind it. Any other token, or none, is a
+/// fault there.
 pub fn expect(tokens: &[Token], class: Class) -> Result<((), &[Token]), Fault>
     ensures shorter { IfOk result (λ x. length x.1.now < length tokens.now) }
     ensures gives { Gives (λ x. (tt, kinds x.1.now)) result (expect (is_in class) (kinds tokens.now)) }
@@ -104,7 +105,7 @@ pub fn expect(tokens: &[Token], class: Class) -> Result<((), &[Token]), Fault>
     }
 }
 
-/// Whether a token of this class stands first, and the tokens behind it; else all the tokens.
+/// Reads one token if it is of this class: returns whether it is, and the tokens behind it, or else all the tokens.
 pub fn perhaps(tokens: &[Token], class: Class) -> (bool, &[Token])
     ensures shorter { length result.1.now ≤ length tokens.now }
     ensures gives { perhaps (is_in class) (kinds tokens.now) ≡ Ok (result.0, kinds result.1.now) }

@@ -36,13 +36,14 @@ HasKind Mean children kind = (children ≡ Kind.Stereo) × (kind ≡ Mono)
 HasKind Stereo children kind = (children ≡ Mono) × (kind ≡ Kind.Stereo)
 HasKind _ children kind = kind ≡ children
 
--- the pitch of a square wave is above 0, and an overlap is from 1 to MAX_OVERLAP
+-- the numbers of an operator are in range: the pitch of a square wave is above 0, and an overlap is from 1 to
+-- MAX_OVERLAP
 abbrev pub IsInRange : Op → Type 0
 IsInRange (Square pitch) = pos 0 <ℤ pitch.millionths
 IsInRange (Crossfade overlap) = (1 ≤ overlap) × (overlap ≤ MAX_OVERLAP)
 IsInRange _ = ⊤
 
--- 1 for a crossfade, 0 for any other node
+-- how many crossfades a node of this operator is itself: 1 for a crossfade, 0 for any other
 abbrev pub own_crossfades : Op → ℕ
 own_crossfades (Crossfade overlap) = 1
 own_crossfades _ = 0
@@ -52,16 +53,16 @@ abbrev pub buffer_read : Op → Option ℕ
 buffer_read (Buffer number) = Some number
 buffer_read _ = None
 
--- this is no reader of a buffer
+-- an operator is any but that of a reader of a buffer
 abbrev pub IsNoReader : Op → Type 0
 IsNoReader op = (buffer : ℕ) → op ≢ Buffer buffer
 
--- this is an output, and no feed
+-- whether a sink of a plan is an output to a file, and no feed of a buffer
 abbrev pub is_output : SinkPlan → Bool
 is_output (Output name node fallible wide) = true
 is_output (Feed buffer node) = false
 
--- the number of the node of a sink
+-- the number of the node whose cells an output writes or a feed gives to a buffer
 abbrev pub sink_node : SinkPlan → ℕ
 sink_node (Output name node fallible wide) = node
 sink_node (Feed buffer node) = node
@@ -88,7 +89,7 @@ crossfade_counts nodes = counts_after [] nodes
 abbrev pub crossfades_from : List Node → Node → ℕ
 crossfades_from nodes node = crossfades_over (crossfade_counts nodes) node
 
--- what a node has to meet whose children are among the nodes `below`
+-- what a node of a well-formed plan has to meet, whose children are among the nodes `below`
 pub record IsNodeOver (below : List Node) (node : Node) : Type 0 where
   pub children : All (λ child. child < length below) node.children
   pub few : length node.children ≤ MAX_CHILDREN
@@ -98,7 +99,7 @@ pub record IsNodeOver (below : List Node) (node : Node) : Type 0 where
   pub range : IsInRange node.op
   pub crossfades : crossfades_from below node ≤ MAX_CROSSFADES
 
--- each node stands over the ones before it
+-- each node of the list meets what nodes of a well-formed plan have to meet, over the ones before it
 abbrev pub AreNodes : List Node → Type 0
 AreNodes nodes = (i : ℕ) (node : Node) → slice_get nodes i ≡ Some node → IsNodeOver (take i nodes) node
 
@@ -114,11 +115,11 @@ FeedsBuffer plan buffer i = (node : ℕ) × FeedsFrom plan buffer i node
 abbrev pub ReadsBuffer : Plan → (buffer i : ℕ) → Type 0
 ReadsBuffer plan buffer i = (reader : Node) × (slice_get plan.nodes i ≡ Some reader) × (reader.op ≡ Buffer buffer)
 
--- exactly one number has the property `such`
+-- exactly one number has the property `such`: one has it, and any other that has it is the same
 abbrev pub IsOfOne : (ℕ → Type 0) → Type 0
 IsOfOne such = (i : ℕ) × such i × ((j : ℕ) → such j → j ≡ i)
 
--- a reader has the kind of its feed's node
+-- each reader of a buffer is mono or stereo as the node is that feeds the buffer
 abbrev pub ReadersHaveKind : Plan → Type 0
 ReadersHaveKind plan = (buffer i j node : ℕ) (reader source : Node) → slice_get plan.nodes i ≡ Some reader
     → reader.op ≡ Buffer buffer → FeedsFrom plan buffer j node → slice_get plan.nodes node ≡ Some source
@@ -128,7 +129,8 @@ ReadersHaveKind plan = (buffer i j node : ℕ) (reader source : Node) → slice_
 abbrev pub IsBuffer : BufferPlan → Type 0
 IsBuffer buffer = (buffer.pre ≤ MAX_PREFILL) × (1 ≤ buffer.capacity) × (buffer.capacity ≤ MAX_CAPACITY)
 
--- what every call that takes a plan may rely on
+-- What every call that takes a plan may rely on: its numbers are in range, its nodes stand over those before them, and
+-- each buffer has one feed and one reader.
 pub record IsWellFormed (plan : Plan) : Type 0 where
   pub rate : (MIN_RATE ≤ plan.rate) × (plan.rate ≤ MAX_RATE)
   pub frame : (1 ≤ plan.frame) × (plan.frame ≤ MAX_FRAME)
@@ -151,7 +153,7 @@ with_node plan node = record plan { nodes = plan.nodes ++ node ∷ [] }
 abbrev pub with_output : Plan → (name : List ℕ) (node : ℕ) (fallible wide : Bool) → Plan
 with_output plan name node fallible wide = record plan { sinks = plan.sinks ++ Output name node fallible wide ∷ [] }
 
--- the node that reads a buffer
+-- the node that reads a buffer of this number, mono or stereo as `kind` says
 abbrev pub reader_of : (buffer : ℕ) → Kind → Node
 reader_of buffer kind = record { op = Buffer buffer; kind = kind; children = [] }
 

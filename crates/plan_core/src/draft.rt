@@ -40,7 +40,8 @@ impl Model for Draft {
 }
 
 impl Draft {
-    /// No nodes, sinks and buffers. `rate` is in samples a second, `frame` in samples. It takes no memory.
+    /// A plan without nodes, sinks and buffers, whose making begins. `rate` is in samples a second, `frame` in
+    /// samples. It takes no memory.
     pub fn new(alloc: Global, rate: u32, frame: u32) -> Draft
         ensures empty { result ≡ record { rate = rate; frame = frame; nodes = []; sinks = []; buffers = [] } }
     {
@@ -64,7 +65,7 @@ impl Draft {
         &self.plan
     }
 
-    /// The plan, whose making ends here.
+    /// Ends the making of a plan, and returns it.
     pub fn into_plan(self) -> Plan
         ensures same { result ≡ self }
     {
@@ -96,14 +97,14 @@ impl Draft {
         own_crossfades(&node.op) + most
     }
 
-    /// Sets the rate, in samples a second.
+    /// Sets the rate of the plan, in samples a second.
     pub fn set_rate(&mut self, rate: u32)
         ensures set { self.new ≡ record self.old { rate = rate } }
     {
         self.plan.rate = rate;
     }
 
-    /// Sets the tick, in samples.
+    /// Sets the length of a tick of the plan, in samples.
     pub fn set_frame(&mut self, frame: u32)
         ensures set { self.new ≡ record self.old { frame = frame } }
     {
@@ -207,7 +208,7 @@ impl Draft {
     }
 }
 
-/// 1 for a crossfade, 0 for any other node.
+/// How many crossfades a node of this operator is itself: 1 for a crossfade, 0 for any other.
 fn own_crossfades(op: &Op) -> u32
     ensures { result ≡ own_crossfades op.now }
 {

@@ -18,7 +18,7 @@ impl<T> Model for Items<T> {
 }
 
 impl<T> Items<T> {
-    /// No items. It takes no memory.
+    /// A list of a plan without items. It takes no memory.
     pub fn new(alloc: Global) -> Items<T>
         ensures { result ≡ [] }
     {
@@ -27,21 +27,21 @@ impl<T> Items<T> {
         }
     }
 
-    /// The items of a `Vec`. It takes no memory.
+    /// A list of a plan from the items of a `Vec`. It takes no memory.
     pub fn from_vec(items: Vec<T>) -> Items<T>
         ensures { result ≡ items.items }
     {
         Items { items }
     }
 
-    /// The items, to be read.
+    /// The items of a list of a plan, to be read.
     pub fn as_slice(&self) -> &[T]
         ensures { result.now ≡ self.now }
     {
         self.items.as_slice()
     }
 
-    /// How many items there are.
+    /// How many items a list of a plan has.
     pub fn len(&self) -> usize
         ensures { result ≡ length self.now }
     {
@@ -50,7 +50,7 @@ impl<T> Items<T> {
 }
 
 impl<T: Drop> Items<T> {
-    /// Adds an item at the end. Where memory is refused, the list is as it was.
+    /// Adds an item at the end of a list of a plan. Where memory is refused, the list is as it was.
     pub fn push(&mut self, item: T) -> Result<(), Memory>
         ensures added { OnOk result (self.new ≡ self.old ++ item ∷ []) }
         ensures unchanged { OnErr result (self.new ≡ self.old) }
@@ -59,7 +59,7 @@ impl<T: Drop> Items<T> {
         Ok(())
     }
 
-    /// Keeps the first `keep` items alone.
+    /// Drops the items of a list behind its first `keep` ones.
     pub fn truncate(&mut self, keep: usize)
         ensures { self.new ≡ take keep self.old }
     {

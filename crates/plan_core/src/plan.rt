@@ -44,6 +44,7 @@ impl From<Memory> for PlanFault {
 
     ghost from_gives = { λ _ e. e ≡ fault.Memory };
 
+    // Turns a refusal of memory into the fault of a node that was not added.
     fn from(_refused: Memory) -> PlanFault {
         Self::Memory
     }

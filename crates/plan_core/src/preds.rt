@@ -27,21 +27,21 @@ impl Model for Preds {
 }
 
 impl Preds {
-    /// The predicates of a `Vec`, one for each child in order. It takes no memory.
+    /// The predicates of a switch from a `Vec`, one for each child in order. It takes no memory.
     pub fn from_vec(preds: Vec<SharedPred>) -> Preds
         ensures { result ≡ map view_shared preds.items }
     {
         Preds { preds }
     }
 
-    /// The predicates, to be read.
+    /// The predicates of a switch, one for each child, to be read.
     pub fn as_slice(&self) -> &[SharedPred]
         ensures { map view_shared result.now ≡ self.now }
     {
         self.preds.as_slice()
     }
 
-    /// How many predicates there are.
+    /// How many predicates a switch has.
     pub fn len(&self) -> usize
         ensures { result ≡ length self.now }
     {

@@ -24,7 +24,7 @@ pub enum SinkPlan {
 }
 
 impl SinkPlan {
-    /// Whether this is an output, and no feed.
+    /// Whether a sink of a plan is an output to a file, and no feed of a buffer.
     pub fn is_output(&self) -> bool
         ensures { result ≡ is_output self.now }
     {

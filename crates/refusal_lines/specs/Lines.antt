@@ -28,7 +28,7 @@ use Rattle.refusal_lines.specs.declared.replay_lines.ReplayFault.{ReplayFault}
 use Rattle.refusal_lines.specs.declared.replay_lines.ReplayFault.TheVariants.{NoTrace, TraceTooLarge, NotATrace, DoesNotFit}
 use Rattle.refusal_lines.specs.Forms.{at_place, at_statement, at_token, of_audio, of_clocks, of_name}
 
--- the line of bytes that are no tokens; want of memory is no refusal, and has no line
+-- the line that is printed for a script whose bytes are no tokens; none for want of memory, which is no refusal
 abbrev pub token_line : LexFault → List ℕ
 token_line (BadByte at) = at_place (codes "E02 bad byte at") at
 token_line (UnclosedString at) = at_place (codes "E03 string not closed at") at
@@ -36,13 +36,13 @@ token_line (NumberTooLarge at) = at_place (codes "E04 number too large at") at
 token_line TextTooLong = codes "E05 script too long\n"
 token_line LexFault.Memory = []
 
--- the line of tokens that are no script; want of memory has none
+-- the line that is printed for a script whose tokens follow no rule of the grammar; none for want of memory
 abbrev pub syntax_line : ParseFault → List ℕ
 syntax_line (Syntax at) = at_place (codes "E06 syntax at token") at
 syntax_line (TooDeep at) = at_place (codes "E07 too deep at token") at
 syntax_line ParseFault.Memory = []
 
--- the line of a fault of names, arguments or types; want of memory has none
+-- the line that is printed for a script whose names, arguments or types are wrong; none for want of memory
 abbrev pub type_line : TypeFault → List ℕ
 type_line (UnknownName stmt at) = at_token (codes "E08") stmt (codes "unknown name") at
 type_line (MissingArgument stmt at label) = at_token (codes "E09") stmt (codes "missing argument " ++ label) at
@@ -51,7 +51,7 @@ type_line (RepeatedName stmt at) = at_token (codes "E11") stmt (codes "repeated 
 type_line (TypeClash stmt) = at_statement (codes "E12") stmt (codes "types clash")
 type_line TypeFault.Memory = []
 
--- what a line calls a limit of the language
+-- the word by which a printed line calls a limit of the language
 abbrev pub limit_name : Limit → List ℕ
 limit_name Calls = codes "calls"
 limit_name Outputs = codes "outputs"
@@ -61,7 +61,7 @@ limit_name Overlap = codes "overlap"
 limit_name Prefill = codes "prefill"
 limit_name Capacity = codes "capacity"
 
--- the line of a fault of evaluation; want of memory has none
+-- the line that is printed for a script whose evaluation makes no plan; none for want of memory
 abbrev pub plan_line : EvalFault → List ℕ
 plan_line (BadSetting stmt) = at_statement (codes "E13") stmt (codes "bad setting")
 plan_line (BadValue stmt at) = at_token (codes "E14") stmt (codes "bad value") at
@@ -72,7 +72,7 @@ plan_line (SameOutput name) = of_name (codes "E18 two outputs") name
 plan_line (TooLarge limit) = of_name (codes "E19 too large:") (limit_name limit)
 plan_line EvalFault.Memory = []
 
--- the number that a line gives for what is wrong with a WAV file
+-- the number that a printed line gives for what is wrong with a WAV file
 abbrev pub wav_number : WavFault → ℕ
 wav_number NotRiff = 1
 wav_number NoFormat = 2
@@ -81,7 +81,8 @@ wav_number NotPcm = 4
 wav_number NoData = 5
 wav_number Empty = 6
 
--- the line of a fault of files; a read that failed and want of memory are no refusals, and have no line
+-- the line that is printed for a plan whose audio files cannot be played; none for a read that failed or want of
+-- memory, which are no refusals
 abbrev pub file_line : LoadFault → List ℕ
 file_line (Missing name) = of_name (codes "E20 missing file") name
 file_line (BadAudio name fault) = of_audio (codes "E21 bad audio") name (wav_number fault)
@@ -90,13 +91,13 @@ file_line AllTooLarge = codes "E24 files too large\n"
 file_line (ReadFault name) = []
 file_line LoadFault.Memory = []
 
--- what a line calls a clock in which a source must lie
+-- how a printed line calls a clock in which a source must lie: by its id, its crossfade or as that of an output
 abbrev pub clock_in_words : ClockName → List ℕ
 clock_in_words (Named id) = id
 clock_in_words (Sub node) = codes "crossfade " ++ decimal node
 clock_in_words AnyMain = codes "an output"
 
--- the line of a fault of clocks; want of memory has none
+-- the line that is printed for a plan whose sources can have no clocks; none for want of memory
 abbrev pub clock_line : ClockFault → List ℕ
 clock_line (TwoClocks node first second) = of_clocks (codes "E26 source") node (clock_in_words first)
     (clock_in_words second)
@@ -104,7 +105,7 @@ clock_line (Nested node) = codes "E27 crossfade " ++ decimal node ++ codes " lie
 clock_line TooManyClocks = codes "E28 too many clocks\n"
 clock_line ClockFault.Memory = []
 
--- the line of a script that has no plan; want of memory is no refusal, and has none
+-- the line that is printed for a script that has no plan, by the step that failed; none for want of memory
 abbrev pub script_line : ScriptFault → List ℕ
 script_line (Lex fault) = token_line fault
 script_line (Parse fault) = syntax_line fault
@@ -112,21 +113,21 @@ script_line (ScriptFault.Type fault) = type_line fault
 script_line (Eval fault) = plan_line fault
 script_line ScriptFault.Memory = []
 
--- the line of a plan that is not rendered
+-- the line that is printed for a plan that cannot be rendered: for its files, its clocks or an output
 abbrev pub station_line : StationFault → List ℕ
 station_line (Files fault) = file_line fault
 station_line (FallibleOutput name) = of_name (codes "E25 fallible output") name
 station_line (Clocks fault) = clock_line fault
 station_line (OutputTooLong name) = of_name (codes "E29 output too long") name
 
--- the line of a trace that is not rendered again
+-- the line that is printed for a trace from which nothing can be rendered again
 abbrev pub replay_line : ReplayFault → List ℕ
 replay_line (NoTrace name) = of_name (codes "E30 no trace") name
 replay_line (TraceTooLarge name) = of_name (codes "E31 trace too large") name
 replay_line (NotATrace line) = at_place (codes "E32 not a trace: line") line
 replay_line DoesNotFit = codes "E33 trace does not fit\n"
 
--- the line of a refusal
+-- the line that is printed for any refusal, with its line end
 abbrev pub line_of : Fault → List ℕ
 line_of NoScript = codes "E01 no script\n"
 line_of (Script fault) = script_line fault

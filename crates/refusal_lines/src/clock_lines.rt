@@ -8,7 +8,7 @@ use clock_infer::{ClockFault, ClockName};
 use liq_base::Memory;
 use std::alloc::Global;
 
-/// The line of a fault of clocks. Want of memory has none.
+/// The line that is printed for a plan whose sources can have no clocks. Want of memory has none.
 pub fn clock_line(alloc: Global, fault: &ClockFault) -> Result<String, Memory>
     ensures { IfOk result (λ line. string_bytes line ≡ clock_line fault.now) }
 {
@@ -24,7 +24,7 @@ pub fn clock_line(alloc: Global, fault: &ClockFault) -> Result<String, Memory>
     }
 }
 
-// The line of a source, `node`, that must lie in two clocks.
+// The line for source number `node`, which must lie in two clocks at once.
 fn two_clocks(
     alloc: Global,
     node: u32,
@@ -39,7 +39,7 @@ fn two_clocks(
     of_clocks(alloc, "E26 source", node, &first, &second)
 }
 
-// What a line calls a clock in which a source must lie.
+// How a printed line calls a clock in which a source must lie: by its id, its crossfade or as that of an output.
 fn clock_name(alloc: Global, clock: &ClockName) -> Result<String, Memory>
     ensures { IfOk result (λ name. string_bytes name ≡ clock_in_words clock.now) }
 {
@@ -50,14 +50,14 @@ fn clock_name(alloc: Global, clock: &ClockName) -> Result<String, Memory>
     }
 }
 
-// What a line calls the own clock of crossfade `node`.
+// How a printed line calls the clock which a crossfade, source number `node`, drives itself.
 fn sub_clock(alloc: Global, node: u32) -> Result<String, Memory>
     ensures { IfOk result (λ name. string_bytes name ≡ codes "crossfade " ++ decimal node) }
 {
     Ok(format!(in alloc; "crossfade {node}")?)
 }
 
-// The line of a crossfade, `node`, that lies in its own clock.
+// The line for a crossfade, source number `node`, that lies in the clock which it drives itself.
 fn nested(alloc: Global, node: u32) -> Result<String, Memory>
     ensures { IfOk result (λ line. string_bytes line
         ≡ codes "E27 crossfade " ++ decimal node ++ codes " lies in its own clock\n") }

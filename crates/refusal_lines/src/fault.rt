@@ -49,7 +49,7 @@ impl Fault {
     }
 }
 
-// The line of a script that has no plan. Want of memory has none.
+// The line that is printed for a script that has no plan, by the step that failed. Want of memory has none.
 fn script_line(alloc: Global, fault: &ScriptFault) -> Result<String, Memory>
     ensures { IfOk result (λ line. string_bytes line ≡ script_line fault.now) }
 {
@@ -62,7 +62,8 @@ fn script_line(alloc: Global, fault: &ScriptFault) -> Result<String, Memory>
     }
 }
 
-// The line of a plan that is not rendered. Want of memory and a read that failed have none.
+// The line that is printed for a plan that cannot be rendered: for its files, its clocks or an output. Want of memory
+// and a read that failed have none.
 fn station_line(alloc: Global, fault: &StationFault) -> Result<String, Memory>
     ensures { IfOk result (λ line. string_bytes line ≡ station_line fault.now) }
 {

@@ -8,7 +8,8 @@ use std::alloc::Global;
 use track_library::LoadFault;
 use wav_io::WavFault;
 
-/// The line of a fault of files. A read that failed and want of memory have none.
+/// The line that is printed for a plan whose audio files cannot be played. A read that failed and want of memory have
+/// none.
 pub fn file_line(alloc: Global, fault: &LoadFault) -> Result<String, Memory>
     ensures { IfOk result (λ line. string_bytes line ≡ file_line fault.now) }
 {
@@ -24,7 +25,7 @@ pub fn file_line(alloc: Global, fault: &LoadFault) -> Result<String, Memory>
     }
 }
 
-// The number that a line gives for what is wrong with a WAV file.
+// The number that a printed line gives for what is wrong with a WAV file.
 fn wav_number(fault: WavFault) -> u32
     ensures { result ≡ wav_number fault }
 {

@@ -7,7 +7,7 @@ use liq_base::Memory;
 use script_values::{EvalFault, Limit};
 use std::alloc::Global;
 
-/// The line of a fault of evaluation. Want of memory has none.
+/// The line that is printed for a script whose evaluation makes no plan. Want of memory has none.
 pub fn plan_line(alloc: Global, fault: &EvalFault) -> Result<String, Memory>
     ensures { IfOk result (λ line. string_bytes line ≡ plan_line fault.now) }
 {
@@ -23,7 +23,7 @@ pub fn plan_line(alloc: Global, fault: &EvalFault) -> Result<String, Memory>
     }
 }
 
-// What a line calls a limit of the language.
+// The word by which a printed line calls a limit of the language.
 fn limit_name(limit: Limit) -> &'static str
     ensures { result.now ≡ limit_name limit }
 {

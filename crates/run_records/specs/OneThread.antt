@@ -6,7 +6,8 @@ use Rattle.stream_meaning.specs.Instants.{Setting, answered}
 use Rattle.stream_meaning.specs.Calls.{answers_in, calls_of_tick, takes_of_tick}
 use Rattle.run_records.specs.Records.{Run, Window, capacity_of, on}
 
--- the chunks that a list holds after these calls on it
+-- the chunks that a list holds after these calls on it, if it held those of `queue` before: a put adds one behind, and
+-- a take drops the first
 abbrev pub held_after : List (List Cell) → List Call → List (List Cell)
 held_after queue [] = queue
 held_after queue (Took buffer None ∷ calls) = held_after queue calls
@@ -32,7 +33,7 @@ abbrev pub accepted_after : Setting → List Call → (m t buffer : ℕ) → Boo
 accepted_after setting calls m t = has_place setting (calls
     ++ takes_of_tick (answered setting (answers_after calls)) m t)
 
--- the calls of tick t of clock m, which comes after these
+-- the calls of tick t of clock m, which comes after these calls: each take gets what its buffer holds then
 abbrev pub tick_after : Setting → List Call → (m t : ℕ) → List Call
 tick_after setting calls m t = calls_of_tick (answered setting (answers_after calls)) (accepted_after setting calls m t)
     m t

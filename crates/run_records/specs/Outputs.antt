@@ -10,7 +10,7 @@ use Rattle.stream_meaning.specs.Calls.{joined_upto, calls_of_tick}
 abbrev pub first_calls : Setting → (accepted : ℕ → ℕ → Bool) → (m ticks : ℕ) → List Call
 first_calls setting accepted m ticks = joined_upto (λ t. calls_of_tick setting (accepted t) m t) ticks
 
--- two settings of one plan have the same bytes and the same gaps in the first ticks of each node of clock m
+-- Two settings of one plan lead to the same bytes and the same gaps in the first ticks of each node of main clock m.
 pub record HasSameOutputs (one other : Setting) (m ticks : ℕ) : Type 0 where
   pub same_bytes : (wide : Bool) (i : ℕ) → clock_of one i ≡ Main m
       → ticks_bytes one wide i ticks ≡ ticks_bytes other wide i ticks

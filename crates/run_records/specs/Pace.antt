@@ -38,11 +38,11 @@ AreSmall frame [] = Unit {0}
 AreSmall frame (None ∷ answers) = AreSmall frame answers
 AreSmall frame (Some chunk ∷ answers) = (length chunk ≤ frame) × AreSmall frame answers
 
--- a reader after a tick in which it gave a frame of cells, or all that it held; these answers are next
+-- a reader after one tick, in which it took these answers and gave a frame of cells, or all that it held
 abbrev pub ticked : List Answer → Reader → Reader
 ticked answers reader = read_by reader.frame (at_start answers reader)
 
--- the answers that a reader has not taken after one tick
+-- those of these answers that a reader has not taken after one tick
 abbrev pub untaken : List Answer → Reader → List Answer
 untaken answers reader = drop (length (reader_takes answers reader)) answers
 

@@ -20,23 +20,24 @@ Window = List (Option (List Cell)) × List (Option (List Cell))
 pub record Run : Type 0 where
   pub buffers : List (List Window)
 
--- the windows of a buffer
+-- the windows of one buffer in the record of a run, each with its puts and its takes
 abbrev pub windows_of : Run → (buffer : ℕ) → List Window
 windows_of run buffer = slice_index_or run.buffers buffer []
 
--- what a buffer answered to its puts, window after window: the chunk, or nothing where it was full
+-- what a buffer answered to its puts in a run, window after window: the chunk where it was accepted, or nothing where
+-- the buffer was full
 abbrev pub puts_of : Run → (buffer : ℕ) → List (Option (List Cell))
 puts_of run buffer = flat_map (λ (window : Window). window.0) (windows_of run buffer)
 
--- what the takes of a buffer got, window after window
+-- what the takes of a buffer got in a run, window after window: a chunk, or nothing where it was empty
 abbrev pub answers_of : Run → (buffer : ℕ) → List Answer
 answers_of run buffer = flat_map (λ (window : Window). window.1) (windows_of run buffer)
 
--- a setting whose takes get what they got in a run
+-- a setting in which the takes of each buffer get what they got in a run
 abbrev pub setting_in : Setting → Run → Setting
 setting_in setting run = answered setting (answers_of run)
 
--- a setting whose takes get what they got in a run, and after that these answers
+-- a setting in which the takes of each buffer get what they got in a run, and after that the answers of `rest`
 abbrev pub setting_then : Setting → Run → (rest : ℕ → List Answer) → Setting
 setting_then setting run rest = answered setting (λ buffer. answers_of run buffer ++ rest buffer)
 
@@ -44,7 +45,7 @@ setting_then setting run rest = answered setting (λ buffer. answers_of run buff
 abbrev pub capacity_of : Setting → (buffer : ℕ) → ℕ
 capacity_of setting buffer = option_map_or (λ plan. plan.capacity) (slice_get setting.plan.buffers buffer) 0
 
--- those of these calls that are on one buffer
+-- those of these calls that take from or put to one buffer, in their order
 abbrev pub on : (buffer : ℕ) → List Call → List Call
 on buffer [] = []
 on buffer (Took other answer ∷ calls) = if nat_eq buffer other then Took other answer ∷ on buffer calls

@@ -7,12 +7,12 @@ use Rattle.run_records.specs.Buffers.{feeder, reader}
 use Rattle.frame_core.specs.Calls.{Answer}
 use Rattle.run_records.specs.Records.{Window, Run, setting_in, setting_then}
 
--- the windows of a buffer, joined to one
+-- the windows of a buffer joined to one, with all their puts and all their takes
 abbrev pub as_one : List Window → List Window
 as_one windows = (flat_map (λ (window : Window). window.0) windows, flat_map (λ (window : Window). window.1) windows)
     ∷ []
 
--- a run's record, with one window for each buffer
+-- a run's record with the windows of each buffer joined to one, as rounds on one thread leave it
 abbrev pub merged : Run → Run
 merged run = record { buffers = map as_one run.buffers }
 

@@ -25,7 +25,7 @@ HaltsFor old new IsTold (Refused fault) = ForSome old.files (λ files. IsTold fi
 HaltsFor old new IsTold Read = Rose old.reads new.reads
 HaltsFor old new IsTold Memory = ⊤
 
--- how a check ends at this fault of files
+-- how a check ends at this fault of audio files: a refusal of the plan, a read that failed, or want of memory
 abbrev pub load_halt : LoadFault → CheckEnd
 load_halt (Missing name) = Refused (StationFault.Files (Missing name))
 load_halt (BadAudio name fault) = Refused (StationFault.Files (BadAudio name fault))
@@ -34,14 +34,15 @@ load_halt AllTooLarge = Refused (StationFault.Files AllTooLarge)
 load_halt (ReadFault name) = Read
 load_halt LoadFault.Memory = Memory
 
--- how a check ends at this fault of clocks
+-- how a check ends at this fault of clocks: a refusal of the plan, or want of memory
 abbrev pub clock_halt : ClockFault → CheckEnd
 clock_halt (TwoClocks node first second) = Refused (Clocks (TwoClocks node first second))
 clock_halt (Nested node) = Refused (Clocks (Nested node))
 clock_halt TooManyClocks = Refused (Clocks TooManyClocks)
 clock_halt ClockFault.Memory = Memory
 
--- the fault of a plan with an output that needs an infallible node and has none: it names the first one
+-- the fault of a plan in which an output may have gaps though the script does not allow it: it names the first output
+-- that needs an infallible node and has none
 pub record IsGapped (plan : Plan) (fault : StationFault) : Type 0 where
   pub name : List ℕ
   pub fault_is : fault ≡ FallibleOutput name
@@ -55,7 +56,7 @@ GapHalts plan (Refused fault) = IsGapped plan fault
 GapHalts plan Read = ⊥
 GapHalts plan Memory = ⊤
 
--- the fault of a plan that has no clocks: it has the only cause
+-- the fault of a plan that has no clocks: it tells the cause, and there is no other
 pub record HasNoClocks (plan : Plan) (fault : StationFault) : Type 0 where
   pub clock_fault : ClockFault
   pub fault_is : fault ≡ Clocks clock_fault

@@ -14,7 +14,8 @@ use Rattle.stations.specs.Findings.{Fits, IsFound, first_name}
 use Rattle.stations.specs.Reports.{checked_line}
 use Rattle.stations.specs.Stations.{Station}
 
--- each output of a plan has an infallible node, or is written with `fallible=true`
+-- no output of a plan may have gaps that the script does not allow: each has an infallible node, or is written with
+-- `fallible=true`
 pub record IsUngapped (plan : Plan) : Type 0 where
   pub mark : ℕ → Bool
   pub marking : IsMarking plan.nodes mark
@@ -38,12 +39,12 @@ pub record FitsBy (files : Files) (plan : Plan) (ticks : ℕ) (clocks : ClockMap
   pub library : Sounds
   pub found : IsFound files plan ticks (Fits library clocks)
 
--- the station is one of this plan and these clocks
+-- this station has this plan and these clocks, whatever else it has
 pub record IsOf (plan : Plan) (clocks : ClockMap) (station : Station) : Type 0 where
   pub plan_is : station.plan ≡ plan
   pub clocks_are : station.clocks ≡ clocks
 
--- the line of a sink in the report of a check; a feed has none
+-- the line in the report of a check for a sink, if it is an output; a feed of a buffer has none
 abbrev pub sink_line : ClockMap → (mark : ℕ → Bool) → SinkPlan → List ℕ
 sink_line clocks mark (Output name node fallible wide) = checked_line clocks mark name node
 sink_line clocks mark (Feed buffer node) = []

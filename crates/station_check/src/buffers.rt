@@ -15,7 +15,7 @@ use plan_core::{BufferPlan, Plan};
 use std::alloc::Global;
 use std::fmt::Write;
 
-/// Adds a line for each buffer of a plan, in order.
+/// Adds to a check's report a line for each buffer of a plan, in order.
 pub fn push_buffers(
     alloc: Global,
     text: &mut String,
@@ -31,7 +31,8 @@ pub fn push_buffers(
     push_lines(text, plan, clocks, &fed, &read)
 }
 
-// Adds the lines of a plan's buffers, where `fed` has the node that feeds each, and `read` the one that reads it.
+// Adds to a check's report the lines of a plan's buffers, where `fed` has the node that feeds each, and `read` the one
+// that reads it.
 fn push_lines(
     text: &mut String,
     plan: &Plan,
@@ -57,7 +58,7 @@ fn push_lines(
     Ok(())
 }
 
-// The name of the main clock to which the clock of a node belongs.
+// The name of the main clock to which a node belongs, also where it lies in a sub-clock of it.
 fn clock_name<'a>(plan: &Plan, clocks: &'a ClockMap, node: u32) -> &'a str
     ensures { (station : Station) → IsOf plan.now clocks.now station
         → result.now ≡ slice_index_or clocks.now.names (main_of (bare station) node) [] }
@@ -65,7 +66,7 @@ fn clock_name<'a>(plan: &Plan, clocks: &'a ClockMap, node: u32) -> &'a str
     main_name(clocks, NodeClock::Main(main_of(plan, clocks, node)))
 }
 
-// Adds the line of buffer `number`, fed in the main clock `from` and read in the main clock `to`.
+// Adds to a check's report the line of buffer `number`, fed in the main clock `from` and read in the main clock `to`.
 fn push_line(
     text: &mut String,
     number: usize,

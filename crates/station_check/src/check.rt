@@ -77,7 +77,8 @@ pub fn check_clocks<S: Shelf>(
     check_rest(alloc, plan, ticks)
 }
 
-// The clocks of a plan whose audio files are there, or its first fault, if it is to be rendered for so many ticks.
+// The clocks of a plan whose audio files are there; or its first fault of outputs and clocks, if it is to be rendered
+// for so many ticks.
 fn check_rest(alloc: Global, plan: &Plan, ticks: u64) -> Result<ClockMap, CheckEnd>
     requires plan { IsWellFormed plan.now }
     requires few { ticks ≤ 1000000000 }

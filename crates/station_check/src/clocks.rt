@@ -10,7 +10,7 @@ use plan_core::Plan;
 use stations::StationFault;
 use std::alloc::Global;
 
-/// The clocks of a plan, or why it has none.
+/// The clocks of a plan; or how a check ends where the plan has none.
 pub fn find_clocks(alloc: Global, plan: &Plan) -> Result<ClockMap, CheckEnd>
     requires { IsWellFormed plan.now }
     ensures map { IfOk result (λ clocks. OnlyClocks plan.now clocks) }
@@ -22,7 +22,7 @@ pub fn find_clocks(alloc: Global, plan: &Plan) -> Result<ClockMap, CheckEnd>
     }
 }
 
-// How a check ends at this fault of clocks.
+// How a check ends at a fault of clocks: want of memory, or a refusal of the plan.
 fn halt_of(fault: ClockFault) -> CheckEnd
     ensures { result ≡ clock_halt fault }
 {

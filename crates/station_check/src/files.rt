@@ -54,7 +54,7 @@ pub fn check_files<S: Shelf>(alloc: Global, plan: &Plan, shelf: &mut S) -> Resul
     }
 }
 
-// How a check ends at this fault of files.
+// How a check ends at a fault of files: a read that failed, want of memory, or a refusal of the plan.
 fn halt_of(fault: LoadFault) -> CheckEnd
     ensures { result ≡ load_halt fault }
 {

@@ -12,7 +12,7 @@ use plan_core::{Plan, SinkPlan};
 use stations::StationFault;
 use std::alloc::Global;
 
-/// A copy of the name of an output.
+/// A copy of the name of an output, for a refusal; empty for a feed of a buffer, which has none.
 pub fn output_name(alloc: Global, sink: &SinkPlan) -> Result<Text, Memory>
     ensures { IfOk result (λ name. name ≡ sink_name sink.now) }
 {
@@ -22,7 +22,8 @@ pub fn output_name(alloc: Global, sink: &SinkPlan) -> Result<Text, Memory>
     }
 }
 
-/// Refuses the first output that needs an infallible source and has none.
+/// Refuses the first output of a plan that may have gaps though the script does not allow it: it needs an infallible
+/// source and has none.
 pub fn check_gaps(alloc: Global, plan: &Plan) -> Result<(), CheckEnd>
     requires { IsWellFormed plan.now }
     ensures safe { OnOk result (IsUngapped plan.now) }

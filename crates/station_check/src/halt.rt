@@ -21,6 +21,7 @@ pub enum CheckEnd {
 impl From<Memory> for CheckEnd {
     ghost from_gives = { λ _ e. e ≡ no_memory };
 
+    // Ends a check where memory was refused.
     fn from(_refused: Memory) -> CheckEnd {
         CheckEnd::Memory
     }

@@ -30,7 +30,7 @@ pub fn check_lengths(alloc: Global, plan: &Plan, ticks: u64) -> Result<(), Check
     Ok(())
 }
 
-// Whether a node is mono or stereo.
+// Whether the node of this number is mono or stereo; stereo if there is none.
 fn kind_at(plan: &Plan, node: u32) -> Kind
     ensures { result ≡ node_kind plan.now node }
 {
@@ -55,7 +55,8 @@ fn is_too_long(plan: &Plan, ticks: u64, sink: &SinkPlan) -> bool
     }
 }
 
-// Whether so many samples of each channel, wide or not, are too many for the header of a file.
+// Whether so many samples of each channel are too many for the header of a WAV file, which has 24 bits a sample if
+// `wide`, and otherwise 16.
 fn has_no_header(wide: bool, kind: Kind, rate: u32, samples: u64) -> bool
     requires { rate ≤ MAX_RATE }
     ensures { result ≡ is_none (header_at wide kind rate samples) }

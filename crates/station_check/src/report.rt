@@ -31,7 +31,7 @@ pub fn check_report(alloc: Global, plan: &Plan, clocks: &ClockMap) -> Result<Str
     Ok(text)
 }
 
-// Adds the line of a sink, if it is an output; `marks` says which nodes are infallible.
+// Adds to a check's report the line of a sink, if it is an output; `marks` says which nodes are infallible.
 fn push_sink(
     alloc: Global,
     text: &mut String,
@@ -50,7 +50,7 @@ fn push_sink(
     Ok(())
 }
 
-// The line of the output of this name, whose node lies in this clock.
+// The line of a check's report for the output of this name: the clock of its source, and whether that is infallible.
 fn output_line(alloc: Global, name: &str, clock: &str, infallible: bool) -> Result<String, Memory>
     ensures { IfOk result (λ line. string_bytes line
         ≡ codes "output " ++ name.now ++ codes " clock " ++ clock.now ++ codes " " ++ fallible_word infallible
@@ -60,14 +60,14 @@ fn output_line(alloc: Global, name: &str, clock: &str, infallible: bool) -> Resu
     Ok(format!(in alloc; "output {name} clock {clock} {word}\n")?)
 }
 
-// How a report calls a source that is infallible, or is not.
+// The word in a report for a source that always has a cell, or does not.
 fn fallible_word(infallible: bool) -> &'static str
     ensures { result.now ≡ fallible_word infallible }
 {
     if infallible { "infallible" } else { "fallible" }
 }
 
-// The name of the main clock of a node.
+// The name of the main clock of a node; empty if it lies in a sub-clock.
 fn clock_name(clocks: &ClockMap, node: u32) -> &str
     ensures { result.now ≡ clock_name clocks.now node }
 {
@@ -75,7 +75,7 @@ fn clock_name(clocks: &ClockMap, node: u32) -> &str
     main_name(clocks, clock.unwrap_or(NodeClock::Main(0)))
 }
 
-/// The name of a main clock; a sub-clock has none.
+/// The name of a main clock; empty for a sub-clock, which has none.
 pub fn main_name(clocks: &ClockMap, clock: NodeClock) -> &str
     ensures { result.now ≡ main_name clocks.now.names clock }
 {

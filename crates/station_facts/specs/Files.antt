@@ -35,26 +35,26 @@ abbrev pub list_in : Op → List (List ℕ)
 list_in (Playlist name again) = name ∷ []
 list_in _ = []
 
--- the names in each of these, one after another
+-- the names that `names` finds in each item of a list, one after another
 abbrev pub in_each : {A : Type 0} → (A → List (List ℕ)) → List A → List (List ℕ)
 in_each names [] = []
 in_each names (x ∷ xs) = names x ++ in_each names xs
 
--- the files that these sources play by `single`
+-- the names of the files that these sources play by `single`, in their order
 abbrev pub singles : List Node → List (List ℕ)
 singles nodes = in_each (λ node. single_in node.op) nodes
 
--- the lists that these sources play
+-- the names of the lists that the playlists among these sources play, in their order
 abbrev pub lists : List Node → List (List ℕ)
 lists nodes = in_each (λ node. list_in node.op) nodes
 
--- the names in a list; none if it could not be read or is of no use
+-- the names of audio files in a list, by what a look at it found; none if it could not be read or is of no use
 abbrev pub entries_in : ListLook → List (List ℕ)
 entries_in list_look.Unread = []
 entries_in (list_look.Bad fault) = []
 entries_in (list_look.Names names skipped) = names.items
 
--- each name once, where it stands first
+-- each of these names once, at the place where it stands first
 abbrev pub once : List (List ℕ) → List (List ℕ)
 once names = insert_all bytes_eq [] names
 
@@ -80,15 +80,15 @@ AreFound IsFound [] old new (found ∷ looks) = ⊥
 AreFound IsFound (name ∷ names) old new (found ∷ looks) =
     (mid : ShelfTold) × IsFound name old mid found × OnlyRead old mid × AreFound IsFound names mid new looks
 
--- each of these lists was looked at
+-- in calls of the shelf one after another, each list of these names was looked at, and `looks` is what was found
 abbrev pub AreListLooks : List (List ℕ) → (old new : ShelfTold) → List ListLook → Type 0
 AreListLooks names old new looks = AreFound IsListLook names old new looks
 
--- each of these audio files was looked at
+-- in calls of the shelf one after another, each audio file of these names was looked at, and `looks` is what was found
 abbrev pub AreLooks : Rules → List (List ℕ) → (old new : ShelfTold) → List Look → Type 0
 AreLooks rules names old new looks = AreFound (IsLooked rules) names old new looks
 
--- the number of a fault of a WAV file, as the line E21 has it
+-- the number that stands for a fault of a WAV file, the same as in the printed line E21
 abbrev pub wav_number : WavFault → ℕ
 wav_number NotRiff = 1
 wav_number NoFormat = 2
@@ -97,22 +97,23 @@ wav_number NotPcm = 4
 wav_number NoData = 5
 wav_number Empty = 6
 
--- what becomes of a file, in a word
+-- the member `state`, which says in a word what becomes of a file
 abbrev pub state_member : (word : List ℕ) → List Token
 state_member word = text_member (codes "state") word
 
--- why a file or a list is of no use
+-- the members that say why a file or a list is of no use
 abbrev pub unusable_members : Unusable → List Token
 unusable_members NotThere = state_member (codes "missing")
 unusable_members TooLong = state_member (codes "too large")
 unusable_members (NotWav fault) = state_member (codes "not wav") ++ number_member (codes "fault") (wav_number fault)
 
--- the word for a sound, by whether it counts for no more bytes than a sound may: only then it is used
+-- the word for what becomes of a sound: it is used only if it counts for no more bytes than a sound may, which `fits`
+-- says
 abbrev pub use_word : (fits : Bool) → List ℕ
 use_word true = codes "used"
 use_word false = codes "too large"
 
--- the members of a sound: whether it is used, and its facts
+-- the members of a sound: whether it is used, its format and its lengths
 abbrev pub facts_members : Rules → Facts → List Token
 facts_members rules facts = state_member (use_word (nat_le facts.bytes rules.file)) ++ (kind_member facts.kind
     ++ (number_member (codes "bits") (bits_of facts.wide) ++ (number_member (codes "rate") facts.rate
@@ -125,7 +126,7 @@ look_members rules Unread = state_member (codes "unread")
 look_members rules (Bad fault) = unusable_members fault
 look_members rules (Sound facts) = facts_members rules facts
 
--- the object of the audio file of this name
+-- the JSON object of the audio file of this name, by what a look at it found
 abbrev pub sound_object : Rules → (name : List ℕ) → Look → List Token
 sound_object rules name found = object (text_member (codes "name") name ++ look_members rules found)
 
@@ -136,7 +137,7 @@ list_look_members (list_look.Bad fault) = unusable_members fault
 list_look_members (list_look.Names names skipped) = state_member (codes "read")
     ++ (list_member (codes "entries") (λ name. string name ∷ []) names.items ++ number_member (codes "skipped") skipped)
 
--- the object of the list of this name
+-- the JSON object of the list of this name, by what a look at it found
 abbrev pub list_object : (name : List ℕ) → ListLook → List Token
 list_object name found = object (text_member (codes "name") name ++ list_look_members found)
 
@@ -145,17 +146,19 @@ abbrev pub count_or_none : Result ℕ Unusable → ℕ
 count_or_none (Ok bytes) = bytes
 count_or_none (Err fault) = 0
 
--- for how many bytes all sounds count that are used
+-- for how many bytes all sounds count that are used, by what the looks at them found
 abbrev pub all_bytes : Rules → List Look → ℕ
 all_bytes rules [] = 0
 all_bytes rules (found ∷ looks) = count_or_none (counted_as rules found) + all_bytes rules looks
 
--- the most bytes of all sounds that are used, of one sound, of a list and of a script
+-- the members for the limits of sizes: the most bytes of all sounds that are used, of one sound, of a list and of a
+-- script
 abbrev pub limit_members : Rules → List Token
 limit_members rules = number_member (codes "most") rules.all ++ (number_member (codes "file_most") rules.file
     ++ (number_member (codes "list_most") MAX_LIST_BYTES ++ number_member (codes "script_most") MAX_SCRIPT_BYTES))
 
--- the whole object of a plan and its files
+-- the whole JSON object of a plan and its files: the plan, what looks at its lists and audio files found, the bytes of
+-- all sounds, and the limits
 abbrev pub files_object : Rules → Plan → (ats : List ℕ) → Inferred → List ListLook → List Look → List Token
 files_object rules plan ats inferred list_looks looks = object (plan_members plan ats inferred
     ++ (paired_member (codes "lists") list_object (lists_of plan) list_looks

@@ -16,7 +16,7 @@ abbrev pub cases_in : Op → ℕ
 cases_in (Switch sensitive preds) = length preds + 1
 cases_in _ = 0
 
--- n and how many cases these sources have; where they are more than 100,000, 100,001
+-- how many cases these sources and others with n cases have; where they are more than 100,000, 100,001
 abbrev pub cases_to : ℕ → List Node → ℕ
 cases_to n [] = n
 cases_to n (node ∷ nodes) = cases_to (min (n + cases_in node.op) 100001) nodes
@@ -26,50 +26,50 @@ cases_to n (node ∷ nodes) = cases_to (min (n + cases_in node.op) 100001) nodes
 abbrev pub most_spans : List Node → ℕ
 most_spans nodes = min (100000 / max (cases_to 0 nodes) 1) 2000
 
--- a span: its first second, and the second behind its last one
+-- a span of seconds of the week as a JSON list: its first second, and the second behind its last one
 abbrev pub span_list : Span → List Token
 span_list span = begin_array ∷ number (decimal span.from) ∷ number (decimal span.to) ∷ end_array ∷ []
 
--- the spans of a case, unless they are more than `most`
+-- the member `spans`, the spans of a case; none if they are more than `most`
 abbrev pub spans_member : (most : ℕ) → List Span → List Token
 spans_member most spans = if nat_le (length spans) most then list_member (codes "spans") span_list spans else []
 
--- the object of a case: how many spans it has, and these, unless they are more than `most`
+-- the JSON object of a case: how many spans of the week it has, and these, unless they are more than `most`
 abbrev pub hours_object : (most : ℕ) → List Span → List Token
 hours_object most spans = object (number_member (codes "count") (length spans) ++ spans_member most spans)
 
--- a switch: its number, the byte of the script at which the call that made it begins, the spans in which each case is the
--- first that holds, and those in which none holds
+-- The JSON object of a switch: its number, the byte of the script at which the call that made it begins, the spans in
+-- which each case is the first that holds, and those in which none holds.
 abbrev pub switch_of : (most place : ℕ) → (cases : List (List Span)) → (none : List Span) → (at : ℕ) → List Token
 switch_of most place cases none at = object (number_member (codes "source") place
     ++ (number_member (codes "at") at
     ++ (list_member (codes "cases") (hours_object most) cases
     ++ (key (codes "none") ∷ hours_object most none))))
 
--- the object of switch `place`, by the predicates of its cases; its call begins at byte `at` of the script, and no more
--- than `most` spans are told of a case
+-- The JSON object of switch `place`, by the predicates of its cases. Its call begins at byte `at` of the script, and
+-- no more than `most` spans are told of a case.
 abbrev pub switch_object : (most place : ℕ) → List Predicate → (at : ℕ) → List Token
 switch_object most place preds at = switch_of most place (case_spans [] preds) (hole_spans preds) at
 
--- the object of source `place`, if it is a switch; of another source nothing is told
+-- the JSON object of source `place` if it is a switch; nothing of another source
 abbrev pub source_hours : (most place : ℕ) → Op → (at : ℕ) → List Token
 source_hours most place (Switch sensitive preds) at = switch_object most place preds at
 source_hours most place _ at = []
 
--- the objects of the switches among these sources; the first source has number `place`, and `ats` has the byte of the
--- script at which the call of each begins
+-- The JSON objects of the switches among these sources. The first source has number `place`, `ats` has the byte of the
+-- script at which the call of each begins, and no more than `most` spans are told of a case.
 abbrev pub switches_from : (most place : ℕ) → List Node → (ats : List ℕ) → List Token
 switches_from most place [] ats = []
 switches_from most place (node ∷ nodes) [] = []
 switches_from most place (node ∷ nodes) (at ∷ ats) =
     source_hours most place node.op at ++ switches_from most (place + 1) nodes ats
 
--- the object of the switches among these sources; no more than `most` spans are told of a case
+-- the JSON object of the switches among these sources; no more than `most` spans are told of a case
 abbrev pub switches_object : (most : ℕ) → List Node → (ats : List ℕ) → List Token
 switches_object most nodes ats = object (number_member (codes "most") most
     ++ (key (codes "switches") ∷ begin_array ∷ (switches_from most 0 nodes ats ++ end_array ∷ [])))
 
--- the whole object of the hours of a plan
+-- the whole JSON object of the hours of a plan: when in the week each case of its switches holds
 abbrev pub week_object : Plan → (ats : List ℕ) → List Token
 week_object plan ats = switches_object (most_spans plan.nodes) plan.nodes ats
 

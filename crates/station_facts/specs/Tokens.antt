@@ -10,7 +10,7 @@ use Rattle.script_lex.specs.declared.token.TokenKind.{TokenKind}
 use Rattle.script_lex.specs.declared.token.TokenKind.TheVariants as kind
 use Rattle.station_facts.specs.Members.{list_member, number_member, object}
 
--- the word for the kind of a token
+-- the word by which a kind of token of a script is told
 abbrev pub kind_word : TokenKind → List ℕ
 kind_word (kind.Name text) = codes "name"
 kind_word (kind.NameOpen text) = codes "open"
@@ -29,12 +29,12 @@ text_item (kind.NameOpen text) = string text ∷ []
 text_item (kind.Str text) = string text ∷ []
 text_item _ = []
 
--- a token: its kind, the place of its first byte, the place behind its last one, and its text
+-- the JSON list of a token: its kind, the place of its first byte, the place behind its last one, and its text
 abbrev pub token_array : Token → List JsonToken
 token_array token = begin_array ∷ string (kind_word token.kind) ∷ number (decimal token.start)
     ∷ number (decimal token.end) ∷ (text_item token.kind ++ end_array ∷ [])
 
--- the number of a fault, and the byte of the script at which it is, if it has one
+-- the members `fault` and `at`: the number of a fault, and the byte of the script at which it is, if it has one
 abbrev pub fault_members : LexFault → List JsonToken
 fault_members (faults.BadByte at) = number_member (codes "fault") 1 ++ number_member (codes "at") at
 fault_members (faults.UnclosedString at) = number_member (codes "fault") 2 ++ number_member (codes "at") at
@@ -42,12 +42,12 @@ fault_members (faults.NumberTooLarge at) = number_member (codes "fault") 3 ++ nu
 fault_members faults.TextTooLong = number_member (codes "fault") 4
 fault_members faults.Memory = []
 
--- the fault at which the tokens end, if there is one
+-- the members for the fault at which the tokens of a script end; none if there is no fault
 abbrev pub stop_members : Option LexFault → List JsonToken
 stop_members None = []
 stop_members (Some fault) = fault_members fault
 
--- the tokens of a text as far as they go, and why they go no further
+-- What is told of a script is its tokens as far as they go, and why they go no further, as one JSON object.
 pub record AreTold (text told : List ℕ) : Type 0 where
   pub tokens : List Token
   pub stop : Option LexFault

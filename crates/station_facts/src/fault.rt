@@ -4,7 +4,7 @@ ghost use Rattle.station_facts.specs.Files.{wav_number};
 
 use wav_io::WavFault;
 
-/// The number of a fault, as the line E21 has it.
+/// The number that stands for a fault of a WAV file, the same as in the printed line E21.
 pub fn wav_number(fault: WavFault) -> u64
     ensures { result ≡ wav_number fault }
 {

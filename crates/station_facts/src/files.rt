@@ -64,7 +64,8 @@ pub fn tell_files<S: Shelf>(
     Ok(out.into_inner())
 }
 
-// Writes the whole object of a plan and its files.
+// Writes the whole JSON object of a plan and its files: the plan, what looks at its lists and audio files found, the
+// bytes of all sounds, and the limits.
 fn push_all(
     alloc: Global,
     out: &mut Out,
@@ -92,7 +93,8 @@ fn push_all(
     Ok(())
 }
 
-// Writes how many bytes all sounds that are used, one sound, a list and a script have at most.
+// Writes the limits of sizes as members: how many bytes all sounds that are used, one sound, a list and a script have
+// at most.
 fn push_limits(out: &mut Out, rules: Rules) -> Result<(), Memory>
     ensures { OnOk result (Adds out.old out.new (limit_members rules)) }
 {

@@ -35,7 +35,7 @@ pub fn tell_hours(alloc: Global, plan: &Plan, ats: &[usize]) -> Result<Vec<u8>, 
     Ok(out.into_inner())
 }
 
-// Writes the object of the hours of a plan.
+// Writes the whole JSON object of the hours of a plan: when in the week each case of its switches holds.
 fn push_week(alloc: Global, out: &mut Out, plan: &Plan, ats: &[usize]) -> Result<(), Memory>
     ensures { OnOk result (Adds out.old out.new (week_object plan.now ats.now)) }
 {
@@ -45,7 +45,8 @@ fn push_week(alloc: Global, out: &mut Out, plan: &Plan, ats: &[usize]) -> Result
     Ok(())
 }
 
-// Writes the object of the switches among these sources. At most `most` spans are told of a case.
+// Writes the JSON object of the switches among these sources. At most `most` spans are told of a case; `known` keeps
+// the hours of the last switch.
 fn push_switches<'a>(
     alloc: Global,
     out: &mut Out,
@@ -86,7 +87,7 @@ fn all_cases(nodes: &[Node]) -> u64
     all
 }
 
-// The cases of a source and `all` others; where they are more than 100,000, 100,001.
+// How many cases this source and others with `all` cases have; where they are more than 100,000, 100,001.
 fn more_cases(all: u64, op: &Op) -> u64
     requires { all ≤ 100001 }
     ensures is { result ≡ min (all + cases_in op.now) 100001 }
@@ -106,8 +107,8 @@ fn cases_in(op: &Op) -> u64
     }
 }
 
-// Writes each switch among these sources. The hours of the last switch are kept in `known`, since the next one may have
-// the same cases.
+// Writes the object of each switch among these sources. The hours of the last switch are kept in `known`, since the
+// next one may have the same cases.
 fn push_each_switch<'a>(
     alloc: Global,
     out: &mut Out,
@@ -128,7 +129,8 @@ fn push_each_switch<'a>(
     Ok(())
 }
 
-// Writes source `number`, if it is a switch; its call begins at byte `at` of the script.
+// Writes the object of source `number` if it is a switch, and otherwise nothing; its call begins at byte `at` of the
+// script.
 fn push_source<'a>(
     alloc: Global,
     out: &mut Out,
@@ -150,7 +152,8 @@ fn push_source<'a>(
     }
 }
 
-// Writes switch `number`, by the predicates of its cases; its call begins at byte `at` of the script.
+// Finds the hours of switch `number` from the predicates of its cases, and writes its object; its call begins at byte
+// `at` of the script.
 fn push_switch<'a>(
     alloc: Global,
     out: &mut Out,
@@ -170,8 +173,8 @@ fn push_switch<'a>(
     Ok(())
 }
 
-// Writes switch `number`, by the spans of its cases and those at which none holds; no more than `most` spans are told
-// of a case.
+// Writes the object of switch `number`, by the spans of its cases and those at which none holds; no more than `most`
+// spans are told of a case.
 fn push_hours(
     out: &mut Out,
     cases: &[Vec<Span>],
@@ -191,7 +194,7 @@ fn push_hours(
     Ok(())
 }
 
-// Writes the spans of each case, as a member.
+// Writes the member `cases` of a switch, a list with the spans of each case.
 fn push_cases(out: &mut Out, cases: &[Vec<Span>], most: u64) -> Result<(), Memory>
     ensures { OnOk result (Adds out.old out.new
         (list_member (codes "cases") (hours_object most) (map spans_in cases.now))) }
@@ -201,7 +204,7 @@ fn push_cases(out: &mut Out, cases: &[Vec<Span>], most: u64) -> Result<(), Memor
     end_list(out)
 }
 
-// Writes the object of each case.
+// Writes the object of each case of a switch, one after another: its spans of the week.
 fn push_each_case(out: &mut Out, cases: &[Vec<Span>], most: u64) -> Result<(), Memory>
     ensures { OnOk result (Adds out.old out.new (each (hours_object most) (map spans_in cases.now))) }
 {
@@ -211,7 +214,7 @@ fn push_each_case(out: &mut Out, cases: &[Vec<Span>], most: u64) -> Result<(), M
     Ok(())
 }
 
-// Writes the spans at which no case holds, as a member.
+// Writes the member `none` of a switch, the spans at which no case holds.
 fn push_none(out: &mut Out, spans: &[Span], most: u64) -> Result<(), Memory>
     ensures { OnOk result (Adds out.old out.new (key (codes "none") ∷ hours_object most spans.now)) }
 {
@@ -220,7 +223,7 @@ fn push_none(out: &mut Out, spans: &[Span], most: u64) -> Result<(), Memory>
     Ok(())
 }
 
-// Writes the name of a member.
+// Writes the name of a member of a JSON object; its value is to follow.
 fn push_key(out: &mut Out, name: &str) -> Result<(), Memory>
     ensures { OnOk result (Adds out.old out.new (key name.now ∷ [])) }
 {
@@ -228,7 +231,7 @@ fn push_key(out: &mut Out, name: &str) -> Result<(), Memory>
     Ok(())
 }
 
-// Writes the object of a case: how many spans it has, and these, unless they are more than `most`.
+// Writes the JSON object of a case: how many spans of the week it has, and these, unless they are more than `most`.
 fn push_spans(out: &mut Out, spans: &[Span], most: u64) -> Result<(), Memory>
     ensures { OnOk result (Adds out.old out.new (hours_object most spans.now)) }
 {
@@ -238,7 +241,7 @@ fn push_spans(out: &mut Out, spans: &[Span], most: u64) -> Result<(), Memory>
     end(out)
 }
 
-// Writes the spans of a case, unless they are more than `most`.
+// Writes the member `spans` of a case, the list of them; nothing if they are more than `most`.
 fn push_told(out: &mut Out, spans: &[Span], most: u64) -> Result<(), Memory>
     ensures { OnOk result (Adds out.old out.new (spans_member most spans.now)) }
 {
@@ -250,7 +253,7 @@ fn push_told(out: &mut Out, spans: &[Span], most: u64) -> Result<(), Memory>
     end_list(out)
 }
 
-// Writes each span.
+// Writes each span of the week, as an item of a list.
 fn push_each_span(out: &mut Out, spans: &[Span]) -> Result<(), Memory>
     ensures { OnOk result (Adds out.old out.new (each span_list spans.now)) }
 {
@@ -260,7 +263,7 @@ fn push_each_span(out: &mut Out, spans: &[Span]) -> Result<(), Memory>
     Ok(())
 }
 
-// Writes a span: its first second, and the second after its last one.
+// Writes a span of the week as a list of two: its first second, and the second after its last one.
 fn push_span(out: &mut Out, span: Span) -> Result<(), Memory>
     ensures { OnOk result (Adds out.old out.new (span_list span)) }
 {
@@ -270,7 +273,7 @@ fn push_span(out: &mut Out, span: Span) -> Result<(), Memory>
     end_list(out)
 }
 
-// Writes that an item begins which is a list of two.
+// Writes the start of a JSON list which is an item of another list, for the two seconds of a span.
 fn begin_pair(out: &mut Out) -> Result<(), Memory>
     ensures { OnOk result (Adds out.old out.new (begin_array ∷ [])) }
 {

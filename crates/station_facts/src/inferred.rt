@@ -29,7 +29,7 @@ pub fn infer(alloc: Global, plan: &Plan) -> Result<Inferred, Memory>
     Ok(Inferred { marks, clocks })
 }
 
-/// The clocks of a plan, or why it has none. Want of memory is told apart.
+/// The clocks of a plan, or why it has none. Want of memory is the outer error, and no such cause.
 fn clocks_of(alloc: Global, plan: &Plan) -> Result<Result<ClockMap, ClockFault>, Memory>
     requires { IsWellFormed plan.now }
     ensures { IfOk result (AreClocks plan.now) }

@@ -13,7 +13,7 @@ use std::alloc::Global;
 /// Names, each once, in the order in which they were met.
 pub type Names = IndexSet<Text>;
 
-/// The lists of a plan, each once.
+/// The names of the lists that the playlists of a plan play, each once.
 pub fn lists_of(alloc: Global, plan: &Plan) -> Result<Names, Memory>
     ensures { IfOk result (λ names. names.keys ≡ lists_of plan.now) }
 {
@@ -24,7 +24,7 @@ pub fn lists_of(alloc: Global, plan: &Plan) -> Result<Names, Memory>
     Ok(names)
 }
 
-// Adds the list that a source plays, if it is a playlist.
+// Adds to `names` the list that a source plays, if it is a playlist.
 fn add_list(alloc: Global, names: &mut Names, node: &Node) -> Result<(), Memory>
     ensures { OnOk result (names.new.keys ≡ insert_all bytes_eq names.old.keys (list_in node.now.op)) }
 {
@@ -34,7 +34,7 @@ fn add_list(alloc: Global, names: &mut Names, node: &Node) -> Result<(), Memory>
     }
 }
 
-/// The audio files of a plan, each once: those of `single`, and those in the lists as they were found.
+/// The names of the audio files of a plan, each once: those of `single`, and those in its lists as `looks` found them.
 pub fn sounds_of(alloc: Global, plan: &Plan, looks: &[ListLook]) -> Result<Names, Memory>
     ensures { IfOk result (λ names. names.keys ≡ sounds_of plan.now looks.now) }
 {
@@ -45,7 +45,7 @@ pub fn sounds_of(alloc: Global, plan: &Plan, looks: &[ListLook]) -> Result<Names
     Ok(names)
 }
 
-// The files that the sources of a plan play by `single`.
+// The names of the files that the sources of a plan play by `single`, each once.
 fn singles_of(alloc: Global, plan: &Plan) -> Result<Names, Memory>
     ensures { IfOk result (λ names. names.keys ≡ insert_all bytes_eq [] (singles plan.now.nodes)) }
 {
@@ -56,7 +56,7 @@ fn singles_of(alloc: Global, plan: &Plan) -> Result<Names, Memory>
     Ok(names)
 }
 
-// Adds the file that a source plays, if it is a `single`.
+// Adds to `names` the file that a source plays, if it is a `single`.
 fn add_single(alloc: Global, names: &mut Names, node: &Node) -> Result<(), Memory>
     ensures { OnOk result (names.new.keys ≡ insert_all bytes_eq names.old.keys (single_in node.now.op)) }
 {
@@ -66,7 +66,7 @@ fn add_single(alloc: Global, names: &mut Names, node: &Node) -> Result<(), Memor
     }
 }
 
-// Adds the names in a list, if it could be read.
+// Adds to `names` the audio files in a list, if a look could read it.
 fn add_entries(alloc: Global, names: &mut Names, look: &ListLook) -> Result<(), Memory>
     ensures { OnOk result (names.new.keys ≡ insert_all bytes_eq names.old.keys (entries_in look.now)) }
 {
@@ -79,7 +79,7 @@ fn add_entries(alloc: Global, names: &mut Names, look: &ListLook) -> Result<(), 
     }
 }
 
-// Adds these names, each if it is not there.
+// Adds to `names` each of these file names that is not there yet.
 fn add_all(alloc: Global, names: &mut Names, more: &[Text]) -> Result<(), Memory>
     ensures { OnOk result (names.new.keys ≡ insert_all bytes_eq names.old.keys more.now) }
 {
@@ -89,7 +89,7 @@ fn add_all(alloc: Global, names: &mut Names, more: &[Text]) -> Result<(), Memory
     Ok(())
 }
 
-// Adds a name, if it is not there.
+// Adds a copy of a file name to `names`, if it is not there yet.
 fn add(alloc: Global, names: &mut Names, name: &Text) -> Result<(), Memory>
     ensures { OnOk result (names.new.keys ≡ insert_key bytes_eq names.old.keys name.now) }
 {

@@ -9,7 +9,7 @@ use liq_base::{Kind, Memory};
 /// Where tokens are written.
 pub type Out = Writer;
 
-/// Writes that an object begins.
+/// Writes the start of a JSON object.
 pub fn begin(out: &mut Out) -> Result<(), Memory>
     ensures { OnOk result (Adds out.old out.new (begin_object ∷ [])) }
 {
@@ -17,7 +17,7 @@ pub fn begin(out: &mut Out) -> Result<(), Memory>
     Ok(())
 }
 
-/// Writes that an object ends.
+/// Writes the end of a JSON object.
 pub fn end(out: &mut Out) -> Result<(), Memory>
     ensures { OnOk result (Adds out.old out.new (end_object ∷ [])) }
 {
@@ -25,7 +25,7 @@ pub fn end(out: &mut Out) -> Result<(), Memory>
     Ok(())
 }
 
-/// Writes that a member of this name begins, which is a list.
+/// Writes the name of a member of a JSON object which is a list, and the start of the list.
 pub fn begin_list(out: &mut Out, name: &str) -> Result<(), Memory>
     ensures { OnOk result (Adds out.old out.new (key name.now ∷ begin_array ∷ [])) }
 {
@@ -34,7 +34,7 @@ pub fn begin_list(out: &mut Out, name: &str) -> Result<(), Memory>
     Ok(())
 }
 
-/// Writes that a list ends.
+/// Writes the end of a JSON list.
 pub fn end_list(out: &mut Out) -> Result<(), Memory>
     ensures { OnOk result (Adds out.old out.new (end_array ∷ [])) }
 {
@@ -42,7 +42,7 @@ pub fn end_list(out: &mut Out) -> Result<(), Memory>
     Ok(())
 }
 
-/// Writes a text of a list.
+/// Writes a text as an item of a JSON list.
 pub fn push_item(out: &mut Out, text: &str) -> Result<(), Memory>
     ensures { OnOk result (Adds out.old out.new (string text.now ∷ [])) }
 {
@@ -50,7 +50,7 @@ pub fn push_item(out: &mut Out, text: &str) -> Result<(), Memory>
     Ok(())
 }
 
-/// Writes a number of a list.
+/// Writes a number as an item of a JSON list.
 pub fn push_count(out: &mut Out, n: u64) -> Result<(), Memory>
     ensures { OnOk result (Adds out.old out.new (number (decimal n) ∷ [])) }
 {
@@ -58,7 +58,7 @@ pub fn push_count(out: &mut Out, n: u64) -> Result<(), Memory>
     Ok(())
 }
 
-/// Writes a member that is a text.
+/// Writes a member of a JSON object that is a text: its name and the text.
 pub fn push_text(out: &mut Out, name: &str, text: &str) -> Result<(), Memory>
     ensures { OnOk result (Adds out.old out.new (text_member name.now text.now)) }
 {
@@ -67,7 +67,7 @@ pub fn push_text(out: &mut Out, name: &str, text: &str) -> Result<(), Memory>
     Ok(())
 }
 
-/// Writes a member that is a number.
+/// Writes a member of a JSON object that is a number: its name and the number.
 pub fn push_number(out: &mut Out, name: &str, n: u64) -> Result<(), Memory>
     ensures { OnOk result (Adds out.old out.new (number_member name.now n)) }
 {
@@ -76,7 +76,7 @@ pub fn push_number(out: &mut Out, name: &str, n: u64) -> Result<(), Memory>
     Ok(())
 }
 
-/// Writes a member that is true or false.
+/// Writes a member of a JSON object that is true or false: its name and the value.
 pub fn push_flag(out: &mut Out, name: &str, flag: bool) -> Result<(), Memory>
     ensures { OnOk result (Adds out.old out.new (flag_member name.now flag)) }
 {
@@ -85,7 +85,7 @@ pub fn push_flag(out: &mut Out, name: &str, flag: bool) -> Result<(), Memory>
     Ok(())
 }
 
-/// Writes how many channels there are.
+/// Writes the member `sides`: how many channels a sound of this kind has.
 pub fn push_kind(out: &mut Out, kind: Kind) -> Result<(), Memory>
     ensures { OnOk result (Adds out.old out.new (kind_member kind)) }
 {

@@ -22,7 +22,8 @@ use std::alloc::Global;
 use time_pred::SharedPred;
 use week_windows::{Known, Windows, unknown, windows_again};
 
-/// Writes the members of a plan. `ats` has the byte of the script at which the call of each source begins.
+/// Writes to `out` what a plan is, as members of a JSON object: its rate, its tick, its outputs and its sources. `ats`
+/// has the byte of the script at which the call of each source begins.
 pub fn push_plan(
     alloc: Global,
     out: &mut Out,
@@ -38,7 +39,7 @@ pub fn push_plan(
     push_sources(alloc, out, plan.nodes.as_slice(), &inferred.marks, ats)
 }
 
-// Writes the outputs of a plan.
+// Writes the member `outputs` of a plan, a list with an object for each output.
 fn push_outputs(out: &mut Out, plan: &Plan, inferred: &Inferred) -> Result<(), Memory>
     ensures { OnOk result (Adds out.old out.new
         (list_member (codes "outputs") (output_object plan.now inferred.now) plan.now.sinks)) }
@@ -48,7 +49,7 @@ fn push_outputs(out: &mut Out, plan: &Plan, inferred: &Inferred) -> Result<(), M
     end_list(out)
 }
 
-// Writes the object of each output.
+// Writes the object of each output of a plan, one after another.
 fn push_each_output(out: &mut Out, plan: &Plan, inferred: &Inferred) -> Result<(), Memory>
     ensures { OnOk result
         (Adds out.old out.new (each (output_object plan.now inferred.now) plan.now.sinks)) }
@@ -59,7 +60,8 @@ fn push_each_output(out: &mut Out, plan: &Plan, inferred: &Inferred) -> Result<(
     Ok(())
 }
 
-// Writes the object of an output; of a feed nothing is told.
+// Writes the object of an output: its file, its source, its format and its clock. Of a feed of a buffer nothing is
+// written.
 fn push_output(
     out: &mut Out,
     plan: &Plan,
@@ -89,7 +91,7 @@ fn push_output(
     }
 }
 
-// Writes how many channels this node has.
+// Writes the member `sides`, how many channels this node has.
 fn push_sides(out: &mut Out, nodes: &[Node], node: u32) -> Result<(), Memory>
     ensures { OnOk result (Adds out.old out.new (side_members (slice_get nodes.now node))) }
 {
@@ -99,7 +101,7 @@ fn push_sides(out: &mut Out, nodes: &[Node], node: u32) -> Result<(), Memory>
     }
 }
 
-// Writes the name of the main clock of this node, if the plan has clocks.
+// Writes the member `clock`, the name of the main clock of this node, if the plan has clocks.
 fn push_clock(out: &mut Out, clocks: &Result<ClockMap, ClockFault>, node: u32) -> Result<(), Memory>
     ensures { OnOk result (Adds out.old out.new (clock_members clocks.now node)) }
 {
@@ -109,7 +111,7 @@ fn push_clock(out: &mut Out, clocks: &Result<ClockMap, ClockFault>, node: u32) -
     }
 }
 
-// Writes the name of the main clock of this node.
+// Writes the member `clock`, the name of the clock of this node if that is a main one; nothing if it is a sub-clock.
 fn push_clock_of(out: &mut Out, clocks: &ClockMap, node: u32) -> Result<(), Memory>
     ensures { OnOk result (Adds out.old out.new (main_members clocks.now (slice_get clocks.now.of node))) }
 {
@@ -119,7 +121,7 @@ fn push_clock_of(out: &mut Out, clocks: &ClockMap, node: u32) -> Result<(), Memo
     }
 }
 
-// Writes the name of a clock, if it is a main one.
+// Writes the member `clock`, the name of this clock if it is a main one; nothing for a sub-clock.
 fn push_main_clock(out: &mut Out, clocks: &ClockMap, clock: NodeClock) -> Result<(), Memory>
     ensures { OnOk result (Adds out.old out.new (main_members clocks.now (Some clock))) }
 {
@@ -129,7 +131,7 @@ fn push_main_clock(out: &mut Out, clocks: &ClockMap, clock: NodeClock) -> Result
     }
 }
 
-// Writes the name of the main clock of this number.
+// Writes the member `clock`, the name of the main clock of this number.
 fn push_clock_name(out: &mut Out, names: &[Text], number: u32) -> Result<(), Memory>
     ensures { OnOk result (Adds out.old out.new (name_members (slice_get names.now number))) }
 {
@@ -139,8 +141,8 @@ fn push_clock_name(out: &mut Out, names: &[Text], number: u32) -> Result<(), Mem
     }
 }
 
-// Writes the sources of a plan. `marks` has of each whether it is never silent, and `ats` the byte of the script at
-// which its call begins.
+// Writes the member `sources` of a plan, a list with an object for each. `marks` has of each whether it is never
+// silent, and `ats` the byte of the script at which its call begins.
 fn push_sources(
     alloc: Global,
     out: &mut Out,
@@ -157,7 +159,8 @@ fn push_sources(
     end_list(out)
 }
 
-// Writes each source. The windows of the last switch are kept in `known`, since the next one may have the same cases.
+// Writes the object of each source, one after another. The windows of the last switch are kept in `known`, since the
+// next one may have the same cases.
 fn push_each_source<'a>(
     alloc: Global,
     out: &mut Out,
@@ -181,7 +184,8 @@ fn push_each_source<'a>(
     Ok(())
 }
 
-// Writes the object of a source, which is never silent if `always` says so; its call begins at byte `at` of the script.
+// Writes the JSON object of a source: its operator, its channels, its children, whether it is never silent, and byte
+// `at` of the script, at which its call begins.
 fn push_source<'a>(
     alloc: Global,
     out: &mut Out,
@@ -204,7 +208,7 @@ fn push_source<'a>(
     Ok(())
 }
 
-// Writes the numbers of a source's children, as a member.
+// Writes the member `children` of a source, a list of their numbers.
 fn push_children(out: &mut Out, children: &[u32]) -> Result<(), Memory>
     ensures { OnOk result (Adds out.old out.new
         (list_member (codes "children") (λ child. number (decimal child) ∷ []) children.now)) }
@@ -214,7 +218,7 @@ fn push_children(out: &mut Out, children: &[u32]) -> Result<(), Memory>
     end_list(out)
 }
 
-// Writes the number of each child.
+// Writes the number of each child, as an item of a list.
 fn push_each_child(out: &mut Out, children: &[u32]) -> Result<(), Memory>
     ensures { OnOk result (Adds out.old out.new (each (λ child. number (decimal child) ∷ []) children.now)) }
 {
@@ -224,7 +228,7 @@ fn push_each_child(out: &mut Out, children: &[u32]) -> Result<(), Memory>
     Ok(())
 }
 
-// Writes the operator of a source, and what it has beside its children.
+// Writes the member `op`, the operator of a source, and members for what it has beside its children.
 fn push_op<'a>(
     alloc: Global,
     out: &mut Out,
@@ -262,14 +266,14 @@ fn push_op<'a>(
     }
 }
 
-// Writes the word for an operator.
+// Writes the member `op`, the word of the language for an operator.
 fn push_word(out: &mut Out, word: &str) -> Result<(), Memory>
     ensures { OnOk result (Adds out.old out.new (text_member (codes "op") word.now)) }
 {
     push_text(out, "op", word)
 }
 
-// Writes the word for an operator that plays a file or a list, and its name.
+// Writes the members `op` and `file` of an operator that plays a file or a list: its word, and the name.
 fn push_file(out: &mut Out, word: &str, file: &Text) -> Result<(), Memory>
     ensures { OnOk result (Adds out.old out.new
         (text_member (codes "op") word.now ++ text_member (codes "file") file.now)) }
@@ -278,7 +282,7 @@ fn push_file(out: &mut Out, word: &str, file: &Text) -> Result<(), Memory>
     push_text(out, "file", file.as_str())
 }
 
-// Writes the word for an operator, and a number that it has.
+// Writes the member `op`, the word for an operator, and a member `name` with a number that it has.
 fn push_sized(out: &mut Out, word: &str, name: &str, size: u64) -> Result<(), Memory>
     ensures { OnOk result (Adds out.old out.new
         (text_member (codes "op") word.now ++ number_member name.now size)) }
@@ -287,7 +291,7 @@ fn push_sized(out: &mut Out, word: &str, name: &str, size: u64) -> Result<(), Me
     push_number(out, name, size)
 }
 
-// Writes the word for an operator, and whether it is track-sensitive.
+// Writes the members `op` and `sensitive` of an operator that chooses: its word, and whether it is track-sensitive.
 fn push_choice(out: &mut Out, word: &str, sensitive: bool) -> Result<(), Memory>
     ensures { OnOk result (Adds out.old out.new
         (text_member (codes "op") word.now ++ flag_member (codes "sensitive") sensitive)) }
@@ -297,7 +301,7 @@ fn push_choice(out: &mut Out, word: &str, sensitive: bool) -> Result<(), Memory>
     Ok(())
 }
 
-// Writes a switch: whether it is track-sensitive, and the windows of its cases.
+// Writes the members of a switch: its word, whether it is track-sensitive, and the windows of its cases.
 fn push_switch<'a>(
     alloc: Global,
     out: &mut Out,
@@ -318,7 +322,7 @@ fn push_switch<'a>(
     Ok(())
 }
 
-// Writes the windows of each case.
+// Writes the member `windows` of a switch, a list with an object for each case.
 fn push_windows(out: &mut Out, windows: &[Windows]) -> Result<(), Memory>
     ensures { OnOk result (Adds out.old out.new (list_member (codes "windows") windows_object windows.now)) }
 {
@@ -327,7 +331,7 @@ fn push_windows(out: &mut Out, windows: &[Windows]) -> Result<(), Memory>
     end_list(out)
 }
 
-// Writes the windows of each case.
+// Writes the object of the windows of each case, one after another.
 fn push_each_window(out: &mut Out, windows: &[Windows]) -> Result<(), Memory>
     ensures { OnOk result (Adds out.old out.new (each windows_object windows.now)) }
 {
@@ -337,7 +341,7 @@ fn push_each_window(out: &mut Out, windows: &[Windows]) -> Result<(), Memory>
     Ok(())
 }
 
-// Writes the windows of a case: how many it has in the week, and how long they are, if it has any.
+// Writes the object of the windows of a case: how many it has in the week, and how long they are, if it has any.
 fn push_window(out: &mut Out, windows: Windows) -> Result<(), Memory>
     ensures { OnOk result (Adds out.old out.new (windows_object windows)) }
 {
@@ -347,7 +351,7 @@ fn push_window(out: &mut Out, windows: Windows) -> Result<(), Memory>
     end(out)
 }
 
-// Writes how many seconds the shortest and the longest window have, if there is one.
+// Writes the members `shortest` and `longest`, how many seconds these windows have; nothing if there is no window.
 fn push_lengths(out: &mut Out, windows: Windows) -> Result<(), Memory>
     ensures { OnOk result (Adds out.old out.new
         (if nat_eq windows.count 0 then [] else length_members windows)) }

@@ -18,7 +18,7 @@ use sound_looks::{Facts, ListLook, Look, look_at, look_at_list};
 use std::alloc::Global;
 use track_library::{Rules, Unusable};
 
-/// Looks at lists, one after another.
+/// Looks on the shelf at each list of these names, one after another, and returns what was found of each.
 pub fn look_at_lists<S: Shelf>(
     alloc: Global,
     shelf: &mut S,
@@ -36,7 +36,7 @@ pub fn look_at_lists<S: Shelf>(
     Ok(looks)
 }
 
-/// Looks at audio files, one after another.
+/// Looks on the shelf at each audio file of these names, one after another, and returns what was found of each.
 pub fn look_at_sounds<S: Shelf>(
     alloc: Global,
     shelf: &mut S,
@@ -56,7 +56,7 @@ pub fn look_at_sounds<S: Shelf>(
     Ok(looks)
 }
 
-/// Writes of each list its name and what a look at it found.
+/// Writes the member `lists`: of each list its name and what a look at it found.
 pub fn push_lists(out: &mut Out, names: &[Text], looks: &[ListLook]) -> Result<(), Memory>
     ensures { OnOk result (Adds out.old out.new (paired_member (codes "lists") list_object names.now looks.now)) }
 {
@@ -65,7 +65,7 @@ pub fn push_lists(out: &mut Out, names: &[Text], looks: &[ListLook]) -> Result<(
     end_list(out)
 }
 
-// Writes the object of each list.
+// Writes the object of each list, one after another, as far as there are looks.
 fn push_each_list(out: &mut Out, names: &[Text], looks: &[ListLook]) -> Result<(), Memory>
     ensures { OnOk result (Adds out.old out.new (paired list_object names.now looks.now)) }
 {
@@ -78,7 +78,7 @@ fn push_each_list(out: &mut Out, names: &[Text], looks: &[ListLook]) -> Result<(
     Ok(())
 }
 
-// Writes the object of a list.
+// Writes the JSON object of a list of audio files: its name, and what a look at it found.
 fn push_list(out: &mut Out, name: &Text, found: &ListLook) -> Result<(), Memory>
     ensures { OnOk result (Adds out.old out.new (list_object name.now found.now)) }
 {
@@ -88,7 +88,7 @@ fn push_list(out: &mut Out, name: &Text, found: &ListLook) -> Result<(), Memory>
     end(out)
 }
 
-// Writes what a look at a list found.
+// Writes the members that say what a look at a list found: its names, or why it is of no use.
 fn push_list_look(out: &mut Out, found: &ListLook) -> Result<(), Memory>
     ensures { OnOk result (Adds out.old out.new (list_look_members found.now)) }
 {
@@ -103,7 +103,7 @@ fn push_list_look(out: &mut Out, found: &ListLook) -> Result<(), Memory>
     }
 }
 
-// Writes the names in a list.
+// Writes the member `entries` of a list, the names of audio files in it.
 fn push_entries(out: &mut Out, names: &[Text]) -> Result<(), Memory>
     ensures { OnOk result (Adds out.old out.new
         (list_member (codes "entries") (λ name. string name ∷ []) names.now)) }
@@ -113,7 +113,7 @@ fn push_entries(out: &mut Out, names: &[Text]) -> Result<(), Memory>
     end_list(out)
 }
 
-// Writes each name.
+// Writes each name of an audio file, as an item of a list.
 fn push_each_entry(out: &mut Out, names: &[Text]) -> Result<(), Memory>
     ensures { OnOk result (Adds out.old out.new (each (λ name. string name ∷ []) names.now)) }
 {
@@ -123,7 +123,7 @@ fn push_each_entry(out: &mut Out, names: &[Text]) -> Result<(), Memory>
     Ok(())
 }
 
-/// Writes of each audio file its name and what a look at it found.
+/// Writes the member `sounds`: of each audio file its name and what a look at it found.
 pub fn push_sounds(
     out: &mut Out,
     names: &[Text],
@@ -138,7 +138,7 @@ pub fn push_sounds(
     end_list(out)
 }
 
-// Writes the object of each audio file.
+// Writes the object of each audio file, one after another, as far as there are looks.
 fn push_each_sound(
     out: &mut Out,
     names: &[Text],
@@ -156,7 +156,7 @@ fn push_each_sound(
     Ok(())
 }
 
-// Writes the object of an audio file.
+// Writes the JSON object of an audio file: its name, and what a look at it found.
 fn push_sound(out: &mut Out, name: &Text, found: Look, rules: Rules) -> Result<(), Memory>
     ensures { OnOk result (Adds out.old out.new (sound_object rules name.now found)) }
 {
@@ -166,7 +166,7 @@ fn push_sound(out: &mut Out, name: &Text, found: Look, rules: Rules) -> Result<(
     end(out)
 }
 
-// Writes what a look at an audio file found.
+// Writes the members that say what a look at an audio file found: its facts, or why it is of no use.
 fn push_look(out: &mut Out, found: Look, rules: Rules) -> Result<(), Memory>
     ensures { OnOk result (Adds out.old out.new (look_members rules found)) }
 {
@@ -177,7 +177,7 @@ fn push_look(out: &mut Out, found: Look, rules: Rules) -> Result<(), Memory>
     }
 }
 
-// Writes whether a sound is used, and its facts.
+// Writes the members of a sound: whether it is used, its format and its lengths.
 fn push_facts(out: &mut Out, facts: Facts, rules: Rules) -> Result<(), Memory>
     ensures { OnOk result (Adds out.old out.new (facts_members rules facts)) }
 {
@@ -192,14 +192,15 @@ fn push_facts(out: &mut Out, facts: Facts, rules: Rules) -> Result<(), Memory>
     Ok(())
 }
 
-// The word for a sound, by whether it counts for no more bytes than a sound may.
+// The word for what becomes of a sound: it is used only if it counts for no more bytes than a sound may, which `fits`
+// says.
 fn use_word(fits: bool) -> &'static str
     ensures { result.now ≡ use_word fits }
 {
     if fits { "used" } else { "too large" }
 }
 
-// Writes why a file or a list is of no use.
+// Writes the members that say why a file or a list is of no use: it is missing, too large or no WAV file.
 fn push_unusable(out: &mut Out, fault: Unusable) -> Result<(), Memory>
     ensures { OnOk result (Adds out.old out.new (unusable_members fault)) }
 {
@@ -213,7 +214,7 @@ fn push_unusable(out: &mut Out, fault: Unusable) -> Result<(), Memory>
     }
 }
 
-// Writes what becomes of a file, in a word.
+// Writes the member `state`, which says in a word what becomes of a file.
 fn push_state(out: &mut Out, word: &str) -> Result<(), Memory>
     ensures { OnOk result (Adds out.old out.new (state_member word.now)) }
 {
@@ -234,7 +235,7 @@ pub fn all_bytes(looks: &[Look], rules: Rules) -> Result<u64, Memory>
     Ok(bytes)
 }
 
-// For how many bytes a file counts; 0 if it is not used.
+// For how many bytes an audio file counts in the sum of all; 0 if it is not used.
 fn count(found: Look, rules: Rules) -> u64
     ensures { result ≡ count_or_none (counted_as rules found) }
 {

@@ -31,7 +31,7 @@ pub fn tell_too_long(alloc: Global) -> Result<Vec<u8>, Memory>
     Ok(out.into_inner())
 }
 
-// Writes the tokens, and the fault at which they end, if there is one.
+// Writes the JSON object of a script: its tokens, and the fault at which they end, if there is one.
 fn push_front(out: &mut Out, tokens: &[Token], stop: Option<LexFault>) -> Result<(), Memory>
     ensures { OnOk result (Adds out.old out.new
         (object (list_member (codes "tokens") token_array tokens.now ++ stop_members stop))) }
@@ -44,7 +44,7 @@ fn push_front(out: &mut Out, tokens: &[Token], stop: Option<LexFault>) -> Result
     end(out)
 }
 
-// Writes each token.
+// Writes each token of a script, as an item of a list.
 fn push_each_token(out: &mut Out, tokens: &[Token]) -> Result<(), Memory>
     ensures { OnOk result (Adds out.old out.new (each token_array tokens.now)) }
 {
@@ -54,7 +54,8 @@ fn push_each_token(out: &mut Out, tokens: &[Token]) -> Result<(), Memory>
     Ok(())
 }
 
-// Writes a token: its kind, its first byte, the byte after its last one, and its text.
+// Writes a token of a script as a JSON list: its kind, its first byte, the byte after its last one, and its text, if
+// it has one.
 fn push_token(out: &mut Out, token: &Token) -> Result<(), Memory>
     ensures { OnOk result (Adds out.old out.new (token_array token.now)) }
 {
@@ -67,7 +68,7 @@ fn push_token(out: &mut Out, token: &Token) -> Result<(), Memory>
     Ok(())
 }
 
-// The word for the kind of a token.
+// The word by which a kind of token of a script is told.
 fn kind_word(kind: &TokenKind) -> &'static str
     ensures { result.now ≡ kind_word kind.now }
 {
@@ -84,7 +85,7 @@ fn kind_word(kind: &TokenKind) -> &'static str
     }
 }
 
-// Writes the text that a token stands for, if it has one.
+// Writes the text that a token stands for, a name or a string; nothing for another token.
 fn push_text(out: &mut Out, kind: &TokenKind) -> Result<(), Memory>
     ensures { OnOk result (Adds out.old out.new (text_item kind.now)) }
 {
@@ -96,7 +97,7 @@ fn push_text(out: &mut Out, kind: &TokenKind) -> Result<(), Memory>
     }
 }
 
-// Writes the fault at which the tokens end, if there is one.
+// Writes the members for the fault at which the tokens of a script end; nothing if there is none.
 fn push_stop(out: &mut Out, stop: Option<LexFault>) -> Result<(), Memory>
     ensures { OnOk result (Adds out.old out.new (stop_members stop)) }
 {
@@ -106,7 +107,7 @@ fn push_stop(out: &mut Out, stop: Option<LexFault>) -> Result<(), Memory>
     }
 }
 
-// Writes the number of a fault, and the byte of the script at which it is, if it has one.
+// Writes the member `fault`, the number of a fault, and `at`, the byte of the script at which it is, if it has one.
 fn push_fault(out: &mut Out, fault: LexFault) -> Result<(), Memory>
     ensures { OnOk result (Adds out.old out.new (fault_members fault)) }
 {
@@ -119,7 +120,7 @@ fn push_fault(out: &mut Out, fault: LexFault) -> Result<(), Memory>
     }
 }
 
-// Writes the number of a fault, and the byte of the script at which it is.
+// Writes the members `fault` and `at`: the number of a fault, and the byte of the script at which it is.
 fn push_placed(out: &mut Out, number: u64, at: u32) -> Result<(), Memory>
     ensures { OnOk result (Adds out.old out.new
         (number_member (codes "fault") number ++ number_member (codes "at") at)) }

@@ -13,13 +13,13 @@ use Rattle.stations.specs.Streams.{body_size, file_bytes}
 use Rattle.stations.specs.Cues.{cue_names_if}
 use Rattle.stations.specs.Traces.{files_of, later_files}
 
--- the names of the outputs among these sinks, in their order
+-- the names of the files of the outputs among these sinks, in their order
 abbrev pub names_in : List SinkPlan → List (List ℕ)
 names_in [] = []
 names_in (Output name node fallible wide ∷ sinks) = name ∷ names_in sinks
 names_in (Feed buffer node ∷ sinks) = names_in sinks
 
--- the name of a trace, alone in a list, where one is wanted
+-- the name of the file for a trace as a list of one name; an empty list if none is wanted
 abbrev pub trace_names : Option (List ℕ) → List (List ℕ)
 trace_names None = []
 trace_names (Some name) = name ∷ []

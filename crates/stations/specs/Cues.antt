@@ -10,35 +10,35 @@ use Rattle.run_records.specs.Records.{Run}
 use Rattle.stations.specs.Outputs.{OutputFile}
 use Rattle.stations.specs.Stations.{Station, setting_of_run}
 
--- a space and the name that a title stands for; nothing for no title
+-- the end of a line of a cue file: a space and the name that a title stands for; nothing for no title
 abbrev pub spaced : Option (List ℕ) → List ℕ
 spaced None = []
 spaced (Some name) = codes " " ++ name
 
--- the line of a cue file for one mark: its sample, and the name of its title
+-- the line of a cue file for the beginning of one track: the number of its sample, and the name of its title
 abbrev pub cue_line : Sounds → Cue → List ℕ
 cue_line library cue = decimal cue.at ++ spaced (title_name library cue.title) ++ codes "\n"
 
--- the text of a cue file: one line for each mark
+-- the text of a cue file: one line for each beginning of a track
 abbrev pub cue_text : Sounds → List Cue → List ℕ
 cue_text library marks = flat_map (cue_line library) marks
 
--- the marks of the outputs among these sinks, in their order
+-- of each output among these sinks, the marks where its tracks begin in so many ticks
 abbrev pub marks_in : Setting → (ticks : ℕ) → List SinkPlan → List (List Cue)
 marks_in setting ticks [] = []
 marks_in setting ticks (Output name node fallible wide ∷ sinks) = cues setting node ticks ∷ marks_in setting ticks sinks
 marks_in setting ticks (Feed buffer node ∷ sinks) = marks_in setting ticks sinks
 
--- the marks of the outputs among these sinks if cue files are wanted, and none otherwise
+-- of each output among these sinks, the marks where its tracks begin, if cue files are wanted; and none otherwise
 abbrev pub marks_if : (wanted : Bool) → Setting → (ticks : ℕ) → List SinkPlan → List (List Cue)
 marks_if false setting ticks sinks = []
 marks_if true setting ticks sinks = marks_in setting ticks sinks
 
--- the marks that a run of the station keeps for its cue files
+-- of each output of the station, the marks where its tracks begin, which a run keeps for the cue files
 abbrev pub marks_of : Station → Run → List (List Cue)
 marks_of station run = marks_if station.cues (setting_of_run station run) station.ticks station.plan.sinks
 
--- the name of the cue file of an output
+-- the name of the cue file of an output: the name of its own file with `.cue` behind it
 abbrev pub cue_name : List ℕ → List ℕ
 cue_name name = name ++ codes ".cue"
 
@@ -57,7 +57,7 @@ abbrev pub cues_if : (wanted : Bool) → Setting → (ticks : ℕ) → List Sink
 cues_if false setting ticks sinks = []
 cues_if true setting ticks sinks = cues_in setting ticks sinks
 
--- the cue files that a run writes
+-- the cue files that a run of the station writes, with their names and bytes
 abbrev pub cue_files : Station → Run → List OutputFile
 cue_files station run = cues_if station.cues (setting_of_run station run) station.ticks station.plan.sinks
 

@@ -27,17 +27,17 @@ use Rattle.stations.specs.declared.fault.StationFault.TheVariants.{FallibleOutpu
 abbrev pub rules_of : Plan → Rules
 rules_of plan = record { rate = plan.rate; file = 2 ^ 28; all = 2 ^ 32 }
 
--- the name of an output; a feed has none
+-- the name of the file of an output; empty for a feed of a buffer, which has none
 abbrev pub sink_name : SinkPlan → List ℕ
 sink_name (Output name node fallible wide) = name
 sink_name (Feed buffer node) = []
 
--- the name of the first sink for which `such` holds
+-- the name of the first sink for which `such` holds; None if there is none
 abbrev pub first_name : (such : SinkPlan → Bool) → List SinkPlan → Option (List ℕ)
 first_name such [] = None
 first_name such (sink ∷ sinks) = if such sink then Some (sink_name sink) else first_name such sinks
 
--- whether a node is mono or stereo
+-- whether the node of this number is mono or stereo; stereo if there is none
 abbrev pub node_kind : Plan → (node : ℕ) → Kind
 node_kind plan node = option_map_or (λ node. node.kind) (slice_get plan.nodes node) Stereo
 
@@ -47,30 +47,31 @@ is_too_long plan ticks (Output name node fallible wide) = is_none
     (header_at wide (node_kind plan node) plan.rate (ticks * plan.frame))
 is_too_long plan ticks (Feed buffer node) = false
 
--- these are the audio files of the plan
+-- loading the audio files of the plan from the files of a shelf gives this library
 abbrev pub IsLoaded : Files → Plan → (library : Sounds) → Type 0
 IsLoaded files plan library = load_of (rules_of plan) files plan.nodes ≡ Ok library
 
--- these are the audio files of the plan, and each output has a node that is infallible, or is written with
--- `fallible=true`
+-- The plan has these audio files, and no output may have gaps that the script does not allow: each has a node that is
+-- infallible, or is written with `fallible=true`.
 pub record IsSafe (files : Files) (plan : Plan) (library : Sounds) : Type 0 where
   pub loaded : IsLoaded files plan library
   pub mark : ℕ → Bool
   pub marking : IsMarking plan.nodes mark
   pub none : first_name (refuses mark) plan.sinks ≡ None
 
--- these are the audio files and the clocks of the plan, and no output needs an infallible node and has none
+-- The plan has these audio files and these clocks, and no output that needs an infallible node lacks one.
 pub record IsClocked (files : Files) (plan : Plan) (library : Sounds) (clocks : ClockMap) : Type 0 where
   pub safe : IsSafe files plan library
   pub map : IsClockMap plan clocks
 
--- the plan is rendered for so many ticks, over these audio files and clocks: no output is too long
+-- The plan can be rendered for so many ticks, over these audio files and clocks: no output lacks an infallible node
+-- that it needs, and none is too long for its header.
 pub record IsRenderable (files : Files) (plan : Plan) (ticks : ℕ) (library : Sounds) (clocks : ClockMap) : Type 0 where
   pub clocked : IsClocked files plan library clocks
   pub sounds : IsLibrary library
   pub none : first_name (is_too_long plan ticks) plan.sinks ≡ None
 
--- the audio files of the plan are not loaded, for this fault
+-- loading the audio files of the plan from the files of a shelf ends at this fault
 abbrev pub IsUnloaded : Files → Plan → LoadFault → Type 0
 IsUnloaded files plan fault = load_of (rules_of plan) files plan.nodes ≡ Err fault
 
@@ -82,14 +83,14 @@ pub record IsUnsafe (files : Files) (plan : Plan) (name : List ℕ) : Type 0 whe
   pub marking : IsMarking plan.nodes mark
   pub first : first_name (refuses mark) plan.sinks ≡ Some name
 
--- the plan has no clocks, for this cause
+-- the plan loads and is safe, and its sources can have no clocks, for this cause
 pub record IsUnclocked (files : Files) (plan : Plan) (fault : ClockFault) : Type 0 where
   pub library : Sounds
   pub safe : IsSafe files plan library
   pub of_plan : fault ≢ ClockFault.Memory
   pub cause : IsCause plan fault
 
--- the output of this name is the first that is too long
+-- the output of this name is the first that is too long for the header of its file after so many ticks
 pub record IsTooLong (files : Files) (plan : Plan) (ticks : ℕ) (name : List ℕ) : Type 0 where
   pub library : Sounds
   pub clocks : ClockMap
@@ -117,7 +118,8 @@ pub data Finding : Type 0 where
   Fits : Sounds → ClockMap → Finding
   Fails : StationFault → Finding
 
--- this is found of the plan, to be rendered for so many ticks
+-- this is found of the plan, to be rendered for so many ticks: that it can be, with these audio files and clocks, or
+-- its first fault
 abbrev pub IsFinding : Files → Plan → (ticks : ℕ) → Finding → Type 0
 IsFinding files plan ticks (Fits library clocks) = IsRenderable files plan ticks library clocks
 IsFinding files plan ticks (Fails fault) = IsStationFault files plan ticks fault

@@ -11,7 +11,7 @@ pub record OutputFile : Type 0 where
   pub name : List ℕ
   pub bytes : List ℕ
 
--- the files of a shelf after these were written, in order
+-- the files of a shelf after these outputs were written, in order: a file of the same name is replaced
 abbrev pub with_outputs : Files → List OutputFile → Files
 with_outputs files [] = files
 with_outputs files (output ∷ outputs) = with_outputs (with_file files output.name output.bytes) outputs
@@ -22,8 +22,8 @@ pub record OutputPart : Type 0 where
   pub least : List ℕ
   pub most : List ℕ
 
--- the name holds at least and at most these bytes; or, where its closing failed, a prefix of them or what it held
--- before; nothing else changed
+-- In `after` the file of this output begins with its least bytes and is a prefix of its most; or, where its closing
+-- failed, it is a prefix of them or what it was before. No other file changed.
 abbrev pub HoldsBetween : (failed : Type 0) → Files → OutputPart → Files → Type 0
 HoldsBetween failed files output after =
     ((part : List ℕ) × IsPrefix output.least part × IsPrefix part output.most
@@ -75,7 +75,7 @@ pub record HoldsSome (idle : Type 0) (device : Bool) (files : Files) (outputs : 
   pub risen : device ≡ true → (others ≡ []) ⊎ Rose old.writes first ⊎ Rose first new.writes
   pub parts : HoldsParts first files created after new.writes
 
--- the file of an output that has its last bytes
+-- an output as a file that is complete: with the most bytes that it holds
 abbrev pub whole_of : OutputPart → OutputFile
 whole_of output = record { name = output.name; bytes = output.most }
 
@@ -98,8 +98,8 @@ pub record HoldsEnds (count : ℕ) (files : Files) (outputs : List OutputPart) (
   pub part : HoldsPart (with_outputs files (map whole_of whole)) broken.name broken.most midway
   pub behind : HoldsParts next midway (map unended others) after last
 
--- the name of the first of these files, if there is one, holds a prefix of its bytes, or what it held before; nothing
--- else changed
+-- After a fault at the first of these files, if there is one, its name holds a prefix of its bytes, or what it held
+-- before; nothing else changed.
 abbrev pub HoldsNext : Files → List OutputFile → Files → Type 0
 HoldsNext files [] after = after ≡ files
 HoldsNext files (output ∷ outputs) after = HoldsPart files output.name output.bytes after

@@ -48,19 +48,20 @@ answers_with (Again trace) run rest = answers_of run
 abbrev pub setting_with : Station → Run → (rest : ℕ → List Answer) → Setting
 setting_with station run rest = answered (bare station) (answers_with station.way run rest)
 
--- this is the record that a trace of so many ticks tells
+-- a run is the record that a trace of so many ticks tells
 pub record IsReplay (setting : Setting) (clocks ticks : ℕ) (trace : TraceValue) (run : Run) : Type 0 where
   pub ticks_are : trace.ticks ≡ ticks
   pub of : IsRecordOf setting clocks trace run
 
--- so many clocks made all their ticks: in rounds on one thread, by threads in windows of so many ticks, or as a trace
--- tells
+-- A run is a whole one: so many clocks made all their ticks, in rounds on one thread, by threads in windows of so many
+-- ticks, or as a trace tells.
 abbrev pub IsLawfulIn : Setting → (clocks ticks : ℕ) → Way → Run → Type 0
 IsLawfulIn setting clocks ticks InRounds run = IsRounds setting clocks ticks run
 IsLawfulIn setting clocks ticks (InWindows window) run = AreWindows setting clocks window ticks run
 IsLawfulIn setting clocks ticks (Again trace) run = IsReplay setting clocks ticks trace run
 
--- rounds came to the turn of one clock: clock m made `made m` ticks and tried `tried m`
+-- Rounds on one thread came to the tick of one clock, and maybe stopped in it: clock m made `made m` ticks and tried
+-- `tried m`.
 pub record AreRoundsAt (setting : Setting) (clocks ticks : ℕ) (run : Run) (made tried : ℕ → ℕ) : Type 0 where
   pub rounds : AreRoundsBegun setting clocks ticks run
   pub made_are : (m : ℕ) → made m ≡ ticks_by ticks rounds.round rounds.clock m

@@ -10,7 +10,7 @@ use Rattle.run_records.specs.Outputs.{first_calls}
 use Rattle.run_records.specs.Buffers.{feeder, reader}
 use Rattle.run_records.specs.Records.{capacity_of, start}
 
--- what a text tells of a buffer: of each window which puts were accepted, and which takes got a chunk
+-- what the text of a trace tells of one buffer: of each window which puts were accepted, and which takes got a chunk
 abbrev pub Log : Type 0
 Log = List (List Bool × List Bool)
 
@@ -22,7 +22,7 @@ puts_in log = flat_map (λ (window : List Bool × List Bool). window.0) log
 abbrev pub takes_in : Log → List Bool
 takes_in log = flat_map (λ (window : List Bool × List Bool). window.1) log
 
--- the list `front` is a prefix of `whole`
+-- the list `front` begins the list `whole`: it is a prefix of it
 pub record IsFront {A : Type 0} (front whole : List A) : Type 0 where
   pub rest : List A
   pub are : whole ≡ front ++ rest
@@ -31,7 +31,7 @@ pub record IsFront {A : Type 0} (front whole : List A) : Type 0 where
 abbrev pub Agree : {A : Type 0} → List A → List A → Type 0
 Agree one other = IsFront one other ⊎ IsFront other one
 
--- buffer b joins two clocks
+-- buffer b joins two clocks: one main clock feeds it, and another reads it
 abbrev pub Joins : Setting → ℕ → Type 0
 Joins base b = feeder base b ≡ reader base b → ⊥
 
@@ -51,19 +51,21 @@ put_by b calls = length (somes (puts_to b calls))
 abbrev pub got_in : ℕ → List Call → ℕ
 got_in b calls = length (somes (takes_of b calls))
 
--- a call is answered by a list of at most `capacity` chunks, to which these were put and of which `got` were got
+-- the answer of a call is that of a list of at most `capacity` chunks, to which the chunks `put` were put and of which
+-- `got` were got before
 abbrev pub Suits : (capacity : ℕ) → (put : List (List Cell)) → (got : ℕ) → Call → Type 0
 Suits capacity put got (Took b None) = length put ≡ got
 Suits capacity put got (Took b (Some chunk)) = slice_get put got ≡ Some chunk
 Suits capacity put got (Given b chunk true) = length put < capacity + got
 Suits capacity put got (Given b chunk false) = length put ≡ capacity + got
 
--- the buffer of a call
+-- the number of the buffer on which a call is
 abbrev pub buffer_of : Call → ℕ
 buffer_of (Took b answer) = b
 buffer_of (Given b chunk accepted) = b
 
--- the calls on a buffer with both ends in one clock come in an order in which a list answers so
+-- the calls of a clock on each buffer that it both feeds and reads come in an order in which a list of its capacity
+-- answers them so
 pub record AreInOrder (base : Setting) (calls : List Call) : Type 0 where
   pub each : (front behind : List Call) (call : Call) → calls ≡ front ++ call ∷ behind
       → buffer_of call < length base.plan.buffers → feeder base (buffer_of call) ≡ reader base (buffer_of call)
@@ -86,7 +88,8 @@ pub record HasReplayed (base : Setting) (text : ℕ → Log) (W N m n : ℕ) (ch
   pub in_order : AreInOrder base (first_calls (answered base given) accepted m n)
   pub whole : AreWhole base text W N m n (λ t. first_calls (answered base given) accepted m t)
 
--- this call, with its answer, can come after those of `front`, by the text
+-- This call, with its answer, can come after those of `front`: all answers begin those that the text of a trace tells,
+-- and a buffer with both ends in one clock answers as a list.
 pub record CanCome (base : Setting) (text : ℕ → Log) (front : List Call) (call : Call) : Type 0 where
   pub puts : (b : ℕ) → b < length base.plan.buffers
       → IsFront (map is_some (puts_to b (front ++ call ∷ []))) (puts_in (text b))
@@ -96,11 +99,12 @@ pub record CanCome (base : Setting) (text : ℕ → Log) (front : List Call) (ca
       → Suits (capacity_of base (buffer_of call)) (somes (puts_to (buffer_of call) front))
       (got_in (buffer_of call) front) call
 
--- whatever its answer, this call cannot come after those of `front`, by the text
+-- whatever its answer, this call cannot come after those of `front`, as the text of a trace tells the answers
 abbrev pub NeverComes : (base : Setting) (text : ℕ → Log) (front : List Call) → Call → Type 0
 NeverComes base text front call = (other : Call) → IsSameCall call other → CanCome base text front other → ⊥
 
--- this call is a take that is to get a chunk of another clock, which is not there yet
+-- This call is a take that is to get a chunk, as the text of a trace tells; another clock puts it, and it is not among
+-- `chunks` yet.
 pub record Waits (base : Setting) (text : ℕ → Log) (chunks : ℕ
     → List (List Cell)) (front : List Call) (call : Call) : Type 0 where
   pub buffer : ℕ

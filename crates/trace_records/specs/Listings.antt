@@ -4,7 +4,7 @@ use Rattle.stream_meaning.specs.Instants.{Setting}
 use Rattle.run_records.specs.Buffers.{feeder, reader}
 use Rattle.trace_records.specs.Clocks.{Joins}
 
--- how often clock m stands in a list
+-- how often clock m stands in a list of clocks
 abbrev pub seen : ℕ → List ℕ → ℕ
 seen m [] = 0
 seen m (k ∷ ks) = if nat_eq k m then suc (seen m ks) else seen m ks

@@ -12,22 +12,24 @@ use Rattle.run_records.specs.Records.{AreWindows, Run, answers_of, capacity_of, 
 use Rattle.trace_records.specs.Clocks.{AreAnswered, AreInOrder, HasReplayed, Log, Waits, got_in, put_by, takes_in}
 use Rattle.trace_records.specs.Told.{are_legal}
 
--- the text is what a trace tells of this run
+-- the text is what a trace tells of this run: of each window of each buffer, which puts were accepted and which takes
+-- got a chunk
 abbrev pub IsTold : Setting → (text : ℕ → Log) → Run → Type 0
 IsTold base text run = (b : ℕ) → b < length base.plan.buffers → map text_of_window (windows_of run b) ≡ text b
 
--- The text is that of a lawful record of N ticks in windows of W ticks, whose ticks can be ordered.
+-- The text of a trace is that of some lawful record of N ticks in windows of W ticks, whose ticks can be ordered so
+-- that no chunk is got before it was put.
 pub record IsOrderedText (base : Setting) (clocks W N : ℕ) (text : ℕ → Log) : Type 0 where
   pub run : Run
   pub lawful : AreWindows base clocks W N run
   pub told : IsTold base text run
   pub ordered : IsOrdered (setting_in base run) clocks lawful.accepted N
 
--- no answers for any buffer
+-- no answers for any buffer: what follows calls after which no take is answered
 abbrev pub nothing : ℕ → List Answer
 nothing b = []
 
--- the answers that these calls got, and then those of `rest`
+-- the answers that the takes of buffer b got among these calls, and then those of `rest`
 abbrev pub got_then : List Call → (rest : ℕ → List Answer) → ℕ → List Answer
 got_then calls rest b = answers_in b calls ++ rest b
 
@@ -103,21 +105,23 @@ pub record HasTurned (base : Setting) (W N : ℕ) (text : ℕ → Log) (m n : �
   pub come : HasCome base W N text m n chunks others
   pub halted : n < N → IsHalted base text chunks m n
 
--- clock m cannot make its N ticks as the text tells them, whatever is put into the buffers after these chunks
+-- clock m cannot make its N ticks as the text of a trace tells them, whatever is put into the buffers after these
+-- chunks
 pub record IsRefused (base : Setting) (W N : ℕ) (text : ℕ → Log) (chunks : ℕ → List (List Cell)) (m : ℕ) : Type 0 where
   pub none : (others : ℕ → List (List Cell)) (given : ℕ → List Answer) (accepted : ℕ → ℕ → Bool)
       → ((b : ℕ) → b < length base.plan.buffers → (rest : List (List Cell)) × (others b ≡ chunks b ++ rest))
       → HasReplayed base text W N m N others given accepted → ⊥
 
--- the text has as many windows of each buffer as N ticks have in windows of W ticks, the last one maybe shorter
+-- the text of a trace has as many windows of each buffer as N ticks have in windows of W ticks, the last one maybe
+-- shorter
 pub record IsFormed (buffers W N : ℕ) (text : ℕ → Log) : Type 0 where
   pub count : ℕ
   pub whole : start W N count ≡ N
   pub tight : (j : ℕ) → j < count → start W N j < N
   pub many : (b : ℕ) → b < buffers → length (text b) ≡ count
 
--- the text is legal by itself: each window of each buffer is, and nothing is taken from a buffer whose reader's clock
--- does not run
+-- The text of a trace is legal by itself: each window of each buffer is one that a queue can answer so, and nothing is
+-- taken from a buffer whose reader's clock does not run.
 pub record IsLegalText (base : Setting) (clocks : ℕ) (text : ℕ → Log) : Type 0 where
   pub windows : (b : ℕ) → b < length base.plan.buffers → are_legal (capacity_of base b) 0 (text b) ≡ true
   pub unread : (b : ℕ) → b < length base.plan.buffers → clocks ≤ reader base b → takes_in (text b) ≡ []

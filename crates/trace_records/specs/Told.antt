@@ -15,13 +15,13 @@ pub record IsToldLegal (X : Type 0) (capacity opening : ℕ) (puts takes : List 
   pub takes_are : map is_some taken ≡ takes
   pub legal : Legal capacity rest queue given taken
 
--- how many answers are true
+-- how many of these answers are true: puts that were accepted, or takes that got a chunk
 abbrev pub yes : List Bool → ℕ
 yes [] = 0
 yes (true ∷ answers) = suc (yes answers)
 yes (false ∷ answers) = yes answers
 
--- P holds at each false answer, of the number of true ones before it
+-- P holds at each false answer, a refused put or an empty take, of the number of true answers before it
 abbrev pub AtNo : List Bool → (ℕ → Type 0) → Type 0
 AtNo answers P = (before after : List Bool) → answers ≡ before ++ false ∷ after → P (yes before)
 
@@ -54,8 +54,8 @@ passed capacity count got floor (false ∷ takes) =
       left = false ∷ takes;
     }
 
--- whether each refused put has enough chunks before it, from a place among the takes and a put with `count` chunks
--- before it on
+-- Whether each refused put of a window has enough chunks before it: from a place among the takes on, which `got` and
+-- `floor` describe, and from a put with `count` chunks before it on.
 abbrev pub refusals_fit : (capacity count got floor : ℕ) → (puts takes : List Bool) → Bool
 refusals_fit capacity count got floor [] takes = true
 refusals_fit capacity count got floor (true ∷ puts) takes = refusals_fit capacity (suc count) got floor puts takes
@@ -64,17 +64,19 @@ refusals_fit capacity count got floor (false ∷ puts) takes =
     && refusals_fit capacity count (passed capacity count got floor takes).got
     (passed capacity count got floor takes).floor puts (passed capacity count got floor takes).left
 
--- whether the first `count` answers are true, or all where there are fewer
+-- whether the first `count` of these answers are true, or all where there are fewer
 abbrev pub begins_true : ℕ → List Bool → Bool
 begins_true count answers = list_all (λ answer. answer) (take count answers)
 
--- whether some legal window of a queue of at most `capacity` chunks, which opens with `opening`, has these answers
+-- Whether a queue of at most `capacity` chunks, which holds `opening` at first, can answer the puts and takes of a
+-- window so, in some order; true is an accepted put, or a take that got a chunk.
 abbrev pub is_legal : (capacity opening : ℕ) → (puts takes : List Bool) → Bool
 is_legal capacity opening puts takes =
     nat_le (yes takes) (opening + yes puts) && (nat_le (opening + yes puts) (capacity + yes takes)
     && (begins_true opening takes && refusals_fit capacity opening 0 capacity puts takes))
 
--- whether windows of a buffer, one after another, are legal by their answers, from one that opens with `opening` chunks
+-- whether a queue of at most `capacity` chunks, which holds `opening` at first, can answer these windows of a buffer
+-- so, one after another
 abbrev pub are_legal : (capacity opening : ℕ) → List (List Bool × List Bool) → Bool
 are_legal capacity opening [] = true
 are_legal capacity opening (window ∷ windows) = is_legal capacity opening window.0 window.1

@@ -12,7 +12,8 @@ use Rattle.trace_log.specs.Values.{TraceValue}
 use Rattle.trace_records.specs.Clocks.{Log}
 use Rattle.trace_records.specs.Passes.{IsOrderedText}
 
--- a plan with its files, its clocks and its start second, as the streams rest on them, without answers
+-- the setting of a plan with its audio files, its clocks and its start second, before its buffers have answered any
+-- take
 abbrev pub base_of : Plan → Sounds → ClockMap → (start : ℕ) → Setting
 base_of plan library clocks start = record {
   plan = plan;
@@ -22,11 +23,11 @@ base_of plan library clocks start = record {
   answers = λ buffer. [];
 }
 
--- the answers of a window, as a pair
+-- the answers of a window, of its puts and of its takes, as a pair
 abbrev pub pair_of : Answers → List Bool × List Bool
 pair_of answers = (answers.puts, answers.takes)
 
--- what a trace tells of buffer b: the answers of each window
+-- the text of a trace: what its logs tell of buffer b, the answers of each window
 abbrev pub text_of : List (List Answers) → ℕ → Log
 text_of logs b = map pair_of (slice_index_or logs b [])
 
@@ -37,7 +38,7 @@ pub record IsAccepted (base : Setting) (clocks N : ℕ) (trace : TraceValue) : T
   pub buffers : length trace.buffers ≡ length base.plan.buffers
   pub ordered : IsOrderedText base clocks trace.window N (text_of trace.buffers)
 
--- the trace of a record of N ticks in windows of W ticks
+-- the trace that a run leaves: of N ticks in windows of W ticks, the answers of its puts and takes without the chunks
 abbrev pub trace_of : (W N : ℕ) → Run → TraceValue
 trace_of W N run = record { ticks = N; window = W; buffers = map (map told) run.buffers }
 

@@ -35,8 +35,8 @@ pub fn next_opening(capacity: u32, opening: u32, puts: &[bool], takes: &[bool]) 
     Some((held - count_true(takes)) as u32)
 }
 
-/// Whether windows of a buffer of at most `capacity` chunks, one after another from an empty buffer on, are legal, by
-/// their answers alone.
+/// Whether a queue of at most `capacity` chunks, which is empty at first, can answer the windows of a buffer as a
+/// trace tells them, one after another.
 pub fn are_legal(capacity: u32, windows: &[WindowLog]) -> bool
     requires some { 1 ≤ capacity }
     ensures { result ≡ are_legal capacity 0 (map pair_of windows.now) }
@@ -51,7 +51,8 @@ pub fn are_legal(capacity: u32, windows: &[WindowLog]) -> bool
     true
 }
 
-// Whether the answers of a window pass the test of `is_legal`.
+// Whether the answers of a window pass the test for a legal one: the counts of chunks fit, no chunk of the opening is
+// missed, and each refused put had a full buffer.
 fn passes(capacity: u32, opening: u32, puts: &[bool], takes: &[bool]) -> bool
     ensures { result ≡ is_legal capacity opening puts.now takes.now }
 {
@@ -63,7 +64,7 @@ fn passes(capacity: u32, opening: u32, puts: &[bool], takes: &[bool]) -> bool
         && refusals_fit(capacity, opening, puts, takes)
 }
 
-// How many answers are true.
+// How many of these answers are true: puts that were accepted, or takes that got a chunk.
 fn count_true(answers: &[bool]) -> u64
     ensures count { result ≡ yes answers.now }
     ensures most { result ≤ length answers.now }
@@ -77,7 +78,7 @@ fn count_true(answers: &[bool]) -> u64
     count
 }
 
-// Whether the first `count` answers are true, or all where there are fewer.
+// Whether the first `count` answers of takes got a chunk, or all where there are fewer.
 fn begins_true(count: u32, answers: &[bool]) -> bool
     ensures { result ≡ begins_true count answers.now }
 {
@@ -85,7 +86,7 @@ fn begins_true(count: u32, answers: &[bool]) -> bool
     all_true(&answers[..most])
 }
 
-// Whether all answers are true.
+// Whether each of these answers is true: each of the takes got a chunk.
 fn all_true(answers: &[bool]) -> bool
     ensures { result ≡ list_all (λ answer. answer) answers.now }
 {
@@ -103,7 +104,8 @@ struct Place {
     floor: u64,
 }
 
-// Whether each refused put of a window has enough chunks before it, by the takes that come before it.
+// Whether each refused put of a window can have found a full buffer: enough chunks came before it, by the takes that
+// must come before it.
 fn refusals_fit(capacity: u32, opening: u32, puts: &[bool], takes: &[bool]) -> bool
     ensures { result ≡ refusals_fit capacity opening 0 capacity puts.now takes.now }
 {
@@ -126,8 +128,8 @@ fn refusals_fit(capacity: u32, opening: u32, puts: &[bool], takes: &[bool]) -> b
     true
 }
 
-// Goes on from a place among the takes, to the first empty take that has `count` chunks or more before it: as many as
-// were there or put before a refused put.
+// Passes over the takes of a window that come before a refused put, from a place on: to the first empty take before
+// which `count` chunks were got, which is how many were there or put before the refused one.
 fn pass(capacity: u32, count: u64, from: Place, takes: &[bool]) -> Place
     requires at { from.at ≤ length takes.now }
     requires got { from.got ≤ from.at }

@@ -15,7 +15,7 @@ use Rattle.trace_turns.specs.declared.course.Course.{Course}
 use Rattle.trace_turns.specs.declared.course.Course.TheVariants.{Goes, Waits, Fails}
 use Rattle.trace_records.specs.Clocks.{IsFront, Suits, buffer_of, got_in}
 
--- n lists without a cell
+-- n chunks without a cell: they stand in the places of those that a buffer let go
 abbrev pub blanks : ℕ → List (List Cell)
 blanks zero = []
 blanks (suc n) = [] ∷ blanks n
@@ -37,7 +37,7 @@ pub record BufferState : Type 0 where
   pub chunks : List (List Cell)
   pub gone : ℕ
 
--- a buffer's state as nested pairs, which code to numbers
+-- a code of a buffer's state by nested pairs, so that states are coded as numbers are
 abbrev pub state_coded : Coded BufferState
 state_coded = code_by (ℕ × (List Bool × (List Bool × (Bool × (Bool × (ℕ × (ℕ × (ℕ × (ℕ × (List (List Cell) × ℕ))))))))))
     (coded× coded_ℕ (coded× (coded_list coded_bool)
@@ -66,21 +66,24 @@ state_coded = code_by (ℕ × (List Bool × (List Bool × (Bool × (Bool × (ℕ
       gone = p.1.1.1.1.1.1.1.1.1.1;
     }) (λ _. refl)
 
--- whether both ends of a buffer are the clock's, so that it is a list
+-- whether one clock both feeds and reads a buffer, so that it must answer as a bounded list does
 abbrev pub is_list : BufferState → Bool
 is_list s = s.fed && s.read
 
--- the right answer of a take from a buffer that is a list: it gets a chunk if one is left, and otherwise none
+-- the right answer of a take from a buffer that one clock feeds and reads: true, for a chunk, if one is left, and
+-- otherwise false
 abbrev pub IsRightTake : BufferState → Bool → Type 0
 IsRightTake s true = s.got < length s.chunks
 IsRightTake s false = length s.chunks ≡ s.got
 
--- the right answer of a put to a buffer that is a list: it is accepted if there is room, and otherwise not
+-- the right answer of a put to a buffer that one clock feeds and reads: true, for accepted, if there is room, and
+-- otherwise false
 abbrev pub IsRightPut : BufferState → Bool → Type 0
 IsRightPut s true = length s.chunks < s.capacity + s.got
 IsRightPut s false = length s.chunks ≡ s.capacity + s.got
 
--- a buffer's state before and after a take that met this
+-- How a take leaves a buffer, by what it met: it got the next chunk; it was answered as empty; it waits for a chunk
+-- that is not there yet; its chunk was let go; or no answer can be right. Only the first two change the state.
 abbrev pub TakesOn : BufferState → Taken → BufferState → Type 0
 TakesOn before (GotChunk chunk) after =
     (slice_get before.takes before.take_at ≡ Some true) × (slice_get before.chunks before.got ≡ Some chunk)
@@ -97,7 +100,8 @@ TakesOn before NoTake after =
     ((gets : Bool) → slice_get before.takes before.take_at ≡ Some gets
     → (is_list before ≡ true → IsRightTake before gets) → ⊥) × (after ≡ before)
 
--- a buffer's state before and after a put of this chunk that met this
+-- How a put of this chunk leaves a buffer, by what it met: it was accepted; it found the buffer full and gave the
+-- chunk back; or no answer can be right. Only the first two change the state.
 abbrev pub PutsOn : BufferState → List Cell → Put → BufferState → Type 0
 PutsOn before chunk IsAccepted after =
     (slice_get before.puts before.put_at ≡ Some true) × (is_list before ≡ true → IsRightPut before true)
@@ -126,11 +130,12 @@ pub record StandsFor (s : BufferState) (b : ℕ) (calls : List Call) : Type 0 wh
       → buffer_of call ≡ b
       → Suits s.capacity (somes (puts_to b front)) (got_in b front) call
 
--- each buffer stands for these calls of the run
+-- each buffer stands for these calls of the run: its counts and chunks are those that the calls led to
 abbrev pub AllStand : List BufferState → List Call → Type 0
 AllStand states calls = (b : ℕ) (d : BufferState) → b < length states → StandsFor (slice_index_or states b d) b calls
 
--- this call, with its answer, can follow the calls `front`
+-- this call, with its answer, can follow the calls `front`: all answers begin those that the trace tells of each
+-- buffer, and a buffer that one clock feeds and reads answers as a bounded list
 pub record CanComeBy (states : List BufferState) (front : List Call) (call : Call) : Type 0 where
   pub puts : (b : ℕ) (d : BufferState) → b < length states
       → IsFront (map is_some (puts_to b (front ++ call ∷ []))) (slice_index_or states b d).puts
@@ -141,7 +146,7 @@ pub record CanComeBy (states : List BufferState) (front : List Call) (call : Cal
       → Suits (slice_index_or states (buffer_of call) d).capacity (somes (puts_to (buffer_of call) front))
       (got_in (buffer_of call) front) call
 
--- the buffers stand for these calls up to a take that gets a chunk by the trace, which is not there yet
+-- the buffers stand for these calls up to a take that gets a chunk by the trace, which another clock has not put yet
 pub record HasWaited (states : List BufferState) (calls : List Call) : Type 0 where
   pub front : List Call
   pub behind : List Call
@@ -155,7 +160,7 @@ pub record HasWaited (states : List BufferState) (calls : List Call) : Type 0 wh
       ≤ (slice_index_or states buffer d).got
   pub joins : (d : BufferState) → is_list (slice_index_or states buffer d) ≡ false
 
--- the buffers stand for these calls up to one that no answer makes right
+-- the buffers stand for these calls up to one to which no answer is right: none is told, or a list would not answer so
 pub record HasFailed (states : List BufferState) (calls : List Call) : Type 0 where
   pub front : List Call
   pub behind : List Call
@@ -164,13 +169,15 @@ pub record HasFailed (states : List BufferState) (calls : List Call) : Type 0 wh
   pub stand : AllStand states front
   pub none : (other : Call) → IsSameCall call other → CanComeBy states front other → ⊥
 
--- what all buffers stand for, by how far the calls could be answered
+-- what the buffers stand for when calls were made: for all of them where the run goes, for those before a take that
+-- waits for a chunk, or for those before a call that no answer makes right
 abbrev pub TapsStand : Course → List BufferState → List Call → Type 0
 TapsStand Goes states calls = AllStand states calls
 TapsStand Waits states calls = HasWaited states calls
 TapsStand Fails states calls = HasFailed states calls
 
--- what calls leave as it is, or let grow, in a buffer's state
+-- What calls keep of a buffer's state: its capacity, the answers that are told, its ends and what it began with. The
+-- counts of puts, takes and got chunks only grow, and chunks are only added behind.
 pub record SameBuffer (before after : BufferState) : Type 0 where
   pub capacity : after.capacity ≡ before.capacity
   pub puts : after.puts ≡ before.puts
@@ -184,7 +191,7 @@ pub record SameBuffer (before after : BufferState) : Type 0 where
   pub got_on : before.got ≤ after.got
   pub there : (rest : List (List Cell)) × (after.chunks ≡ before.chunks ++ rest)
 
--- what calls leave as it is, or let grow, in the states of all buffers
+-- what calls keep of the states of all buffers: their number, and of each what `SameBuffer` says
 pub record SameBuffers (before after : List BufferState) : Type 0 where
   pub many : length after ≡ length before
   pub each : (k : ℕ) (d : BufferState) → k < length before
@@ -233,12 +240,14 @@ same_buffers_trans bs cs ds a b = record {
       };
 }
 
--- the chunks that a buffer begins a run with: those of a clock's own feeds are made again
+-- the chunks with which a buffer begins a run of a clock: none if the clock feeds it, which `true` says, and otherwise
+-- those that are there
 abbrev pub chunks_at : Bool → List (List Cell) → List (List Cell)
 chunks_at true chunks = []
 chunks_at false chunks = chunks
 
--- how many of the chunks were let go with which a buffer begins a run: none of a clock's own feed
+-- how many of the chunks with which a buffer begins a run were let go: none if the clock feeds it, which `true` says,
+-- and otherwise as many as before
 abbrev pub gone_at : Bool → ℕ → ℕ
 gone_at true gone = 0
 gone_at false gone = gone

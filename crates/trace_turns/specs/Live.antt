@@ -22,7 +22,8 @@ use Rattle.trace_turns.specs.Thin.{AreFull, AreUnlost, NoneLost}
 use Rattle.trace_turns.specs.Turns.{AreEnds, AreFit, AreSides, RunsAt, Score, chunks_of}
 use Rattle.trace_turns.specs.Timed.{TimedText, timed}
 
--- a clock may run over these buffers: one for each of the plan, and `ends` says where the text's windows end
+-- What a replay of N ticks in windows of W ticks rests on for each of its clocks: a setting with its clocks, a text of
+-- that form, one buffer for each of the plan, and `ends`, which says where the text's windows end.
 pub record MayMove (score : Score) (W N : ℕ) (states : List BufferState) (ends : List Ends) : Type 0 where
   pub is : IsSetting score.base score.clocks
   pub formed : IsFormed (length score.base.plan.buffers) W N score.text
@@ -31,7 +32,8 @@ pub record MayMove (score : Score) (W N : ℕ) (states : List BufferState) (ends
   pub ends_are : (b : ℕ) (e : Ends) → b < length score.base.plan.buffers
       → AreEnds (score.text b) (slice_index_or ends b e)
 
--- clock m, which has made n ticks, may make more over these buffers
+-- clock m, which has made n of its N ticks, may make more over these buffers: they and its engine stand for its calls
+-- so far
 pub record MayGoOn (score : Score) (W N m n : ℕ) (parts : EngineParts) (states : List BufferState)
     (ends : List Ends) : Type 0 where
   pub move : MayMove score W N states ends
@@ -46,8 +48,8 @@ pub record MayFlow (score : Score) (W N m n : ℕ) (parts : EngineParts) (states
   pub unlost : NoneLost states
   pub may : MayGoOn score W N m n parts full ends
 
--- A clock that has made n ticks may make a few more: every call was answered so far, and of some score they may be
--- made.
+-- A clock that has made n of its N ticks may make a few more: every call was answered so far, and its buffers and
+-- engine stand in the middle of some replay.
 pub record MayMakeMore (W N n : ℕ) (parts : EngineParts) (course : Course) (states : List BufferState)
     (ends : List Ends) : Type 0 where
   pub some : 1 ≤ W
@@ -64,11 +66,12 @@ pub record HasFlown (base : Setting) (told : TimedText) (m n : ℕ) (chunks : �
   pub unlost : NoneLost states
   pub run : RunsAt base told.text told.window told.ticks m n chunks parts full
 
--- by a buffer's number, the main clocks of its feed and of its reader
+-- two lists by a buffer's number: the main clock of its feed, and that of its reader
 pub record Mains : Type 0 where
   pub feeders : List ℕ
   pub readers : List ℕ
 
+-- the two lists as one record: by a buffer's number, the main clocks of its feed and of its reader
 abbrev pub mains : (feeders readers : List ℕ) → Mains
 mains feeders readers = record { feeders = feeders; readers = readers }
 
@@ -87,8 +90,8 @@ pub record IsPaused (base : Setting) (told : TimedText) (ends : Mains) (m n : �
       → StandsFor (resumed (slice_index_or states b d) (nat_eq (slice_index_or ends.feeders b 0) m)
       (nat_eq (slice_index_or ends.readers b 0) m) (slice_index_or marks b e)) b calls
 
--- in a turn, by which the buffers came from `opening` to `states`, clock m came to n ticks, and its calls came to these
--- marks
+-- In a turn of clock m, its run of some ticks in a replay, it came to n ticks, and its calls came to these marks; the
+-- buffers came from `opening` to `states`.
 pub record HasGone (base : Setting) (told : TimedText) (ends : Mains) (m n : ℕ) (parts : EngineParts)
     (marks : List Mark) (opening states : List BufferState) : Type 0 where
   pub come : HasCome base told.window told.ticks told.text m n (chunks_of opening) (chunks_of states)
@@ -103,14 +106,16 @@ pub record HasFlownOn (base : Setting) (told : TimedText) (ends : Mains) (m n : 
   pub gone : HasGone base told ends m n parts marks opening full
   pub unlost : AreUnlost ends.readers m marks states
 
--- what a clock goes on with: a plan with its clocks, a text, and the buffers with all their chunks
+-- what a clock goes on with in a replay: a plan with its clocks, the text of a trace, and the buffers with all their
+-- chunks, also those that were let go
 pub record FullScore : Type 0 where
   pub base : Setting
   pub clocks : ClockMap
   pub text : ℕ → Log
   pub full : List BufferState
 
--- a clock that has made n ticks of it may go on, over buffers that let go of chunks
+-- a clock that has made n of the N ticks of a replay may go on with it, over buffers that let go of chunks: it paused
+-- there, and none of the chunks is missing that it is to get
 pub record MayResume (score : FullScore) (of : Sides) (ends : List Ends) (W N n : ℕ) (live : LiveClock)
     (states : List BufferState) : Type 0 where
   pub setting : IsSetting score.base score.clocks
@@ -121,7 +126,8 @@ pub record MayResume (score : FullScore) (of : Sides) (ends : List Ends) (W N n 
   pub paused : IsPaused score.base (timed score.text W N) (mains of.feeders.items of.readers.items)
       live.engine.parts.clock n live.engine.parts live.marks.items score.full
 
--- the turn of a clock that has made n ticks may begin: there is a score with which it may go on
+-- A turn of a clock that has made n of its N ticks may begin, its run of some further ticks in a replay: there is a
+-- plan, a text and buffers with which it may go on.
 pub record MayTakeTurn (of : Sides) (ends : List Ends) (W N n : ℕ) (live : LiveClock)
     (states : List BufferState) : Type 0 where
   pub some : 1 ≤ W
@@ -131,12 +137,12 @@ pub record MayTakeTurn (of : Sides) (ends : List Ends) (W N n : ℕ) (live : Liv
   pub marks : length live.marks.items ≡ length states
   pub turn : (score : FullScore) × MayResume score of ends W N n live states
 
--- clock m has gone on with it, up to n ticks
+-- clock m has gone on with this replay in a turn, up to n ticks
 abbrev pub HasResumed : FullScore → Sides → (W N m n : ℕ) → LiveClock → List BufferState → Type 0
 HasResumed score of W N m n live states = HasFlownOn score.base (timed score.text W N)
     (mains of.feeders.items of.readers.items) m n live.engine.parts live.marks.items score.full states
 
--- clock m of a station, before its first tick
+-- this is clock m of a station before its first tick: with a new engine, and no call on any buffer
 pub record IsNewClock (base : Setting) (m : ℕ) (live : LiveClock) : Type 0 where
   pub over : setting_of live.engine.parts ≡ base
   pub clock : live.engine.parts.clock ≡ m

@@ -9,7 +9,7 @@ use Rattle.trace_turns.specs.Answering.{BufferState}
 use Rattle.trace_turns.specs.Turns.{AreEnds}
 use Rattle.trace_records.specs.Traces.{text_of}
 
--- the answers of the puts of a window, if `true`, and otherwise of its takes
+-- the answers of one end of a buffer in a window: of its puts, if `true`, and otherwise of its takes
 abbrev pub side_of : Bool → Answers → List Bool
 side_of true answers = answers.puts
 side_of false answers = answers.takes
@@ -19,7 +19,7 @@ abbrev pub AreEndsOf : Bool → List Answers → List ℕ → Type 0
 AreEndsOf puts windows ends = (j : ℕ) → j < length windows
     → slice_get ends j ≡ Some (length (flat_map (side_of puts) (take (suc j) windows)))
 
--- a buffer of this capacity, of which this log tells, before any run
+-- the state of a buffer of this capacity before any run: with the answers that this log of a trace tells, and no chunk
 abbrev pub new_state : (capacity : ℕ) → Log → BufferState
 new_state capacity log = record {
   capacity = capacity;
@@ -35,8 +35,8 @@ new_state capacity log = record {
   gone = 0;
 }
 
--- these are the states of a plan's first `count` buffers, of which these logs tell, before any run; and where their
--- windows end
+-- These are the states of a plan's first `count` buffers before any run, with the answers that the logs of a trace
+-- tell; and `ends` says where their windows end.
 abbrev pub AreNew : List BufferPlan → List (List Answers) → (count : ℕ) → List BufferState → List Ends → Type 0
 AreNew plans logs count states ends = (b : ℕ) → b < count
     → ((d : BufferState) (plan : BufferPlan) → slice_get plans b ≡ Some plan

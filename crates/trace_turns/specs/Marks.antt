@@ -4,26 +4,27 @@ use Rattle.frame_core.specs.declared.cell.Cell.{Cell}
 use Rattle.trace_turns.specs.declared.told.Mark.{Mark}
 use Rattle.trace_turns.specs.Answering.{BufferState, begun}
 
--- the mark before the first call
+-- the mark of a clock that has made no call on a buffer: all counts are 0
 abbrev pub no_mark : Mark
 no_mark = record { put_at = 0; take_at = 0; got = 0 }
 
--- how far the calls of a run came on a buffer
+-- how far the calls of a run came on a buffer: its counts of puts, of takes and of chunks that were got
 abbrev pub mark_of : BufferState → Mark
 mark_of s = record { put_at = s.put_at; take_at = s.take_at; got = s.got }
 
--- up to a mark no more calls came than are told of a buffer, and no more chunks were got than are there
+-- The calls of a clock on a buffer can have come to this mark: it counts no more puts and takes than are told, and no
+-- more chunks than are there.
 pub record IsWithin (s : BufferState) (mark : Mark) : Type 0 where
   pub puts : mark.put_at ≤ length s.puts
   pub takes : mark.take_at ≤ length s.takes
   pub got : mark.got ≤ length s.chunks
 
--- up to each mark no more calls came than are told of its buffer, and no more chunks were got than are there
+-- the calls of a clock can have come to each of these marks on its buffer: it counts no more than is told and is there
 abbrev pub AreWithin : List BufferState → List Mark → Type 0
 AreWithin states marks = (b : ℕ) (d : BufferState) (e : Mark) → b < length states
     → IsWithin (slice_index_or states b d) (slice_index_or marks b e)
 
--- how many of a buffer's chunks come from other clocks: none if the clock feeds it
+-- how many chunks are there of a buffer when a run goes on: none count if the clock feeds it itself, which `true` says
 abbrev pub others_in : Bool → List (List Cell) → ℕ
 others_in true chunks = 0
 others_in false chunks = length chunks
@@ -44,7 +45,8 @@ resumed s fed read mark = record {
   gone = s.gone;
 }
 
--- over each buffer the run of clock m goes on at its mark
+-- each buffer of `new` is that of `old` where the run of clock m goes on at its mark; `feeders` and `readers` name the
+-- main clocks of its ends
 abbrev pub HaveResumed : (feeders readers : List ℕ) → (m : ℕ) → List Mark → List BufferState → List BufferState → Type 0
 HaveResumed feeders readers m marks old new = (b : ℕ) (d : BufferState) (e : Mark) → b < length old
     → slice_index_or new b d
@@ -66,7 +68,7 @@ pub record HasLetGo (before after : BufferState) : Type 0 where
   pub low : before.gone ≤ before.got → after.gone ≤ before.got
   pub most : after.gone ≤ length after.chunks
 
--- of each buffer that the clock reads, chunks that were got may have been let go
+-- of each buffer that the clock reads, chunks that were got may have been let go; all others are still there
 abbrev pub HaveLetGo : List BufferState → List BufferState → Type 0
 HaveLetGo old new = (b : ℕ) (d : BufferState) → b < length old
     → HasLetGo (slice_index_or old b d) (slice_index_or new b d)

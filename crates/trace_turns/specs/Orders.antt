@@ -7,15 +7,15 @@ use Rattle.trace_records.specs.Clocks.{Log}
 use Rattle.trace_records.specs.Passes.{HasCome}
 use Rattle.trace_turns.specs.Timed.{TimedText, timed}
 
--- The clock of a turn, which had made as many ticks as `made` says, came to those of the turn with the chunks `chunks`
--- of each buffer; after it these are `next`.
+-- In this turn its clock, which had made as many ticks as `made` says, came to the ticks that the turn notes, with the
+-- chunks `chunks` of each buffer; after it these are `next`.
 pub record IsTurn (base : Setting) (clocks : ℕ) (told : TimedText) (turn : TurnMade) (made : ℕ → ℕ) (chunks next : ℕ
     → List (List Cell)) : Type 0 where
   pub runs : turn.clock < clocks
   pub on : made turn.clock ≤ turn.ticks
   pub come : HasCome base told.window told.ticks told.text turn.clock turn.ticks chunks next
 
--- how many ticks each clock has made after a turn
+-- how many ticks each clock has made after a turn of one clock, if they had made `made` before
 abbrev pub made_then : TurnMade → (made : ℕ → ℕ) → ℕ → ℕ
 made_then turn made k = if nat_eq k turn.clock then turn.ticks else made k
 
@@ -28,10 +28,10 @@ AreTurns base clocks W N text (turn ∷ turns) made chunks =
     (next : ℕ → List (List Cell)) × IsTurn base clocks (timed text W N) turn made chunks next
     × AreTurns base clocks W N text turns (made_then turn made) next
 
--- no tick of any clock
+-- how many ticks each clock has made before a replay: none
 abbrev pub no_ticks : ℕ → ℕ
 no_ticks k = 0
 
--- no chunk of any buffer
+-- the chunks of each buffer before a replay: none
 abbrev pub no_chunks : ℕ → List (List Cell)
 no_chunks b = []

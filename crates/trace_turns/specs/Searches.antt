@@ -27,7 +27,8 @@ pub record MayJudge (station : Station) (of : Sides) (ends : List Ends) (window 
   pub none : turns ≡ []
   pub new : AreNew station.plan.now.buffers logs (length station.plan.now.buffers) states ends
 
--- A clock may be run from its first tick on: the buffers tell the answers of some text, and let go of no chunk.
+-- A clock may be run from its first tick on: the buffers tell the answers of some text of a trace, and have let go of
+-- no chunk.
 pub record MayRun (station : Station) (of : Sides) (ends : List Ends) (window ticks : ℕ)
     (states : List BufferState) : Type 0 where
   pub some : 1 ≤ window
@@ -51,13 +52,13 @@ pub record MaySearch (station : Station) (of : Sides) (ends : List Ends) (window
   pub empty : (b : ℕ) → chunks_of states b ≡ []
   pub text : (text : ℕ → Log) × AreFit (base_at station) window ticks text states ends
 
--- in these turns all ticks are made, for each text that the buffers tell
+-- by these turns, the runs of single clocks one after another, all ticks are made, for each text that the buffers tell
 abbrev pub AreFound : Station → List Ends → (window ticks : ℕ) → List BufferState → List TurnMade → Type 0
 AreFound station ends window ticks states turns = (text : ℕ → Log)
     → AreFit (base_at station) window ticks text states ends
     → AreTurns (base_at station) station.clocks.now.running window ticks text turns no_ticks no_chunks
 
--- each text that the buffers told before, they tell after
+-- each text that the buffers told before, with windows that end as `ends` says, they tell after
 abbrev pub TellOn : Station → List Ends → (window ticks : ℕ) → (before after : List BufferState) → Type 0
 TellOn station ends window ticks before after = (text : ℕ → Log)
     → AreFit (base_at station) window ticks text before ends → AreFit (base_at station) window ticks text after ends

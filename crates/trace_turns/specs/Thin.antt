@@ -19,7 +19,7 @@ pub record AreFull (states full : List BufferState) : Type 0 where
   pub each : (b : ℕ) (d : BufferState) → b < length states
       → IsFull (slice_index_or states b d) (slice_index_or full b d)
 
--- among these calls is a take that is to get a chunk which was let go
+-- these calls come to a take that is to get a chunk which its buffer has let go
 pub record HasLost (states full : List BufferState) (calls : List Call) : Type 0 where
   pub front : List Call
   pub behind : List Call
@@ -36,17 +36,19 @@ TapsFollow Waits states calls = (full : List BufferState) × AreFull states full
     × (HasWaited full calls ⊎ HasLost states full calls)
 TapsFollow Fails states calls = (full : List BufferState) × AreFull states full × HasFailed full calls
 
--- nothing was let go that the clock is to get
+-- of each buffer that the clock reads, only chunks were let go that it has got already
 abbrev pub NoneLost : List BufferState → Type 0
 NoneLost states = (b : ℕ) (d : BufferState) → b < length states → (slice_index_or states b d).read ≡ true
     → (slice_index_or states b d).gone ≤ (slice_index_or states b d).got
 
--- nothing was let go that clock m is to get, whose run goes on at these marks
+-- of each buffer that clock m reads, only chunks were let go that it got before its mark, at which its run goes on;
+-- `readers` has the main clock of the reader of each buffer
 abbrev pub AreUnlost : (readers : List ℕ) → (m : ℕ) → List Mark → List BufferState → Type 0
 AreUnlost readers m marks states = (b : ℕ) (d : BufferState) (e : Mark) → b < length states
     → slice_index_or readers b 0 ≡ m → (slice_index_or states b d).gone ≤ (slice_index_or marks b e).got
 
--- what other clocks than m are to get is not let go
+-- a turn of clock m lets go of no chunk that another clock is still to get; `readers` has the main clock of the reader
+-- of each buffer
 abbrev pub OthersStayUnlost : (readers : List ℕ) → (m : ℕ) → (before after : List BufferState) → Type 0
 OthersStayUnlost readers m before after = (k : ℕ) (marks : List Mark) → (k ≡ m → ⊥)
     → AreUnlost readers k marks before → AreUnlost readers k marks after

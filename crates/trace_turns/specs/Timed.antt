@@ -8,5 +8,6 @@ pub record TimedText : Type 0 where
   pub window : ℕ
   pub ticks : ℕ
 
+-- the three as one record: a text, its windows of W ticks each, and its N ticks in all
 abbrev pub timed : (text : ℕ → Log) → (W N : ℕ) → TimedText
 timed text W N = record { text = text; window = W; ticks = N }

@@ -22,7 +22,7 @@ use Rattle.trace_records.specs.Clocks.{AreWhole, Log, puts_in, takes_in}
 use Rattle.trace_records.specs.Passes.{IsFormed, IsMadeBy, ticks_in}
 use Rattle.trace_turns.specs.Answering.{AllStand, BufferState, begun}
 
--- what stands where there is no buffer
+-- the state that stands for a buffer which the plan does not have: without a chunk, an answer or a clock
 abbrev pub no_state : BufferState
 no_state = record {
   capacity = 0;
@@ -38,7 +38,7 @@ no_state = record {
   gone = 0;
 }
 
--- the chunks that were put to buffer b; none if there is no such buffer
+-- the chunks that were put to buffer b so far; none if there is no such buffer
 abbrev pub chunks_of : List BufferState → ℕ → List (List Cell)
 chunks_of states b = (slice_index_or states b no_state).chunks
 
@@ -47,7 +47,8 @@ pub record AreEnds (log : Log) (ends : Ends) : Type 0 where
   pub puts : (j : ℕ) → j < length log → slice_get ends.puts.items j ≡ Some (length (puts_in (take (suc j) log)))
   pub takes : (j : ℕ) → j < length log → slice_get ends.takes.items j ≡ Some (length (takes_in (take (suc j) log)))
 
--- on a buffer the clock made as many calls as its windows up to window j have, at each end that it has
+-- On a buffer the clock made as many calls as its windows up to window j have: with its puts if it feeds it, and with
+-- its takes if it reads it.
 pub record IsAtEnd (s : BufferState) (ends : Ends) (j : ℕ) : Type 0 where
   pub puts : s.fed ≡ true → slice_get ends.puts.items j ≡ Some s.put_at
   pub takes : s.read ≡ true → slice_get ends.takes.items j ≡ Some s.take_at
@@ -78,7 +79,8 @@ pub record AreOf (base : Setting) (text : ℕ → Log) (m : ℕ) (chunks : ℕ
   pub front : (b : ℕ) (d : BufferState) → b < length base.plan.buffers → (feeder base b ≡ m → ⊥)
       → (rest : List (List Cell)) × ((slice_index_or states b d).chunks ≡ chunks b ++ rest)
 
--- Clock m has made its first n ticks, and its engine and its buffers stand for their calls.
+-- Clock m has made its first n ticks as the text of a trace tells, and its engine and its buffers stand for its calls.
+-- The text has N ticks in windows of W; `chunks` are those of other clocks at first.
 pub record RunsAt (base : Setting) (text : ℕ → Log) (W N m n : ℕ) (chunks : ℕ
     → List (List Cell)) (parts : EngineParts) (states : List BufferState) : Type 0 where
   pub calls : List Call
@@ -91,12 +93,12 @@ pub record RunsAt (base : Setting) (text : ℕ → Log) (W N m n : ℕ) (chunks 
   pub of : AreOf base text m chunks states
   pub whole : AreWhole base text W N m n (λ t. ticks_in base accepted calls m t)
 
--- on each buffer the clock is at the end of window j
+-- on each buffer the clock made just the calls that the windows up to window j have
 abbrev pub AreAtEnd : List BufferState → List Ends → (j : ℕ) → Type 0
 AreAtEnd states ends j = (b : ℕ) (s : BufferState) (e : Ends) → b < length states
     → IsAtEnd (slice_index_or states b s) (slice_index_or ends b e) j
 
--- on some buffer the clock is not at the end of window j
+-- on some buffer the clock made other calls than the windows up to window j have
 pub record IsOffEnd (states : List BufferState) (ends : List Ends) (j : ℕ) : Type 0 where
   pub buffer : ℕ
   pub known : buffer < length states
@@ -114,14 +116,16 @@ GoesOn W N n before states ends Waits = before ≡ Waits
 GoesOn W N n before states ends Fails = (before ≡ Fails)
     ⊎ ((before ≡ Goes) × EndsWith W N n × IsOffEnd states ends (n / W))
 
--- what a replay is of: a plan with its clocks and files, a text, and the chunks that are there
+-- what a replay of a trace rests on: a plan with its clocks and files, the text of the trace, and the chunks that are
+-- there of each buffer
 pub record Score : Type 0 where
   pub base : Setting
   pub clocks : ClockMap
   pub text : ℕ → Log
   pub chunks : ℕ → List (List Cell)
 
--- an engine of clock m may be run over these buffers from its first tick on
+-- an engine of clock m may be run over these buffers from its first tick on: it is new, and they tell the text of a
+-- trace, with windows that end as `ends` says
 pub record MayTurn (score : Score) (W N m : ℕ) (parts : EngineParts) (states : List BufferState)
     (ends : List Ends) : Type 0 where
   pub is : IsSetting score.base score.clocks
@@ -135,7 +139,8 @@ pub record MayTurn (score : Score) (W N m : ℕ) (parts : EngineParts) (states :
   pub ends_are : (b : ℕ) (e : Ends) → b < length score.base.plan.buffers
       → AreEnds (score.text b) (slice_index_or ends b e)
 
--- buffers that tell the answers of a text
+-- buffers that tell the answers of a text: one for each of the plan, with its capacity, and with the answers that the
+-- text has of its puts and takes
 pub record AreTold (base : Setting) (text : ℕ → Log) (states : List BufferState) : Type 0 where
   pub many : length states ≡ length base.plan.buffers
   pub puts : (b : ℕ) (d : BufferState) → b < length base.plan.buffers
@@ -145,26 +150,27 @@ pub record AreTold (base : Setting) (text : ℕ → Log) (states : List BufferSt
   pub capacity : (b : ℕ) (d : BufferState) → b < length base.plan.buffers
       → (slice_index_or states b d).capacity ≡ capacity_of base b
 
--- by a buffer's number, the main clocks of its feed and of its reader
+-- these lists have, by the number of a buffer, the main clock of its feed and that of its reader
 pub record AreSides (base : Setting) (feeders readers : List ℕ) : Type 0 where
   pub feeders_many : length feeders ≡ length base.plan.buffers
   pub readers_many : length readers ≡ length base.plan.buffers
   pub fed : (b : ℕ) → b < length base.plan.buffers → slice_index_or feeders b 0 ≡ feeder base b
   pub read : (b : ℕ) → b < length base.plan.buffers → slice_index_or readers b 0 ≡ reader base b
 
--- each buffer begins a run of clock m
+-- each buffer of `new` is that of `old` at the beginning of a run of clock m: it counts as fed or read by the clock
+-- where `feeders` or `readers` name m
 abbrev pub HaveBegun : (feeders readers : List ℕ) → (m : ℕ) → List BufferState → List BufferState → Type 0
 HaveBegun feeders readers m old new = (b : ℕ) (d : BufferState) → b < length old
     → slice_index_or new b d
     ≡ begun (slice_index_or old b d) (nat_eq (slice_index_or feeders b 0) m) (nat_eq (slice_index_or readers b 0) m)
 
--- whether a sink is an output of clock m
+-- whether a sink of a plan is an output whose node lies in main clock m
 abbrev pub is_output_in : List NodeClock → (m : ℕ) → SinkPlan → Bool
 is_output_in clocks m (Output name node fallible wide) = same_clock (slice_index_or clocks node (NodeClock.Main 0))
     (NodeClock.Main m)
 is_output_in clocks m (Feed buffer node) = false
 
--- how many of these sinks are outputs of clock m
+-- how many of these sinks are outputs whose node lies in main clock m
 abbrev pub outputs_in : List NodeClock → (m : ℕ) → List SinkPlan → ℕ
 outputs_in clocks m [] = 0
 outputs_in clocks m (sink ∷ sinks) = if is_output_in clocks m sink then suc (outputs_in clocks m sinks)
@@ -177,7 +183,7 @@ pub record AreFit (base : Setting) (W N : ℕ) (text : ℕ
   pub formed : IsFormed (length base.plan.buffers) W N text
   pub ends_are : (b : ℕ) (e : Ends) → b < length base.plan.buffers → AreEnds (text b) (slice_index_or ends b e)
 
--- over any plan, what the buffers told they tell still
+-- whatever plan and text the buffers fitted before, they fit after: their answers and the ends of their windows stay
 abbrev pub StayFit : List Ends → (W N : ℕ) → (before after : List BufferState) → Type 0
 StayFit ends W N before after = (base : Setting) (text : ℕ → Log) → AreFit base W N text before ends
     → AreFit base W N text after ends

@@ -24,7 +24,8 @@ use std::alloc::Global;
 use std::collections::VecDeque;
 use trace_records::are_legal;
 
-// A buffer of which a log tells, before any run, and where its windows end.
+// Makes a buffer of this capacity with the answers that its log in a trace tells, before any run; and the numbers of
+// answers up to the end of each window.
 fn told_buffer(alloc: Global, capacity: u32, log: &BufferLog) -> Result<(ToldBuffer, Ends), Memory>
     ensures buffer { IfOk result (λ r. r.0 ≡ new_state capacity (map pair_of log.now)) }
     ensures ends { IfOk result (λ r. AreEnds (map pair_of log.now) r.1) }
@@ -55,7 +56,7 @@ fn told_buffer(alloc: Global, capacity: u32, log: &BufferLog) -> Result<(ToldBuf
     ))
 }
 
-/// The buffers of a plan, of which a trace tells, and where their windows end.
+/// Makes the buffers of a plan with the answers that a trace tells of each, and says where their windows end.
 pub fn told_buffers(
     alloc: Global,
     plans: &[BufferPlan],
@@ -78,7 +79,7 @@ pub fn told_buffers(
     Ok((buffers, ends))
 }
 
-// The main clocks of these nodes, in their order.
+// The main clock to which each of these nodes belongs, in their order.
 fn mains_of(
     alloc: Global,
     plan: &Plan,
@@ -97,7 +98,7 @@ fn mains_of(
     Ok(mains)
 }
 
-// The overlap of a crossfade, in cells; 0 of any other node.
+// The overlap of the crossfade that is this node, in cells; 0 for any other node.
 fn overlap_of(plan: &Plan, node: u32) -> u64 {
     let Some(node) = plan.nodes.as_slice().get(node as usize) else {
         return 0;
@@ -108,8 +109,9 @@ fn overlap_of(plan: &Plan, node: u32) -> u64 {
     }
 }
 
-// How many cells the reader that is this node takes in a tick at most, where an empty take counts as the samples of a
-// tick. A crossfade gives a tick of n samples when its sub-clock has run at most twice as many and twice the overlap.
+// A bound on the cells that the reader of a buffer, which is this node, takes in a tick, where an empty take counts as
+// the samples of a tick. A crossfade gives a tick of n samples when its sub-clock has run at most twice as many and
+// twice the overlap.
 fn reach_of(plan: &Plan, clocks: &ClockMap, node: u32) -> u64 {
     let frame = u64::from(plan.frame);
     let mut times = 1u64;
@@ -132,7 +134,7 @@ fn reach_of(plan: &Plan, clocks: &ClockMap, node: u32) -> u64 {
         .saturating_add(frame.saturating_mul(3))
 }
 
-// By a buffer's number: how many cells its reader takes in a tick at most, and its prefill, in all. `nodes` has the
+// By a buffer's number, a bound on the cells that its reader takes in a tick, with its prefill. `nodes` has the
 // readers.
 fn reaches_of(
     alloc: Global,
@@ -151,8 +153,8 @@ fn reaches_of(
     Ok(reaches)
 }
 
-/// The sides of a plan's buffers: the main clocks of feeds and readers, the readers' nodes, and how many cells readers
-/// take in a tick at most.
+/// Finds, for each buffer of a plan, the main clocks of its two ends, the node that reads it, and a bound on the cells
+/// which that takes in a tick.
 pub fn sides_of(alloc: Global, plan: &Plan, clocks: &ClockMap) -> Result<Sides, Memory>
     requires { IsWellFormed plan.now }
     ensures { IfOk result (λ sides. (setting : Setting) → setting.plan ≡ plan.now → setting.clocks ≡ clocks.now.of
@@ -172,7 +174,8 @@ pub fn sides_of(alloc: Global, plan: &Plan, clocks: &ClockMap) -> Result<Sides, 
     })
 }
 
-/// Whether the windows of each buffer are legal, by their answers alone.
+/// Whether each buffer's windows, as a trace tells them in `logs`, are legal: a queue of its capacity can have
+/// answered so.
 pub fn all_legal(plans: &[BufferPlan], logs: &[BufferLog]) -> bool
     requires buffers { All IsBuffer plans.now }
     requires many { length logs.now ≡ length plans.now }
@@ -189,7 +192,7 @@ pub fn all_legal(plans: &[BufferPlan], logs: &[BufferLog]) -> bool
     true
 }
 
-// Whether the windows of a buffer are legal, by their answers alone.
+// Whether the windows of a buffer, as its log tells them, are legal: a queue of this capacity can have answered so.
 fn is_legal_log(capacity: u32, log: &BufferLog) -> bool
     requires { 1 ≤ capacity }
     ensures { result ≡ are_legal capacity 0 (map pair_of log.now) }
@@ -197,7 +200,8 @@ fn is_legal_log(capacity: u32, log: &BufferLog) -> bool
     are_legal(capacity, &log.windows)
 }
 
-/// Whether nothing is told of takes of a buffer whose reader's clock does not run; the clocks below `running` do.
+/// Whether a trace tells of no take of a buffer whose reader's clock does not run; the clocks below `running` do.
+/// `readers` has the main clock of the reader of each buffer.
 pub fn unread_stay(buffers: &[ToldBuffer], readers: &[u32], running: u32) -> bool
     requires { length readers.now ≡ length buffers.now }
     ensures yes { result ≡ true → (b : ℕ) (d : BufferState) → b < length buffers.now
@@ -213,7 +217,7 @@ pub fn unread_stay(buffers: &[ToldBuffer], readers: &[u32], running: u32) -> boo
     true
 }
 
-// Whether some take of a buffer is told.
+// Whether the trace tells of some take of a buffer.
 fn has_takes(buffer: &ToldBuffer) -> bool
     ensures yes { result ≡ true → buffer.now.takes ≡ [] → ⊥ }
     ensures no { result ≡ false → buffer.now.takes ≡ [] }

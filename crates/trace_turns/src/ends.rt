@@ -12,7 +12,8 @@ pub struct Ends {
     pub takes: Vec<usize>,
 }
 
-// Whether `at` answers are as many as there are up to the end of window number `window`.
+// Whether a clock that made `at` puts, or takes, on a buffer is at the end of window number `window`; `ends` has for
+// each window how many there are up to its end.
 fn is_at(ends: &[usize], window: u64, at: usize) -> bool
     ensures right { result ≡ true → slice_get ends.now window ≡ Some at }
     ensures wrong { result ≡ false → slice_get ends.now window ≡ Some at → ⊥ }
@@ -52,7 +53,7 @@ fn at_ends(buffers: &[ToldBuffer], ends: &[Ends], window: u64) -> bool
     true
 }
 
-// Whether a window ends with tick number `tick`, in a run of `ticks` ticks in windows of `window` ticks.
+// Whether some window ends with tick number `tick`, in a run of `ticks` ticks in windows of `window` ticks.
 fn ends_with(window: u64, ticks: u64, tick: u64) -> bool
     requires some { 1 ≤ window }
     requires within { tick < ticks }

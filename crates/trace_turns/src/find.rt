@@ -19,7 +19,7 @@ use crate::turn::{Turn, run_turn};
 use liq_base::Memory;
 use std::alloc::Global;
 
-// Adds a turn of a clock, after which it has made `ticks` ticks.
+// Adds to `turns` that this clock had its turn, and has made `ticks` ticks after it, from its first one on.
 fn note_turn(turns: &mut Vec<TurnMade>, clock: u32, ticks: u64) -> Result<(), Memory>
     ensures { OnOk result (turns.new.items ≡ turns.old.items ++ record { clock = clock; ticks = ticks } ∷ []) }
 {
@@ -27,9 +27,10 @@ fn note_turn(turns: &mut Vec<TurnMade>, clock: u32, ticks: u64) -> Result<(), Me
     Ok(())
 }
 
-// Searches the turns by new engines, and adds them to `turns`: goes over the clocks in order, again and again, and runs
-// each from its first tick on, as far as it can be run with the chunks that are there. Returns whether all `ticks`
-// ticks of each were made; it ends if a pass over all clocks made no tick more, or if a turn was refused.
+// Searches the turns by new engines, and adds them to `turns`: goes over the clocks in order, again and again, and
+// runs each from its first tick on, as far as it can be run with the chunks that are there. Returns whether all
+// `ticks` ticks of each were made; it ends if a pass over all clocks made no tick more, or if a clock cannot make its
+// ticks as the trace tells.
 fn search_chunks(
     alloc: Global,
     station: &Station<'_>,
@@ -85,9 +86,9 @@ pub enum Search {
     Open,
 }
 
-// The number of the clock that is tried if none seems to have its chunks: one with a reader below a crossfade, at best
-// one whose next takes can be answered, and of these that which has made the fewest ticks. The number of all clocks if
-// there is none.
+// The number of the clock whose tick is tried when none surely has its chunks: one with a reader below a crossfade, at
+// best one whose next takes can be answered, and of these that which has made the fewest ticks. The number of all
+// clocks if there is none.
 fn to_try(
     lives: &[LiveClock<'_>],
     buffers: &[ToldBuffer],
@@ -177,8 +178,8 @@ fn pass_on(
     Ok(Search::Found)
 }
 
-// Searches the turns with one engine for each clock, which goes on from turn to turn. On a plan without buffers it
-// makes no tick, and does not decide.
+// Searches the turns with one engine for each clock, which is kept from turn to turn, so no tick is made again. On a
+// plan without buffers it makes no tick, and does not decide.
 fn find_live(
     alloc: Global,
     station: &Station<'_>,
@@ -213,8 +214,8 @@ fn find_live(
     found
 }
 
-// Searches the turns in which the clocks make all their ticks, and returns whether they do. If engines that go on from
-// turn to turn do not decide, the search by new engines does, from the beginning.
+// Searches the turns in which the clocks make all their ticks as the trace tells, and returns whether they do. If
+// engines that are kept from turn to turn do not decide, a search that makes each turn anew does, from the beginning.
 fn search_turns(
     alloc: Global,
     station: &Station<'_>,
@@ -244,8 +245,8 @@ fn search_turns(
     search_chunks(alloc, station, taps, turns, sides, ends, window, ticks)
 }
 
-/// Searches the turns in which the clocks make all their ticks, and returns whether they do. The buffers are empty
-/// again then.
+/// Searches the turns, one clock after another, in which the clocks make all their ticks as the trace tells; adds them
+/// to `turns`, and returns whether there are such turns. The buffers are empty again then.
 pub fn find_turns(
     alloc: Global,
     station: &Station<'_>,

@@ -7,7 +7,7 @@ use buffer_ends::WindowLog;
 use liq_base::Memory;
 use std::alloc::Global;
 
-// The answers of the puts of a window, if `puts`, and otherwise of its takes.
+// The answers of one end of a buffer in a window: of its puts, if `puts`, and otherwise of its takes.
 fn side_of(window: &WindowLog, puts: bool) -> &[bool]
     ensures { result.now ≡ side_of puts window.now }
 {
@@ -17,8 +17,8 @@ fn side_of(window: &WindowLog, puts: bool) -> &[bool]
     &window.takes
 }
 
-/// The answers of the puts of all windows, if `puts`, and otherwise of their takes; and for each window how many there
-/// are up to its end.
+/// Joins the answers of one end of a buffer over all windows, those of its puts if `puts`, and otherwise of its takes;
+/// and counts for each window how many there are up to its end.
 pub fn flatten(
     alloc: Global,
     windows: &[WindowLog],

@@ -17,8 +17,8 @@ use buffer_ends::BufferLog;
 use liq_base::Memory;
 use std::alloc::Global;
 
-/// Whether the text of a trace with as many buffers as the plan is that of a lawful record whose ticks can be ordered.
-/// If it is, `turns` has the turns in which the clocks make it, and the buffers are empty then.
+/// Whether a trace, with as many buffers as the plan, tells a lawful record whose ticks can be ordered. If it does,
+/// `turns` has the turns in which the clocks make it, and the buffers are empty then.
 pub fn judge(
     alloc: Global,
     station: &Station<'_>,

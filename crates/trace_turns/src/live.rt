@@ -17,7 +17,7 @@ pub struct LiveClock<'a> {
     pub marks: Vec<Mark>,
 }
 
-// Main clock `clock` before its first tick, with a new engine.
+// Makes main clock `clock` before its first tick, with an engine of its own and a mark at the start of each buffer.
 fn new_clock<'a>(alloc: Global, station: &Station<'a>, clock: u32) -> Result<LiveClock<'a>, Memory>
     requires setting { IsSetting (base_at station.now) station.now.clocks.now }
     ensures new { IfOk result (λ live. IsNewClock (base_at station.now) clock live) }
@@ -38,7 +38,7 @@ fn new_clock<'a>(alloc: Global, station: &Station<'a>, clock: u32) -> Result<Liv
     }
 }
 
-/// Makes the clocks that run, each before its first tick.
+/// Adds to `lives` each clock of the station that runs, before its first tick and with an engine of its own.
 pub fn make_clocks<'a>(
     alloc: Global,
     station: &Station<'a>,
@@ -56,7 +56,7 @@ pub fn make_clocks<'a>(
     Ok(())
 }
 
-/// Takes the clocks apart, and drops their engines.
+/// Frees the clocks and their engines at the end of a search.
 pub fn end_clocks(lives: Vec<LiveClock<'_>>) {
     let mut lives = lives;
     while let Some(live) = lives.pop() {

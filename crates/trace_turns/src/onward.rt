@@ -38,7 +38,7 @@ fn end_of(ends: &[Ends], b: usize, window: u64) -> usize {
     ends[b].takes[window as usize]
 }
 
-// Whether buffer b, which another clock feeds, seems to have the chunks for the takes of a tick in this window that
+// Foresees whether buffer b, which another clock feeds, has the chunks for the takes of a tick in this window that
 // follow a mark. A reader in the main clock says how many cells it wants; of another it is known how many it wants at
 // most.
 fn can_serve(
@@ -59,8 +59,8 @@ fn can_serve(
     }
 }
 
-// Whether the chunks that are there seem to suffice for the next tick of a clock in its turn, in window number
-// `window`.
+// Foresees whether the chunks that are there suffice for the next tick of a clock in its turn, in window number
+// `window`: whether each buffer that the clock reads and another feeds can serve it.
 fn can_go(
     engine: &ClockEngine<'_, NoSink>,
     buffers: &[ToldBuffer],
@@ -80,7 +80,7 @@ fn can_go(
     true
 }
 
-// Whether clock `clock` reads buffer b and another clock feeds it.
+// Whether buffer b joins another clock to clock `clock`, which reads it.
 fn joins(sides: &Sides, b: usize, clock: u32) -> bool {
     b < sides.readers.len()
         && b < sides.feeders.len()
@@ -88,7 +88,8 @@ fn joins(sides: &Sides, b: usize, clock: u32) -> bool {
         && sides.feeders[b] != clock
 }
 
-/// Whether a clock that has made `from` of its `ticks` ticks seems to have the chunks for one more.
+/// Foresees whether a clock that has made `from` of its `ticks` ticks has the chunks for one more, so that a turn of
+/// it is worth while.
 pub fn may_turn(
     live: &LiveClock<'_>,
     buffers: &[ToldBuffer],
@@ -141,7 +142,8 @@ pub fn may_try(live: &LiveClock<'_>, buffers: &[ToldBuffer], sides: &Sides) -> (
 // The most ticks of a turn, so that no clock comes far ahead of the others.
 const TURN_TICKS: u64 = 16;
 
-// How many ticks a clock that has made `from` of its `ticks` ticks has made after a turn, at most.
+// How many ticks a clock that has made `from` of its `ticks` ticks has made after a turn, at most: a turn is no longer
+// than `TURN_TICKS`.
 fn last_of(from: u64, ticks: u64) -> u64
     requires few { ticks ≤ 1000000000 }
     requires within { from ≤ ticks }

@@ -32,7 +32,7 @@ pub struct Sides {
     pub frame: u64,
 }
 
-/// The clock of a node; main clock 0 if there is no such node.
+/// The clock in which a node lies, looked up in `clocks`; main clock 0 if there is no such node.
 pub fn clock_at(clocks: &[NodeClock], node: u32) -> NodeClock
     ensures { result ≡ slice_index_or clocks.now node (NodeClock.Main 0) }
 {
@@ -42,7 +42,7 @@ pub fn clock_at(clocks: &[NodeClock], node: u32) -> NodeClock
     }
 }
 
-// Whether it is main clock `clock`.
+// Whether `of`, the clock of a node, is main clock `clock`.
 fn is_main(of: NodeClock, clock: u32) -> bool
     ensures { result ≡ same_clock of (NodeClock.Main clock) }
 {
@@ -52,7 +52,7 @@ fn is_main(of: NodeClock, clock: u32) -> bool
     }
 }
 
-// Whether a sink is an output of main clock `clock`.
+// Whether a sink of a plan is an output whose node lies in main clock `clock`.
 fn is_output(sink: &SinkPlan, clocks: &[NodeClock], clock: u32) -> bool
     ensures { result ≡ is_output_in clocks.now clock sink.now }
 {
@@ -62,7 +62,7 @@ fn is_output(sink: &SinkPlan, clocks: &[NodeClock], clock: u32) -> bool
     }
 }
 
-// Sinks that keep nothing, one for each output of main clock `clock`.
+// Makes sinks that keep nothing, one for each output of main clock `clock` among these sinks of a plan.
 fn count_outputs(
     alloc: Global,
     sinks: &[SinkPlan],
@@ -81,7 +81,8 @@ fn count_outputs(
     Ok(outs)
 }
 
-/// Sinks that keep nothing, one for each output of main clock `clock`.
+/// Makes sinks that keep nothing, one for each output of main clock `clock`: an engine needs them, and a trace is
+/// judged without a file.
 #[tactic(auto, using(crate::proofs::Beginning::outputs_count))]
 pub fn sinks_of(
     alloc: Global,

@@ -22,7 +22,7 @@ pub struct ToldTaps {
     pub course: Course,
 }
 
-// A take from this buffer, and what it meets.
+// Takes from buffer number `buffer`, and says what the take met there.
 fn take_from(buffers: &mut Vec<ToldBuffer>, buffer: u32) -> Result<Taken, Memory>
     requires { buffer < length buffers.old.items }
     ensures taken { IfOk result (λ taken. (s : BufferState) × (buffers.new.items ≡ slice_set buffers.old.items buffer s)
@@ -33,7 +33,7 @@ fn take_from(buffers: &mut Vec<ToldBuffer>, buffer: u32) -> Result<Taken, Memory
     buffers[buffer as usize].take()
 }
 
-// A put of a chunk to this buffer, and what it meets.
+// Puts a chunk to buffer number `buffer`, and says what the put met there.
 fn put_into(
     buffers: &mut Vec<ToldBuffer>,
     buffer: u32,
@@ -48,7 +48,8 @@ fn put_into(
     buffers[buffer as usize].put(chunk)
 }
 
-/// Begins a run of main clock `clock`. By a buffer's number, `feeders` and `readers` are the main clocks of its ends.
+/// Begins a run of main clock `clock` from its first tick on, over all buffers. By a buffer's number, `feeders` and
+/// `readers` are the main clocks of its ends.
 pub fn begin_run(buffers: &mut Vec<ToldBuffer>, feeders: &[u32], readers: &[u32], clock: u32)
     requires feeders { length feeders.now ≡ length buffers.old.items }
     requires readers { length readers.now ≡ length buffers.old.items }
@@ -81,7 +82,7 @@ pub fn resume_run(
     }
 }
 
-/// Marks how far the calls of a run came on each buffer.
+/// Notes in `marks` how far the calls of a run came on each buffer, so that the run can go on there later.
 pub fn mark_run(buffers: &[ToldBuffer], marks: &mut Vec<Mark>)
     requires { length marks.old.items ≡ length buffers.now }
     ensures many { length marks.new.items ≡ length marks.old.items }
@@ -92,7 +93,7 @@ pub fn mark_run(buffers: &[ToldBuffer], marks: &mut Vec<Mark>)
     }
 }
 
-/// Lets go of the chunks that were got of each buffer which the clock reads.
+/// Frees, of each buffer that the clock reads, the chunks that it got.
 pub fn let_go_run(buffers: &mut Vec<ToldBuffer>)
     ensures many { length buffers.new.items ≡ length buffers.old.items }
     ensures gone { HaveLetGo buffers.old.items buffers.new.items }
@@ -102,7 +103,7 @@ pub fn let_go_run(buffers: &mut Vec<ToldBuffer>)
     }
 }
 
-/// Drops the chunks of all buffers.
+/// Drops the chunks of all buffers, as before any run of a clock.
 pub fn forget_run(buffers: &mut Vec<ToldBuffer>)
     ensures many { length buffers.new.items ≡ length buffers.old.items }
     ensures forgotten { IsForgotten buffers.old.items buffers.new.items }
@@ -113,7 +114,8 @@ pub fn forget_run(buffers: &mut Vec<ToldBuffer>)
 }
 
 impl ToldTaps {
-    // A take from this buffer in a run whose calls were all answered.
+    // Answers a take from a buffer in a run whose calls were all answered so far: a chunk or none. If it must wait or
+    // no answer is right, the course of the run says so from here on.
     fn take_told(&mut self, buffer: u32) -> Result<Option<Chunk>, Memory>
         requires known { buffer < length self.old.buffers.items }
         requires goes { self.old.course ≡ IsGoing }
@@ -142,7 +144,8 @@ impl ToldTaps {
         }
     }
 
-    // Gives a chunk to this buffer in a run whose calls were all answered.
+    // Answers a put of a chunk to a buffer in a run whose calls were all answered so far. If no answer is right, the
+    // course of the run says so from here on.
     fn give_told(&mut self, buffer: u32, chunk: Chunk) -> Result<Gave, (Chunk, Memory)>
         requires known { buffer < length self.old.buffers.items }
         requires goes { self.old.course ≡ IsGoing }
@@ -178,6 +181,7 @@ impl Taps for ToldTaps {
 
     ghost same_trans = { λ s t u a b. same_buffers_trans s.buffers.items t.buffers.items u.buffers.items a b };
 
+    // Answers a take as the trace tells. Once a call of the run could not be answered, each take gets nothing.
     fn take(&mut self, buffer: u32) -> Result<Option<Chunk>, Memory> {
         match self.course {
             Course::Goes => self.take_told(buffer),
@@ -186,6 +190,7 @@ impl Taps for ToldTaps {
         }
     }
 
+    // Answers a put as the trace tells. Once a call of the run could not be answered, each chunk is dropped.
     fn give(&mut self, buffer: u32, chunk: Chunk) -> Result<Gave, (Chunk, Memory)> {
         match self.course {
             Course::Goes => self.give_told(buffer, chunk),

@@ -102,7 +102,8 @@ impl Model for ToldBuffer {
 }
 
 impl ToldBuffer {
-    /// Begins a run of a clock, which feeds it or not, and reads it or not.
+    /// Begins a run of a clock from its first tick on, which feeds the buffer or not, and reads it or not. What the
+    /// clock feeds it puts anew, so the buffer is empty then; the chunks of another clock stay.
     pub fn begin(&mut self, fed: bool, read: bool)
         ensures { self.new ≡ begun self.old fed read }
     {
@@ -122,7 +123,7 @@ impl ToldBuffer {
         self.opened = self.put;
     }
 
-    /// Drops all chunks, as before any run.
+    /// Drops all chunks, as before any run of a clock.
     pub fn forget(&mut self)
         ensures { self.new ≡ begun self.old true true }
     {
@@ -130,7 +131,8 @@ impl ToldBuffer {
         self.spare.clear();
     }
 
-    /// Goes on with the run of a clock, which feeds it or not, and reads it or not, and whose calls came to this mark.
+    /// Goes on with a run of a clock where it paused, at this mark. The clock feeds the buffer or not, and reads it or
+    /// not; the chunks stay.
     pub fn resume(&mut self, fed: bool, read: bool, mark: Mark)
         requires { IsWithin self.old mark }
         ensures { self.new ≡ resumed self.old fed read mark }
@@ -146,7 +148,7 @@ impl ToldBuffer {
         }
     }
 
-    /// How far the calls of the run came on the buffer.
+    /// How far the calls of the run came on the buffer: how many puts and takes, and how many chunks were got.
     pub fn mark(&self) -> Mark
         ensures { result ≡ mark_of self.now }
     {
@@ -157,7 +159,7 @@ impl ToldBuffer {
         }
     }
 
-    /// Lets go of the chunks that were got, if the clock reads the buffer.
+    /// Frees the chunks that were got, if the clock reads the buffer: no later take needs them.
     pub fn let_go(&mut self)
         ensures { HasLetGo self.old self.new }
     {
@@ -170,8 +172,8 @@ impl ToldBuffer {
         }
     }
 
-    /// Whether the chunks that are there suffice for the takes after this mark, up to one that is told to be empty or
-    /// until `cells` cells were got.
+    /// Foresees whether the chunks that are there suffice for the takes after this mark, until `cells` cells were got
+    /// or a take is told to find the buffer empty.
     pub fn serves(&self, mark: Mark, cells: u64) -> bool {
         if mark.got < self.gone {
             return false;
@@ -191,8 +193,9 @@ impl ToldBuffer {
         true
     }
 
-    /// Whether the chunks that are there suffice for the takes after this mark up to take number `end`, or until
-    /// `reach` cells were got, where an empty take counts as `frame` cells. If `LOOKS` takes do not decide it, no.
+    /// Foresees whether the chunks that are there suffice for the takes after this mark up to take number `end`, or
+    /// until `reach` cells were got, where an empty take counts as `frame` cells. If `LOOKS` takes do not decide it,
+    /// no.
     pub fn serves_far(&self, mark: Mark, end: usize, reach: u64, frame: u64) -> bool {
         if mark.got < self.gone {
             return false;
@@ -221,7 +224,8 @@ impl ToldBuffer {
         true
     }
 
-    /// Whether the next take after this mark can be answered.
+    /// Whether the next take after this mark can be answered: its chunk is there, or it is told to find the buffer
+    /// empty.
     pub fn serves_one(&self, mark: Mark) -> bool {
         if mark.take_at >= self.takes.len() || !self.takes[mark.take_at] {
             return true;
@@ -229,21 +233,22 @@ impl ToldBuffer {
         mark.got >= self.gone && mark.got < self.put
     }
 
-    // Whether both ends of the buffer are the clock's.
+    // Whether the clock both feeds and reads the buffer: then its answers must be those of a bounded list.
     fn is_list(&self) -> bool
         ensures { result ≡ is_list self.now }
     {
         self.fed && self.read
     }
 
-    // How many chunks were put and not got.
+    // How many chunks the buffer holds that the clock has not got yet.
     fn left(&self) -> usize
         ensures { result + self.now.got ≡ length self.now.chunks }
     {
         self.put - self.got
     }
 
-    /// A take, which meets what the trace tells.
+    /// Answers a take as the trace tells: a chunk or none. It says so where the chunk is not there yet, was let go, or
+    /// no answer can be right.
     pub fn take(&mut self) -> Result<Taken, Memory>
         ensures taken { IfOk result (λ taken. TakesOn self.old taken self.new) }
         ensures same { SameBuffer self.old self.new }
@@ -262,7 +267,7 @@ impl ToldBuffer {
         Ok(Taken::Empty)
     }
 
-    // A take that gets a chunk, as the trace tells.
+    // Answers a take that is told to get a chunk, if the chunk is there.
     fn take_chunk(&mut self) -> Result<Taken, Memory>
         requires gets { slice_get self.old.takes self.old.take_at ≡ Some true }
         ensures taken { IfOk result (λ taken. TakesOn self.old taken self.new) }
@@ -284,7 +289,8 @@ impl ToldBuffer {
         Ok(Taken::Chunk(chunk))
     }
 
-    /// A put, which meets what the trace tells. A full buffer gives the chunk back.
+    /// Answers a put of a chunk as the trace tells: it is accepted, or the buffer is full and gives it back. It says
+    /// so where no answer can be right.
     pub fn put(&mut self, chunk: Chunk) -> Result<Put, (Chunk, Memory)>
         ensures put { IfOk result (λ put. PutsOn self.old chunk put self.new) }
         ensures same { SameBuffer self.old self.new }
@@ -303,7 +309,8 @@ impl ToldBuffer {
         Ok(Put::Full(chunk))
     }
 
-    // A put that is accepted, as the trace tells.
+    // Answers a put that is told to be accepted: the chunk is kept, unless a buffer with both ends in the clock has no
+    // room.
     fn accept(&mut self, chunk: Chunk) -> Result<Put, (Chunk, Memory)>
         requires accepts { slice_get self.old.puts self.old.put_at ≡ Some true }
         ensures put { IfOk result (λ put. PutsOn self.old chunk put self.new) }

@@ -26,6 +26,7 @@ impl Sink for NoSink {
 
     ghost told = { λ s. faults_alone 0 };
 
+    // Drops the bytes of an output: a replay that is only judged writes no file.
     fn append(&mut self, _piece: &[u8]) -> Result<(), Failed>
         ensures sure { result ≡ Ok tt }
     {
@@ -42,7 +43,8 @@ pub enum Turn {
     Refused,
 }
 
-/// Makes the `ticks` ticks of a clock from the first one on, as far as they can be made with the chunks that are there.
+/// Makes the `ticks` ticks of a clock by this engine from the first one on, as far as they can be made with the chunks
+/// that are there, and says how far it came.
 pub fn run_clock(
     alloc: Global,
     engine: &mut ClockEngine<'_, NoSink>,
@@ -79,8 +81,8 @@ pub fn run_clock(
     Ok(Turn::Made(ticks))
 }
 
-/// Runs a clock from its first tick on, with the chunks that are there. On a plan without buffers no tick waits, and
-/// none is made.
+/// Runs clock number `clock` by a new engine from its first tick on, with the chunks that are there, and says how far
+/// it came. On a plan without buffers no tick waits, and none is made.
 pub fn run_turn(
     alloc: Global,
     station: &Station<'_>,
