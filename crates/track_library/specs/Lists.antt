@@ -12,7 +12,7 @@ abbrev pub lines : List ℕ → List (List ℕ)
 lines [] = []
 lines (byte ∷ bytes) = if nat_eq byte 10 then [] ∷ lines bytes else with_first byte (lines bytes)
 
--- the bytes without the byte order mark at their start
+-- the bytes of a list file without the UTF-8 byte order mark (EF BB BF), if they begin with it
 abbrev pub without_mark : List ℕ → List ℕ
 without_mark bytes = if bytes_eq (take 3 bytes) (0xEF ∷ 0xBB ∷ 0xBF ∷ []) then drop 3 bytes else bytes
 
@@ -30,6 +30,6 @@ names_among [] = []
 names_among (line ∷ lines) = if is_name (without_cr line) then without_cr line ∷ names_among lines
     else names_among lines
 
--- the names in the bytes of a list
+-- the names of audio files in the bytes of a list file, line by line
 abbrev pub names_listed : List ℕ → List (List ℕ)
 names_listed bytes = names_among (lines (without_mark bytes))

@@ -32,18 +32,19 @@ count_at t [] = None
 count_at t (value x u ∷ ks) = count_at t ks
 count_at t (function d us ∷ ks) = cond (nat_eq (def_token d) t) (text_count us) (count_at t ks)
 
--- a use of this target has n kinds: a value has none, and a def or a builtin has its open ones
+-- A use of a name with this target has n kinds: a value has none, a def as many as its text has open ones, and a
+-- builtin as many as its signature has. `ks` has the defs that are known.
 abbrev pub HasCount : List Known → Target → ℕ → Type 0
 HasCount ks (target.Slot t) n = n ≡ 0
 HasCount ks (target.Def t) n = count_at t ks ≡ Some n
 HasCount ks (target.Builtin b) n = n ≡ (signature b).kinds
 
--- each use that was found has as many kinds as its target has open ones
+-- each use that was found outside of defs has as many kinds as its target has open ones, where the defs ks are known
 abbrev pub AreCounted : List Known → List Found → Type 0
 AreCounted ks [] = ⊤
 AreCounted ks (f ∷ fs) = HasCount ks f.target (length f.kinds) × AreCounted ks fs
 
--- each use in a text has as many kinds as its target has open ones
+-- each use in the text of a def has as many kinds as its target has open ones, where the defs ks are known
 abbrev pub IsTextCounted : List Known → List TextUse → Type 0
 IsTextCounted ks [] = ⊤
 IsTextCounted ks (u ∷ us) = HasCount ks u.target (length u.kinds) × IsTextCounted ks us

@@ -59,7 +59,7 @@ term_before t [] = None
 term_before t (value x u ∷ ks) = cond (nat_eq x t) (Some u) (term_before t ks)
 term_before t (function d us ∷ ks) = term_before t ks
 
--- the first of two terms, or the second where there is no first
+-- the first of two types of a name, or the second where there is no first: an inner binding hides an outer one
 abbrev pub or_else : Option Term → Option Term → Option Term
 or_else (Some u) o = Some u
 or_else None o = o
@@ -70,12 +70,13 @@ term_seen t env = or_else (term_at t env.inner) (term_before t env.before)
 
 -- ---- what is seen, under an assignment to the variables
 
--- a pending kind under an assignment: a kind, or the number of an open kind
+-- a kind of a use in the text of a def, once the variables have their values: a fixed kind, or still the number of an
+-- open kind of the def
 abbrev pub settled : Assignment → Pending → KindOf
 settled a (of_term k) = Fixed (kind_meaning a k)
 settled a (of_def j) = Given j
 
--- a use in a text under an assignment
+-- a use of a name in the text of a def, once the variables have their values by the assignment
 abbrev pub settled_use : Assignment → TextUse → Use
 settled_use a u = record { at = u.at; target = u.target; kinds = map (settled a) u.kinds }
 
@@ -85,7 +86,7 @@ entries_under a [] = []
 entries_under a (value t u ∷ ks) = entry.value t (meaning a u) ∷ entries_under a ks
 entries_under a (function d us ∷ ks) = entry.function d ∷ entries_under a ks
 
--- parameters and inner bindings under an assignment, by their tokens
+-- the types of parameters and inner bindings, each by the token of its name, once the variables have their values
 abbrev pub types_under : Assignment → List (ℕ × Term) → TypesByToken
 types_under a ts = map (λ x. (x.0, meaning a x.1)) ts
 
@@ -158,12 +159,12 @@ abbrev pub AreUsesOver : Table → List Found → Type 0
 AreUsesOver s [] = ⊤
 AreUsesOver s (f ∷ fs) = AreKindsOver s f.kinds × AreUsesOver s fs
 
--- a pending kind has only variables of the substitution
+-- a kind of a use in a def's text has only variables of the substitution; an open kind has none
 abbrev pub IsPendingOver : Table → Pending → Type 0
 IsPendingOver s (of_term k) = IsKindOver s k
 IsPendingOver s (of_def j) = ⊤
 
--- each pending kind has only variables of the substitution
+-- each of these kinds of a use in a def's text has only variables of the substitution
 abbrev pub ArePendingOver : Table → List Pending → Type 0
 ArePendingOver s [] = ⊤
 ArePendingOver s (k ∷ ks) = IsPendingOver s k × ArePendingOver s ks

@@ -26,6 +26,7 @@ IsInside s (Some n) = n < length s.types
 abbrev pub var_at : List Argument → ℕ → ℕ
 var_at gs i = get_or (map (λ g. g.var) gs) i 0
 
--- the arguments gs that are left in a table of their labels
+-- the arguments of a call that no parameter has taken yet, from the table of labels t: each with its label and type
+-- variable
 abbrev pub left_given : List Argument → Labels → List (GivenArgument ℕ)
 left_given gs t = map (on (var_at gs)) (left_of t)

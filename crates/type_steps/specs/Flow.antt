@@ -14,22 +14,26 @@ use Rattle.typing_rules.specs.Typing.{Has, EachHas, HaveAll, AreGiven, Applied}
 use Rattle.typing_rules.specs.Scripts.{Places}
 use Rattle.type_steps.specs.Environment.{Env, Found, AreFound, AreUsesOver, AreKindsOver, Takes, CallTakes, sight_under, texts_under}
 
--- a solution of s' that agrees with `a` on the variables of s, at which Q holds
+-- from a solution `a` of the substitution s, a solution of s' was reached: it agrees with `a` on the variables of s,
+-- and the condition Q holds at it
 pub record Reached (s s' : Table) (a : Assignment) (Q : Assignment → Type 0) : Type 0 where
   pub at : Assignment
   pub solves : Solves at s'
   pub agrees : Agrees s a at
   pub holds : Q at
 
--- at an assignment, the term u is the type g and the uses fs have their kinds at the places
+-- what inference found of an expression is right at assignment b: its term u means the type g, and the uses fs of
+-- names in it have the kinds that stand at the places
 abbrev pub FoundAs : Env → Places → Term → Ground → List Found → Assignment → Type 0
 FoundAs env kinds u g fs b = (meaning b u ≡ g) × AreFound env b kinds fs
 
--- at an assignment, the uses fs have their kinds at the places
+-- the uses fs of names that inference has found are right at assignment b: they have the kinds that stand at the
+-- places
 abbrev pub Uses : Env → Places → List Found → Assignment → Type 0
 Uses env kinds fs b = AreFound env b kinds fs
 
--- at an assignment, the terms us are the types gs and the uses fs have their kinds at the places
+-- what inference found of several expressions is right at assignment b: their terms us mean the types gs, and the uses
+-- fs of names in them have the kinds that stand at the places
 abbrev pub AllAs : Env → Places → Terms → Grounds → List Found → Assignment → Type 0
 AllAs env kinds us gs fs b = (meanings b us ≡ gs) × AreFound env b kinds fs
 
@@ -89,7 +93,8 @@ HaveNoTypes s env es old = (a : Assignment) → Solves a s → (kinds : Places) 
 abbrev pub given_under : Assignment → List (GivenArgument ℕ) → List (GivenArgument Ground)
 given_under a gs = map (λ g. (g.0, a.type_of g.1)) gs
 
--- at an assignment, the arguments gs have the types in hs and the uses fs have their kinds at the places
+-- what inference found of a call's arguments is right at assignment b: their variables, gs, mean the types in hs, and
+-- the uses fs of names in them have the kinds that stand at the places
 abbrev pub GivenAs : Env → Places → List (GivenArgument ℕ) → List (GivenArgument Ground) → List Found → Assignment
     → Type 0
 GivenAs env kinds gs hs fs b = (given_under b gs ≡ hs) × AreFound env b kinds fs
@@ -141,7 +146,7 @@ pub record Defines (s s' : Table) (n : ℕ) (t : Term) : Type 0 where
   pub sound : (a : Assignment) → Solves a s' → a.type_of n ≡ meaning a t
   pub complete : (a : Assignment) → Solves a s → (b : Assignment) × Solves b s' × Agrees s a b
 
--- P is asked for only if there are any more operands
+-- P, but only where n operands are left and n is not 0; nothing is asked where no operand is left
 abbrev pub IfMany : ℕ → Type 0 → Type 0
 IfMany zero P = ⊤
 IfMany (suc n) P = P

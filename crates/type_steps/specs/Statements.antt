@@ -23,7 +23,8 @@ pub data Done : Type 0 where
 
 -- ---- what is known behind statements, the newest first
 
--- what is known behind a statement that left this
+-- the bindings known behind a statement: what the statement left, if it binds a value or a def, before those known so
+-- far
 abbrev pub known_with : Done → List Known → List Known
 known_with (bound t u fs) ks = value t u ∷ ks
 known_with (defined d us) ks = function d us ∷ ks
@@ -58,11 +59,11 @@ founds_of (bound t u fs) = fs
 founds_of (defined d us) = []
 founds_of (ran fs) = fs
 
--- the token of a use that was found, with what it means
+-- a use that inference has found, as the scoping rules tell it: its token, and what the name there means
 abbrev pub found_said : Found → Meaning
 found_said f = (f.at, Some f.target)
 
--- the token of a use in a text, with what it means
+-- a use in the text of a def, as the scoping rules tell it: its token, and what the name there means
 abbrev pub text_said : TextUse → Meaning
 text_said u = (u.at, Some u.target)
 
@@ -112,7 +113,7 @@ pub record IsDefKnown (s : Table) (targets : Targets) (ks : List Known) (d : Tre
     pub typing : IsTypingOf s targets ks d general us
     pub numbered : text_count us ≡ Some (scheme_count general)
 
--- each def among these is known with a general type
+-- each def among the known bindings ks is known with a general type, where only the bindings before it are known
 abbrev pub AreDefsKnown : Table → Targets → List Known → Type 0
 AreDefsKnown s targets [] = ⊤
 AreDefsKnown s targets (value t u ∷ ks) = AreDefsKnown s targets ks
