@@ -23,8 +23,8 @@ pub struct Argument<'a> {
     pub var: u64,
 }
 
-/// Makes the arguments match parameters of these types, if they can; false if they cannot. Arguments that are taken may
-/// leave `given`.
+/// Makes the arguments of a call match its parameters, which have these types, if they can; false if they cannot.
+/// Arguments that were matched may leave `given`.
 pub fn fit(
     alloc: Global,
     subst: &mut Subst,
@@ -55,7 +55,8 @@ pub fn fit(
     Ok(given.is_empty())
 }
 
-/// Makes many arguments match parameters of these types, if they can, by a table of the arguments' labels.
+/// Makes the many arguments of a call match its parameters, which have these types, if they can, by a table of the
+/// labels of the arguments.
 fn fit_many(
     alloc: Global,
     subst: &mut Subst,
@@ -74,7 +75,8 @@ fn fit_many(
     fit_labelled(alloc, subst, params, types, given, &mut labels)
 }
 
-/// Makes the arguments that are left in the table `labels` match parameters of these types, if they can.
+/// Makes the arguments of a call that are left in the table `labels` match its parameters, which have these types, if
+/// they can; none may be left over.
 fn fit_labelled(
     alloc: Global,
     subst: &mut Subst,
