@@ -58,7 +58,7 @@ impl From<Memory> for LoadFault {
     }
 }
 
-/// The fault of a plan that needs the file of this name, which cannot be used.
+/// The fault of a plan that needs the file of this name, made from why the file cannot be used.
 pub fn fault_of(alloc: Global, name: &str, fault: Unusable) -> Result<LoadFault, Memory>
     ensures { IfOk result (λ told. told ≡ told_fault name.now fault) }
 {
