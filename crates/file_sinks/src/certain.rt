@@ -23,6 +23,7 @@ pub trait Lasting: Write {
 
 /// A file of the system tells nothing of itself to a proof, so of this body no clause says that it asks the system.
 impl Lasting for File {
+    // Asks the system to make certain on the disk what was written to the file.
     fn sync(&mut self) -> Result<(), ErrorKind> {
         match self.sync_all() {
             Ok(()) => Ok(()),
@@ -32,8 +33,8 @@ impl Lasting for File {
 }
 
 /// Has the system make certain on the disk what was written to a file, or the names of a folder (a sync); answers
-/// whether it is. Faults later than the writes are told here, as of a full share on the net. A pipe or device knows no
-/// sync, and told its faults by its writes.
+/// whether it is. Faults that come after the writes are told here. A pipe or device knows no sync, and told its faults
+/// by its writes.
 pub fn make_certain<F: Lasting>(file: &mut F) -> bool
     ensures bytes { Keeps (F.contents file.old) (F.contents file.new) }
     ensures synced { ForSome (F.answered file.new) (λ answer. IsTrue result ↔ MakesCertain answer) }

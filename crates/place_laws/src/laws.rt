@@ -9,8 +9,8 @@ pub fn lines_name_their_places()
     ensures { (fault : Fault) → NamesItsPlace fault }
 {}
 
-/// A law of `about`, which looks at a script without rendering it: what it tells agrees with what `liq` does, in the
-/// number of a fault of a WAV file, the rules of files, and the output that is refused.
+/// A law of `about`, the command that tells about a script: what it tells agrees with what `liq` does, in the number
+/// of a fault of a WAV file, the rules of files, and the output that is refused.
 pub fn both_say_one_thing()
     ensures numbers { NumbersAgree }
     ensures rules { RulesAgree }

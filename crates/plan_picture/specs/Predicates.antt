@@ -8,12 +8,13 @@ abbrev pub part_text : Option ℕ → (unit : List ℕ) → List ℕ
 part_text (Some n) unit = decimal n ++ unit
 part_text None unit = []
 
--- a time mark: its parts with their units
+-- a time mark, as a script writes it: those of its parts (day, hour, minute, second) that are written, with their
+-- units
 abbrev pub mark_text : TimeMark → List ℕ
 mark_text mark = (part_text mark.day (codes "w") ++ part_text mark.hour (codes "h"))
     ++ (part_text mark.minute (codes "m") ++ part_text mark.second (codes "s"))
 
--- an interval of the week, as `6h-22h`
+-- an interval of the week from one time mark to another, as a script writes it: `6h-22h`
 abbrev pub interval_text : TimeMark → TimeMark → List ℕ
 interval_text from to = mark_text from ++ (codes "-" ++ mark_text to)
 

@@ -15,7 +15,7 @@ abbrev pub choice_words : (sensitive : Bool) → List ℕ
 choice_words true = []
 choice_words false = codes "\\nbreaks into tracks"
 
--- a playlist says if it is played once
+-- what the box of a playlist says before its file: that it is played once, unless it is played again and again
 abbrev pub playlist_words : (again : Bool) → List ℕ
 playlist_words true = codes "playlist\\n"
 playlist_words false = codes "playlist (once)\\n"
@@ -25,7 +25,7 @@ playlist_words false = codes "playlist (once)\\n"
 abbrev pub blank_words : (track rate : ℕ) → List ℕ
 blank_words track rate = if nat_eq track 0 then codes "blank" else codes "blank\\ntracks of " ++ seconds track rate
 
--- an addition says if it is a sum, which is not normalized
+-- what the box of an `add` says: whether it is a plain sum, which is not normalized
 abbrev pub add_words : (normalize : Bool) → List ℕ
 add_words true = codes "add"
 add_words false = codes "add\\nsum"

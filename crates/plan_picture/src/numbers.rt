@@ -31,7 +31,7 @@ fn thousandths(samples: u64, rate: u32) -> u64
     samples % u64::from(rate) * 1000 / u64::from(rate)
 }
 
-// Appends a length in samples.
+// Appends a short length as a number of samples, with its unit.
 fn push_samples(into: &mut Vec<u8>, samples: u64) -> Result<(), Memory>
     ensures { OnOk result (into.new.items ≡ into.old.items ++ (decimal samples ++ samples_word samples)) }
 {

@@ -9,7 +9,8 @@ use Rattle.typing_rules.specs.Table.{signature}
 use Rattle.type_instances.specs.Schemes.{Scheme, open_numbers}
 use Rattle.type_steps.specs.Environment.{Found, Known, Pending, TextUse, function, of_def, of_term, value}
 
--- the number of an open kind in the text of a def, as a list; empty for a kind that is a term
+-- the number of an open kind in the text of a def (one that each call may choose), as a list; empty for a kind that is
+-- a term
 abbrev pub open_in : Pending → List ℕ
 open_in (of_term k) = []
 open_in (of_def j) = j ∷ []
@@ -18,15 +19,17 @@ open_in (of_def j) = j ∷ []
 abbrev pub opens_in : List TextUse → List ℕ
 opens_in us = flat_map (λ u. flat_map open_in u.kinds) us
 
--- how many open kinds a text has, if each new one has the next number; nothing if they are numbered otherwise
+-- how many open kinds the text of a def has, if each new one has the next number; nothing if they are numbered
+-- otherwise
 abbrev pub text_count : List TextUse → Option ℕ
 text_count us = numbered_on 0 (opens_in us)
 
--- how many open kinds a general type has
+-- how many open kinds (those that each call of a def may choose) a general type has
 abbrev pub scheme_count : Scheme → ℕ
 scheme_count g = length (open_numbers 0 g.kinds)
 
--- how many open kinds the newest def has whose name stands at token t
+-- how many open kinds the newest def has among the known bindings whose name stands at token t; none if there is no
+-- such def
 abbrev pub count_at : ℕ → List Known → Option ℕ
 count_at t [] = None
 count_at t (value x u ∷ ks) = count_at t ks

@@ -130,11 +130,12 @@ pub record Restricts (s s' : Table) (C : Assignment → Type 0) : Type 0 where
   pub sound : (a : Assignment) → Solves a s' → C a
   pub complete : (a : Assignment) → Solves a s → C a → (b : Assignment) × Solves b s' × Agrees s a b
 
--- the condition C holds at no solution of s
+-- the condition C on the values of type variables holds at no solution of the substitution s, so it cannot be met
 abbrev pub Never : Table → (Assignment → Type 0) → Type 0
 Never s C = (a : Assignment) → Solves a s → C a → ⊥
 
--- C was made to hold from s to s' if the answer is true; if it is false, C holds at no solution of s
+-- The answer of a step that makes the condition C hold: if it is true, C holds from s to s' and no solution at which C
+-- holds is lost; if it is false, C holds at no solution of s.
 abbrev pub IsMade : Bool → Table → Table → (Assignment → Type 0) → Type 0
 IsMade true s s' C = Restricts s s' C
 IsMade false s s' C = Never s C
@@ -153,7 +154,7 @@ IfMany (suc n) P = P
 
 -- ---- calls
 
--- each term has only variables of the substitution
+-- each of these types has only variables of the substitution s
 abbrev pub AreTermsOver : Table → List Term → Type 0
 AreTermsOver s [] = ⊤
 AreTermsOver s (t ∷ ts) = IsOver s t × AreTermsOver s ts
@@ -196,7 +197,7 @@ abbrev pub IsTypeOf : Table → Table → Env → {r : Sort} → Tree r → List
 IsTypeOf s s' env e old new None = HasNoType s env e old
 IsTypeOf s s' env e old new (Some n) = Infers s s' env e (variable n) old new
 
--- whether expressions were all made to have type variable n as their type
+-- by an answer: whether all these expressions were made to have type variable n as their type, or cannot all have it
 abbrev pub AreJoined : Table → Table → Env → {r : Sort} → Tree (Many r) → ℕ → List Found → List Found → Bool → Type 0
 AreJoined s s' env es n old new false = HaveNoType s env es (variable n) old
 AreJoined s s' env es n old new true = InfersEach s s' env es (variable n) old new
@@ -212,7 +213,7 @@ abbrev pub AreGivenOf : Table → Table → Env → Tree (Many AnArg) → List F
 AreGivenOf s s' env es old new None = HaveNoGiven s env es old
 AreGivenOf s s' env es old new (Some gs) = InfersGiven s s' env es gs old new
 
--- the number n if the answer is true, and otherwise nothing
+-- the number n of a type variable, as a step answers it that went well; nothing where it did not
 abbrev pub if_yes : Bool → ℕ → Option ℕ
 if_yes true n = Some n
 if_yes false n = None

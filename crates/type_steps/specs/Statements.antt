@@ -88,7 +88,7 @@ abbrev pub with_last : Script → Tree AStmt → Script
 with_last none s = more s none
 with_last (more q rest) s = more q (with_last rest s)
 
--- the scope behind a script that begins in the scope sc
+-- the scope behind a script that begins in the scope sc: sc with the names that its statements bind
 abbrev pub scope_after : Scope → Script → Scope
 scope_after sc none = sc
 scope_after sc (more s rest) = scope_after (with_statement s sc) rest
@@ -131,6 +131,6 @@ pub record AreTypings (s : Table) (targets : Targets) (script : Script) (xs : Li
   pub complete : (kinds : Places) (es : List Entry) → IsTypedTo targets kinds [] script es →
       (a : Assignment) × Solves a s × AreTaken a kinds [] xs × (entries_under a (known_of xs) ≡ es)
 
--- the script has no typing
+-- the script has no typing at all, whatever kinds stand at its places
 abbrev pub HasNoTypings : Targets → Script → Type 0
 HasNoTypings targets script = (kinds : Places) (es : List Entry) → IsTypedTo targets kinds [] script es → ⊥
