@@ -49,7 +49,7 @@ fn check(
     Ok(())
 }
 
-// Tests that where a track is shorter than twice the overlap, the overlaps still fit into the tracks.
+// Tests that where less than the whole overlap is left of a track, that overlap is only as long as what is left.
 #[test]
 fn overlaps_are_as_long_as_their_tracks(rt: HostRuntime) -> Result<(), Fail> {
     let mut slots = [slot(0, 2, false); 11];
@@ -79,7 +79,8 @@ fn overlaps_are_as_long_as_their_tracks(rt: HostRuntime) -> Result<(), Fail> {
     Ok(())
 }
 
-// Tests a crossfade with an overlap of one sample, where the track that comes is heard in it.
+// Tests that a crossfade with an overlap of one sample gives that one the title of the track that comes, and keeps all
+// other samples.
 #[test]
 fn an_overlap_of_one_keeps_every_other_sample(rt: HostRuntime) -> Result<(), Fail> {
     let slots = [

@@ -72,7 +72,7 @@ impl<W: Write + Drop> FileSink<W> {
         })
     }
 
-    /// How often a write to the file failed.
+    /// How often a write to the file failed, counted since the sink was made.
     pub fn faults(&self) -> u64
         ensures { result ≡ faults_of self.now }
     {

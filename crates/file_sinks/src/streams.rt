@@ -29,21 +29,21 @@ impl<W: Write + Drop> OutSink<W> {
         OutSink { to, faults: 0 }
     }
 
-    /// How often a write to the writer failed.
+    /// How often a write to the writer failed, counted since the sink was made.
     pub fn faults(&self) -> u64
         ensures { result ≡ self.now.faults }
     {
         self.faults
     }
 
-    /// The writer to which the pieces go.
+    /// The writer to which the pieces of the output go, to look at.
     pub fn writer(&self) -> &W
         ensures { result.now ≡ self.now.to }
     {
         &self.to
     }
 
-    /// Ends the sink and gives its writer back.
+    /// Ends the sink and gives its writer back; the count of failures is let go.
     pub fn into_writer(self) -> W
         ensures { result ≡ self.to }
     {
