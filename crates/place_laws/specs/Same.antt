@@ -19,12 +19,12 @@ NumbersAgree = (fault : WavFault) → told_number fault ≡ wav_number fault
 abbrev pub RulesAgree : Type 0
 RulesAgree = (plan : Plan) → rules_for plan sizes ≡ rules_of plan
 
--- the law that a picture marks a refused output where there is one: if it marks none, there is no line E25. `mark`
+-- The law that a picture marks a refused output where there is one: if it marks none, there is no line E25. `mark`
 -- says which sources always offer something.
 abbrev pub NoneIsNone : Type 0
 NoneIsNone = (plan : Plan) (mark : ℕ → Bool) → IsRefused plan mark None → first_name (refuses mark) plan.sinks ≡ None
 
--- the law that the output k which a picture marks as refused is the one whose name stands in the line E25. `mark` says
+-- The law that the output k which a picture marks as refused is the one whose name stands in the line E25. `mark` says
 -- which sources always offer something.
 abbrev pub OutputsAgree : Type 0
 OutputsAgree = (plan : Plan) (mark : ℕ → Bool) (k : ℕ) (sink : SinkPlan) → IsRefused plan mark (Some k)

@@ -14,7 +14,7 @@ use Rattle.plan_picture.specs.Regions.{regions_of}
 unfoldable pub beginning : List ℕ
 beginning = codes "digraph station {\nrankdir=LR; bgcolor=\"#ffffff\"; fontname=\"DejaVu Sans,Helvetica,sans-serif\"; fontsize=12; labeljust=l; nodesep=0.25; ranksep=0.5;\nnode [shape=box, style=\"filled,rounded\", fillcolor=\"#ffffff\", color=\"#3a4450\", fontname=\"DejaVu Sans,Helvetica,sans-serif\", fontsize=11, margin=\"0.12,0.06\", height=0.4];\nedge [color=\"#3a4450\", fontname=\"DejaVu Sans,Helvetica,sans-serif\", fontsize=9, arrowsize=0.7];\n"
 
--- of each source, whether it is to blame for the output that was refused, which may fall silent; empty where none was.
+-- Of each source, whether it is to blame for the output that was refused, which may fall silent; empty where none was.
 -- `mark` says which sources always offer something.
 abbrev pub reds : Plan → (mark : ℕ → Bool) → Option ℕ → List Bool
 reds plan mark None = []

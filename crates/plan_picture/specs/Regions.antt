@@ -93,7 +93,7 @@ sub_regions of nodes = numbered (λ k node. sub_region of (fades node.op) k) 0 n
 abbrev pub members : List NodeClock → List ℕ
 members of = numbered (λ k clock. within of clock (codes "n" ++ decimal k ++ codes ";")) 0 of
 
--- the graphviz text that puts the box of output k into the region of its source's clock; nothing for a feed, which has
+-- The graphviz text that puts the box of output k into the region of its source's clock; nothing for a feed, which has
 -- no box. `of` has the clock of each source.
 abbrev pub output_member : List NodeClock → (k : ℕ) → SinkPlan → List ℕ
 output_member of k (Output name node fallible wide) = within of (clock_of of node) (codes "s" ++ decimal k ++ codes ";")

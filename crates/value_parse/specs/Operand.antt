@@ -87,7 +87,7 @@ chosen at full w = both full (branches full) w >>= made (λ x. If at x.0 x.1.1.0
 abbrev pub as_plain : Read (Tree AnExpr) → Read (Tree AFull)
 as_plain read = read >>= made Plain
 
--- reads a value that does not begin with "-": an expression. `full` reads the values within it, `stamp` gives the
+-- Reads a value that does not begin with "-": an expression. `full` reads the values within it, `stamp` gives the
 -- index of a token, and where it is `loose`, a `(` may stand behind it.
 abbrev pub plain : Bool → (ℕ → ℕ) → Reader (Tree AFull) → Reader (Tree AFull)
 plain loose stamp full w = as_plain (expr loose stamp full w)
