@@ -63,9 +63,9 @@ pub record AreEngines {S : Type 0} (told : S
   pub in_order : (k : ℕ) (engine : ClockEngine S) → slice_get engines k ≡ Some engine → engine.parts.clock ≡ k
   pub over : (k : ℕ) (engine : ClockEngine S) → slice_get engines k ≡ Some engine → setting_of engine.parts ≡ setting
 
--- an engine has gone from `old` to `new` by `ticks` ticks, none of them with a fault, in a run that made these calls:
--- it has taken the answers of the buffers that it reads; each output holds its bytes of these ticks more, and its sink
--- got a piece for each of them; and it keeps its marks if it did before
+-- An engine has gone from `old` to `new` by `ticks` ticks without a fault, in a run that made these calls: it took the
+-- answers of its buffers, each output and its sink got the bytes and pieces of these ticks, and marks (where tracks
+-- begin) are kept if they were before.
 pub record HasRunTurns {S : Type 0} (told : S
     → SinkTold) (calls : List Call) (ticks : ℕ) (old new : ClockEngine S) : Type 0 where
   pub setting : setting_of new.parts ≡ setting_of old.parts
@@ -125,8 +125,8 @@ pub record IsWriteEnd {S : Type 0} (told : S
   pub end_is : end ≡ Write clock sink
   pub rose : RoseAt told place before.outs after.outs
 
--- The state of a run between two turns (a turn is one tick of one clock): the calls that were made and that the taps
--- got, how many ticks each engine has made, and the room of its sinks for those that are left of `total`.
+-- The state of a run between two turns (one tick of one clock each): the calls that were made and that the taps got,
+-- the ticks that each engine has made, and room in its sinks for those left of `total`.
 pub record AreGoing {S : Type 0} (told : S → SinkTold) (got : List Call → Type 0) (setting : Setting) (total : ℕ)
     (made : ℕ → ℕ) (turns : ℕ) (first now : List (ClockEngine S)) : Type 0 where
   pub calls : List Call

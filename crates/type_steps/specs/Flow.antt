@@ -89,7 +89,7 @@ abbrev pub HaveNoTypes : Table → Env → Tree (Many AFull) → List Found → 
 HaveNoTypes s env es old = (a : Assignment) → Solves a s → (kinds : Places) (gs : Grounds)
     → HaveAll (sight_under env a kinds) es gs → AreFound env a kinds old → ⊥
 
--- the arguments of a call by label, each with the type that its variable has under an assignment
+-- the arguments of a call by label, each with the type that its variable has under the assignment a
 abbrev pub given_under : Assignment → List (GivenArgument ℕ) → List (GivenArgument Ground)
 given_under a gs = map (λ g. (g.0, a.type_of g.1)) gs
 
@@ -99,7 +99,7 @@ abbrev pub GivenAs : Env → Places → List (GivenArgument ℕ) → List (Given
     → Type 0
 GivenAs env kinds gs hs fs b = (given_under b gs ≡ hs) × AreFound env b kinds fs
 
--- the type variable of each argument is one of the substitution
+-- the type variable of each argument of a call is one of the substitution s
 abbrev pub AreInside : Table → List (GivenArgument ℕ) → Type 0
 AreInside s [] = ⊤
 AreInside s (g ∷ gs) = (g.1 < length s.types) × AreInside s gs

@@ -39,13 +39,13 @@ known_after ks (x ∷ xs) = known_after (known_with x ks) xs
 abbrev pub known_of : List Done → List Known
 known_of xs = known_after [] xs
 
--- no def among these has its name at the token of the name of d
+-- the def d is new among the known bindings: no def of these has its name at the same token
 abbrev pub IsNewDef : List Known → Tree ADef → Type 0
 IsNewDef [] d = ⊤
 IsNewDef (value t u ∷ ks) d = IsNewDef ks d
 IsNewDef (function e us ∷ ks) d = (def_token e ≢ def_token d) × IsNewDef ks d
 
--- no two defs among these have their names at one token
+-- no two defs among the known bindings have their names at one token, so that a token names one def
 abbrev pub AreApart : List Known → Type 0
 AreApart [] = ⊤
 AreApart (value t u ∷ ks) = AreApart ks
@@ -53,7 +53,7 @@ AreApart (function d us ∷ ks) = IsNewDef ks d × AreApart ks
 
 -- ---- the uses of statements
 
--- the uses outside of defs that a statement has left
+-- the uses of names that a statement has left outside of defs; none where it is a def, whose uses stay in its text
 abbrev pub founds_of : Done → List Found
 founds_of (bound t u fs) = fs
 founds_of (defined d us) = []
@@ -83,7 +83,7 @@ uses_under a xs = flat_map (uses_in a) xs
 
 -- ---- scripts that go on
 
--- a script with one more statement at its end
+-- a script with the statement s added at its end
 abbrev pub with_last : Script → Tree AStmt → Script
 with_last none s = more s none
 with_last (more q rest) s = more q (with_last rest s)
@@ -95,7 +95,7 @@ scope_after sc (more s rest) = scope_after (with_statement s sc) rest
 
 -- ---- the typings of statements
 
--- the uses that statements left outside of defs have their kinds at the places, where ks is known before
+-- the uses that statements left outside of defs have their kinds at the places, where the bindings ks are known before
 abbrev pub AreTaken : Assignment → Places → List Known → List Done → Type 0
 AreTaken a kinds ks [] = ⊤
 AreTaken a kinds ks (x ∷ xs) = EachTakes (texts_under a ks) kinds a (founds_of x)
