@@ -9,8 +9,8 @@ use Rattle.typing_rules.specs.Table.{signature}
 use Rattle.type_instances.specs.Schemes.{Scheme, open_numbers}
 use Rattle.type_steps.specs.Environment.{Found, Known, Pending, TextUse, function, of_def, of_term, value}
 
--- the number of an open kind in the text of a def (one that each call may choose), as a list; empty for a kind that is
--- a term
+-- the number of an open kind in the text of a def, one that each call gives, as a list; empty for a kind that is a
+-- term
 abbrev pub open_in : Pending → List ℕ
 open_in (of_term k) = []
 open_in (of_def j) = j ∷ []
@@ -24,7 +24,8 @@ opens_in us = flat_map (λ u. flat_map open_in u.kinds) us
 abbrev pub text_count : List TextUse → Option ℕ
 text_count us = numbered_on 0 (opens_in us)
 
--- how many open kinds (those that each call of a def may choose) a general type has
+-- how many open kinds a general type of a def has: those that each call gives and that a use in the text of the def
+-- takes
 abbrev pub scheme_count : Scheme → ℕ
 scheme_count g = length (open_numbers 0 g.kinds)
 
