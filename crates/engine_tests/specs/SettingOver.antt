@@ -5,7 +5,8 @@ use Rattle.clock_infer.specs.declared.clock_map.ClockMap.{ClockMap}
 use Rattle.frame_core.specs.Library.{Sounds}
 use Rattle.stream_meaning.specs.Instants.{Setting}
 
--- a plan with its files and clocks, from second 0 on, without answers
+-- the setting in which a test renders: this plan with its files and clocks, from second 0 of the week on, where no
+-- buffer has answered anything yet
 abbrev pub setting_over : Plan → Sounds → ClockMap → Setting
 setting_over plan library clocks = record {
   plan = plan;

@@ -10,8 +10,8 @@ use std::sync::Wait;
 use std::test::Fail;
 use std::thread;
 
-// Puts a chunk whose sample is this number, and answers the sample of the chunk that comes back where the queue is
-// full.
+// Puts a chunk with this number as its sample into a buffer's queue, and answers the sample of the chunk that comes
+// back where the queue is full.
 fn put_one<R: Wait>(
     rt: &R,
     alloc: Global,
@@ -30,7 +30,7 @@ fn put_one<R: Wait>(
     }
 }
 
-// Takes a chunk, and answers its sample; nothing where the queue is empty.
+// Takes a chunk from a buffer's queue, and answers its sample; nothing where the queue is empty.
 fn take_one<R: Wait>(
     rt: &R,
     queue: &BufferQueue,
@@ -45,7 +45,8 @@ fn take_one<R: Wait>(
     }
 }
 
-// Closes a window. `puts` says of each put whether it was accepted, and `takes` of each take whether it got a chunk.
+// Closes a window of a buffer's queue and checks its log: `puts` says of each put whether it was accepted, and `takes`
+// of each take whether it got a chunk.
 fn close(
     rt: &impl Abort,
     alloc: Global,
@@ -66,7 +67,7 @@ fn close(
     Ok(())
 }
 
-// A queue of one chunk accepts one put of two, and gives one take of two.
+// Checks one window of a buffer's queue with room for one chunk: it accepts one put of two, and gives one take of two.
 fn check_window<R: Abort + Wait>(
     rt: &R,
     alloc: Global,
@@ -86,7 +87,7 @@ fn check_window<R: Abort + Wait>(
     close(rt, alloc, queue, put, take, &[true, false], &[true, false])
 }
 
-// A queue keeps what is put after a window for the next one.
+// Checks that a buffer's queue keeps what is put after one window for the takes of the next.
 fn check_next_window<R: Abort + Wait>(
     rt: &R,
     alloc: Global,
@@ -103,6 +104,7 @@ fn check_next_window<R: Abort + Wait>(
     Ok(())
 }
 
+// Tests the queue of a buffer on one thread, in two windows.
 #[test]
 fn one_call_after_another(rt: HostRuntime) -> Result<(), Fail> {
     let (mut queue, mut put, mut take) = BufferQueue::new(rt.alloc(), 1)?;
@@ -116,7 +118,7 @@ const CHUNKS: i16 = 1000;
 // How often each thread tries at most.
 const TRIES: u32 = 20_000_000;
 
-// Puts the chunks in order, and returns whether all were accepted.
+// One of two threads: puts the chunks into the queue in order, and answers whether all were accepted.
 fn put_all<R: Wait>(rt: &R, alloc: Global, queue: &BufferQueue, pass: &mut PutPass) -> bool
     requires { pass.old.queue ≡ queue.now }
 {
@@ -137,7 +139,7 @@ fn put_all<R: Wait>(rt: &R, alloc: Global, queue: &BufferQueue, pass: &mut PutPa
     false
 }
 
-// Takes the chunks, and returns whether all came, in order.
+// The other of two threads: takes the chunks from the queue, and answers whether all came, in order.
 fn take_all<R: Wait>(rt: &R, queue: &BufferQueue, pass: &mut TakePass) -> bool
     requires { pass.old.queue ≡ queue.now }
 {
@@ -156,6 +158,7 @@ fn take_all<R: Wait>(rt: &R, queue: &BufferQueue, pass: &mut TakePass) -> bool
     false
 }
 
+// Tests the queue of a buffer with a thread that puts and a thread that takes at once: all chunks come, in order.
 #[test]
 fn two_threads_at_once(rt: HostRuntime) -> Result<(), Fail> {
     let alloc = rt.alloc();

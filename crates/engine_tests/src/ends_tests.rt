@@ -9,7 +9,7 @@ use std::alloc::{AllocError, Global};
 use std::process::Abort;
 use std::test::Fail;
 
-// A plan of one buffer that holds one chunk.
+// A plan with one buffer, which holds one chunk, and nothing else.
 fn one_buffer(alloc: Global) -> Result<Plan, AllocError>
     ensures { IfOk result (λ plan. length plan.buffers ≡ 1) }
 {
@@ -26,7 +26,7 @@ fn one_buffer(alloc: Global) -> Result<Plan, AllocError>
     })
 }
 
-// Gives a chunk, and answers whether it was accepted.
+// Gives a chunk to buffer 0, and answers whether the buffer accepted it.
 fn give_one(alloc: Global, taps: &mut LocalTaps) -> Result<bool, Fail>
     requires { length taps.old ≡ 1 }
     ensures { length taps.new ≡ 1 }
@@ -39,7 +39,7 @@ fn give_one(alloc: Global, taps: &mut LocalTaps) -> Result<bool, Fail>
     }
 }
 
-// Takes a chunk, and answers whether there was one.
+// Takes a chunk from buffer 0, and answers whether there was one.
 fn take_one(taps: &mut LocalTaps) -> Result<bool, Memory>
     requires { length taps.old ≡ 1 }
     ensures { length taps.new ≡ 1 }
@@ -48,7 +48,8 @@ fn take_one(taps: &mut LocalTaps) -> Result<bool, Memory>
     Ok(chunk.is_some())
 }
 
-// A buffer of one chunk accepts one chunk of two, and gives one in two takes, in one window.
+// Checks that a buffer with room for one chunk accepts one of two, and answers one of two takes, in one window, and
+// counts all four.
 fn check(rt: &impl Abort, alloc: Global, taps: &mut LocalTaps) -> Result<(), Fail>
     requires { length taps.old ≡ 1 }
     ensures { length taps.new ≡ 1 }
@@ -66,7 +67,7 @@ fn check(rt: &impl Abort, alloc: Global, taps: &mut LocalTaps) -> Result<(), Fai
     Ok(())
 }
 
-// The taps of a plan of one buffer.
+// The taps, the ends of its buffers, of a plan of one buffer.
 fn one_tap(alloc: Global) -> Result<LocalTaps, Fail>
     ensures { IfOk result (λ taps. length taps ≡ 1) }
 {
@@ -75,6 +76,7 @@ fn one_tap(alloc: Global) -> Result<LocalTaps, Fail>
     Ok(taps)
 }
 
+// Tests a buffer that is a list with room for one chunk, and that it has a log.
 #[test]
 fn a_list_of_one_chunk(rt: HostRuntime) -> Result<(), Fail> {
     let mut taps = one_tap(rt.alloc())?;

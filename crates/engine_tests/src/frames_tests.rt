@@ -20,7 +20,7 @@ const SOFT: Cell = Cell {
     title: 1,
 };
 
-// Lays a cell, takes all back, and lays two of two titles.
+// Lays a cell (the sample of an instant) into a frame, takes all back, and lays two cells of two titles.
 fn fill(frame: &mut Frame)
     requires empty { frame.old.cells ≡ [] }
     requires room { frame.old.room ≡ 3 }
@@ -31,7 +31,7 @@ fn fill(frame: &mut Frame)
     frame.lay(&[SOFT.left], &[SOFT.right], false, SOFT.title);
 }
 
-// A chunk has the two cells, one of each title.
+// Checks that a chunk has the two cells that were laid, in order, and a run of each title.
 fn check_chunk(rt: &impl Abort, chunk: &Chunk) {
     assert_eq!(rt; chunk.len(), 2);
     assert_eq!(rt; chunk.cell(0), LOUD);
@@ -39,7 +39,7 @@ fn check_chunk(rt: &impl Abort, chunk: &Chunk) {
     assert_eq!(rt; chunk.runs().len(), 2);
 }
 
-// The chunk of a frame has the two cells.
+// Checks that the chunk made of a frame has the two cells that were laid into it.
 fn check(rt: &impl Abort, alloc: Global, frame: &Frame) -> Result<(), Memory> {
     match Chunk::from_frame(alloc, frame)? {
         Some(chunk) => check_chunk(rt, &chunk),
@@ -48,6 +48,7 @@ fn check(rt: &impl Abort, alloc: Global, frame: &Frame) -> Result<(), Memory> {
     Ok(())
 }
 
+// Tests that a frame (the cells of a tick) becomes a chunk of the same cells.
 #[test]
 fn a_chunk_is_the_cells_in_order(rt: HostRuntime) -> Result<(), Fail> {
     let mut frame = Frame::new(rt.alloc(), 3)?;

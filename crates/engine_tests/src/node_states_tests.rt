@@ -13,7 +13,7 @@ use std::alloc::{AllocError, Global};
 use std::process::Abort;
 use std::test::Fail;
 
-// A plan at 8000 samples a second.
+// An empty plan at 8000 samples a second, over which the state of a node is made.
 fn at_8000(alloc: Global) -> Plan
     ensures { result.rate ≡ 8000 }
 {
@@ -26,7 +26,7 @@ fn at_8000(alloc: Global) -> Plan
     }
 }
 
-// A leaf that is used offers this slot, and goes on.
+// Checks that a node without children offers this slot at an instant, and lets the node go on as one that is used.
 fn check(
     rt: &impl Abort,
     desk: &mut Desk,
@@ -45,7 +45,7 @@ fn check(
     state.next(part, true, library, 0);
 }
 
-// A zero, which begins a track or does not.
+// The slot of a silent sample, which begins a track or does not.
 fn zero(first: bool) -> Option<Cell> {
     Some(Cell {
         left: 0,
@@ -55,7 +55,7 @@ fn zero(first: bool) -> Option<Cell> {
     })
 }
 
-// A blank of two samples begins again behind them.
+// Checks that a blank with tracks of two samples begins its next track behind them.
 fn check_blank(
     rt: &impl Abort,
     alloc: Global,
@@ -74,6 +74,7 @@ fn check_blank(
     Ok(())
 }
 
+// Tests the state of a `blank` whose tracks have two samples.
 #[test]
 fn a_blank_of_two_samples(rt: HostRuntime) -> Result<(), Fail> {
     let alloc = rt.alloc();
@@ -89,7 +90,7 @@ fn a_blank_of_two_samples(rt: HostRuntime) -> Result<(), Fail> {
     Ok(())
 }
 
-// Feeds a sample to a crossfade, which wants one.
+// Feeds a sample of its source to a crossfade, and checks that it wanted one.
 fn give(rt: &impl Abort, state: &mut NodeState, library: &Library, left: i16, first: bool)
     requires { Fits library.now 1 state.old }
     ensures { Fits library.now 1 state.new }
@@ -100,7 +101,7 @@ fn give(rt: &impl Abort, state: &mut NodeState, library: &Library, left: i16, fi
     state.feed(next);
 }
 
-// A library without files, for two nodes.
+// A library without audio files, for a plan of two nodes.
 fn no_files(alloc: Global) -> Result<Library, AllocError>
     ensures library { IfOk result (λ library. IsLibrary library) }
     ensures leaves { IfOk result (λ library. length library.leaves ≡ 2) }
@@ -109,7 +110,7 @@ fn no_files(alloc: Global) -> Result<Library, AllocError>
     Ok(Library::new(Vec::new(alloc), Vec::new(alloc), leaves))
 }
 
-// A sample of a mono source.
+// The slot of this sample of a mono source, which begins a track or does not.
 fn sample(left: i16, first: bool) -> Option<Cell> {
     Some(Cell {
         left,
@@ -119,7 +120,8 @@ fn sample(left: i16, first: bool) -> Option<Cell> {
     })
 }
 
-// A crossfade over one sample offers the first of two samples, and the second once the next track has begun.
+// Checks that a crossfade with an overlap of one sample offers the first of two samples at once, and the second once
+// the next track has begun.
 fn check_crossfade(
     rt: &impl Abort,
     alloc: Global,
@@ -144,6 +146,7 @@ fn check_crossfade(
     Ok(())
 }
 
+// Tests the state of a `crossfade` whose overlap has one sample.
 #[test]
 fn a_crossfade_over_one_sample(rt: HostRuntime) -> Result<(), Fail> {
     let alloc = rt.alloc();

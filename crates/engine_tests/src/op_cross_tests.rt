@@ -8,7 +8,7 @@ use std::alloc::Global;
 use std::process::Abort;
 use std::test::Fail;
 
-// The slot of a sample of this title, which begins a track or does not.
+// The slot of this sample on both sides, with this title, which begins a track or does not.
 fn slot(sample: i16, title: u32, first: bool) -> Option<Cell> {
     Some(Cell {
         left: sample,
@@ -18,8 +18,8 @@ fn slot(sample: i16, title: u32, first: bool) -> Option<Cell> {
     })
 }
 
-// A crossfade over a source that gives these slots, again and again or once, gives items with these left samples and
-// titles, both 0 where one is empty.
+// Checks a crossfade: fed with these slots, again and again or once, it gives items with these left samples and
+// titles, both 0 where an item is empty.
 fn check(
     rt: &impl Abort,
     alloc: Global,
@@ -49,6 +49,7 @@ fn check(
     Ok(())
 }
 
+// Tests that where less than the whole overlap is left of a track, that overlap is only as long as what is left.
 #[test]
 fn overlaps_are_as_long_as_their_tracks(rt: HostRuntime) -> Result<(), Fail> {
     let mut slots = [slot(0, 2, false); 11];
@@ -78,6 +79,8 @@ fn overlaps_are_as_long_as_their_tracks(rt: HostRuntime) -> Result<(), Fail> {
     Ok(())
 }
 
+// Tests that a crossfade with an overlap of one sample gives that one the title of the track that comes, and keeps all
+// other samples.
 #[test]
 fn an_overlap_of_one_keeps_every_other_sample(rt: HostRuntime) -> Result<(), Fail> {
     let slots = [

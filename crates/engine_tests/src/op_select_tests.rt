@@ -8,8 +8,8 @@ const MINDS: Rule = Rule::First { sensitive: true };
 
 const FREE: Rule = Rule::First { sensitive: false };
 
-// What a child offers, with this title: with a positive sample a track begins, with a negative one it goes on, and 0 is
-// nothing.
+// What a child of a selection offers, with this title: with a positive sample a track begins, with a negative one it
+// goes on, and 0 is nothing.
 fn offered(left: i16, title: u32) -> Option<Cell> {
     if left == 0 {
         return None;
@@ -46,7 +46,7 @@ const ROWS: &[Row] = &[
     (Rule::Turns, Some(1), 4, 0, true, None),
 ];
 
-// Each row has its answer.
+// Checks that each row's selection uses the child that the row says, and gives its cell.
 fn check(rt: &impl Abort, rows: &[Row]) {
     for row in rows {
         let (rule, last, left, right, eligible, used) = *row;
@@ -60,6 +60,7 @@ fn check(rt: &impl Abort, rows: &[Row]) {
     }
 }
 
+// Tests which child a `fallback` and a `sequence` use at an instant, with the rows of the table.
 #[test]
 fn a_child_is_used_until_its_track_ends(rt: HostRuntime) {
     check(&rt, ROWS);

@@ -19,8 +19,8 @@ fn offered(left: i16) -> Option<Cell> {
     })
 }
 
-// At an instant this child is used, and its cell begins a track or does not. The state goes on by what the children
-// offered, or by what it offered.
+// Checks one instant of a `rotate` or `random`: this child is used, and its cell begins a track or does not. The state
+// goes on by what the children offered, or by what it offered.
 fn check_instant(
     rt: &impl Abort,
     state: &mut TurnState,
@@ -42,7 +42,8 @@ fn check_instant(
     }
 }
 
-// Each row: what the two children offer, the child that is used, and whether its cell begins a track.
+// Checks a `rotate` or `random` over some instants. Each row has what the two children offer, the child that is used,
+// and whether its cell begins a track.
 fn check(rt: &impl Abort, turn: Turn, rows: &[(i16, i16, u32, bool)]) {
     let mut state = TurnState::new(turn, 2);
     for (at, row) in rows.iter().enumerate() {
@@ -95,6 +96,7 @@ const RUNS: &[(Turn, Rows)] = &[
     ),
 ];
 
+// Tests which child a `rotate` and a `random` use at each instant, with the rows of the tables.
 #[test]
 fn a_rotate_and_a_random_play_a_track_each_time(rt: HostRuntime) {
     for (turn, rows) in RUNS {

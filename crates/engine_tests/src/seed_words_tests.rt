@@ -16,7 +16,7 @@ const WORDS: &[(u64, u32, u32, u32, u32)] = &[
     ),
 ];
 
-// Each seed has its words; a peek takes none.
+// Checks that each seed gives its first four random words, and that a peek at the next word takes none.
 fn check(rt: &impl Abort, rows: &[(u64, u32, u32, u32, u32)]) {
     for row in rows {
         let (seed, first, second, third, fourth) = *row;
@@ -29,6 +29,7 @@ fn check(rt: &impl Abort, rows: &[(u64, u32, u32, u32, u32)]) {
     }
 }
 
+// Tests the random words of seeds by the table.
 #[test]
 fn a_seed_has_its_words(rt: HostRuntime) {
     check(&rt, WORDS);

@@ -122,7 +122,7 @@ const TICKS: &[Ticks] = &[
     (8, DRAWN, 1, 4, Some(DRAWS)),
 ];
 
-// Each row has its segments, and its bytes, where they are told.
+// Checks that the ticks of each row's plan have as many segments as it says, and write its bytes, where they are told.
 fn check(rt: &impl Abort, alloc: Global, table: &[Ticks]) -> Result<(), Fail> {
     for row in table {
         let (frame, rows, ticks, segments, held) = *row;
@@ -136,6 +136,7 @@ fn check(rt: &impl Abort, alloc: Global, table: &[Ticks]) -> Result<(), Fail> {
     Ok(())
 }
 
+// Tests how many segments (parts that are rendered at once) the ticks of small plans have.
 #[test]
 fn ticks_have_their_segments(rt: HostRuntime) -> Result<(), Fail> {
     check(&rt, rt.alloc(), TICKS)

@@ -20,7 +20,7 @@ use std::alloc::{AllocError, Global};
 use std::process::Abort;
 use std::test::Fail;
 
-// A sink with ample room.
+// One sink in memory with ample room, for the one output of a test's plan.
 fn one_sink(alloc: Global) -> Result<Vec<MemSink>, Fail>
     ensures { IfOk result (λ outs. length outs.items ≡ 1) }
 {
@@ -28,7 +28,7 @@ fn one_sink(alloc: Global) -> Result<Vec<MemSink>, Fail>
     Ok(Vec::from_array(alloc, [out])?)
 }
 
-// The engine of the main clock 0, which writes this node alone, from the first second of the week on.
+// The engine of main clock 0 of a plan whose one output is this node, at the first second of the week.
 fn begun<'a>(
     alloc: Global,
     plan: &'a Plan,
@@ -52,7 +52,7 @@ fn begun<'a>(
     ClockEngine::new(alloc, plan, clocks, 0, library, outs, start)
 }
 
-// Makes a tick of an engine that runs.
+// Makes one tick of an engine that runs and has not stopped.
 fn tick(
     rt: &impl Abort,
     alloc: Global,
@@ -82,7 +82,7 @@ pub(crate) struct Want {
     pub(crate) held: Option<&'static [u8]>,
 }
 
-// So many ticks can be made, in so many segments.
+// Checks that an engine makes so many ticks without a fault, and in all of them so many segments.
 fn check_ticks(
     rt: &impl Abort,
     alloc: Global,
@@ -99,7 +99,7 @@ fn check_ticks(
     assert!(rt; engine.segments() == want.segments);
 }
 
-// The one sink holds these bytes, where they are told.
+// Checks that there is one sink and that it holds these bytes, where they are told.
 fn check_held(rt: &impl Abort, outs: &[MemSink], held: Option<&[u8]>) {
     assert_eq!(rt; outs.len(), 1);
     for out in outs {
@@ -109,7 +109,7 @@ fn check_held(rt: &impl Abort, outs: &[MemSink], held: Option<&[u8]>) {
     }
 }
 
-// Ticks of main clock 0, which writes this node, show what they should.
+// Checks that ticks of main clock 0, over this plan whose output is `node`, show what they should.
 fn check_clock(
     rt: &impl Abort,
     alloc: Global,
@@ -139,7 +139,8 @@ fn check_clock(
     }
 }
 
-// Ticks of a plan that writes this node, over the clocks that it has and this library, show what they should.
+// Checks that ticks of a plan whose output is `node`, with this library and the clocks that the plan has, show what
+// they should.
 fn check_library(
     rt: &impl Abort,
     alloc: Global,
@@ -159,7 +160,8 @@ fn check_library(
     check_clock(rt, alloc, plan, &clocks, node, library, &mut taps, want)
 }
 
-// Ticks of a plan that writes this node show what they should. Its first node plays the file.
+// Checks that ticks of a plan whose output is `node` show what they should. Its first node plays the file of three
+// samples.
 fn check_plan(
     rt: &impl Abort,
     alloc: Global,
@@ -176,12 +178,13 @@ fn check_plan(
     check_library(rt, alloc, plan, node, &library, want)
 }
 
-// The number of the last of these.
+// The number of the last node of a small plan with these nodes.
 fn last(rows: &[Row]) -> u32 {
     u32::try_from(rows.len().saturating_sub(1)).unwrap_or(0)
 }
 
-/// Ticks of `frame` instants show what they should. The plan has these nodes, and writes the last one.
+/// Checks that ticks of `frame` instants show what they should, over the plan that has these nodes and writes the last
+/// one.
 pub(crate) fn check_rows(
     rt: &impl Abort,
     alloc: Global,

@@ -54,14 +54,14 @@ pub(crate) enum Row {
     Reader(u32),
 }
 
-// A name without letters.
+// An empty text, for files whose name does not matter.
 fn no_name(alloc: Global) -> Text
     ensures { result ≡ [] }
 {
     Text::from_string(String::new(alloc))
 }
 
-// A switch with this predicate.
+// The operator of a switch with one case, which has this predicate.
 fn switch(alloc: Global, pred: Pred) -> Result<Op, AllocError> {
     let Ok(shared) = SharedPred::new(alloc, pred) else {
         return Err(AllocError);
@@ -73,7 +73,7 @@ fn switch(alloc: Global, pred: Pred) -> Result<Op, AllocError> {
     })
 }
 
-// The operator of a node.
+// The operator of a small plan's node, as a plan has it.
 fn op_of(alloc: Global, small: Small) -> Result<Op, AllocError> {
     Ok(match small {
         Small::Single => Op::Single(no_name(alloc)),
@@ -97,7 +97,8 @@ const ONE_CHUNK: BufferPlan = BufferPlan {
     capacity: 1,
 };
 
-// Adds a node, and answers its number; nothing where it may not stand there or memory is refused.
+// Adds a node of a small plan to the draft, and answers its number; nothing where it may not stand there or memory is
+// refused.
 fn push(alloc: Global, draft: &mut CheckedDraft, row: Row) -> Result<Option<u32>, AllocError> {
     match row {
         Row::Node(small, children) => {
@@ -108,7 +109,7 @@ fn push(alloc: Global, draft: &mut CheckedDraft, row: Row) -> Result<Option<u32>
     }
 }
 
-// Adds these nodes.
+// Adds the nodes of a small plan to the draft, in order; a node that may not stand there fails the test.
 fn push_all(alloc: Global, draft: &mut CheckedDraft, rows: &[Row]) -> Result<(), Fail> {
     for row in rows {
         if push(alloc, draft, *row)?.is_none() {
@@ -138,7 +139,8 @@ pub(crate) fn plan_of(
     }
 }
 
-/// The file, which the first of so many nodes plays, at most five.
+/// The library of a small plan with so many nodes, at most five: one file with three samples, which the first node
+/// plays.
 pub(crate) fn one_of(alloc: Global, count: usize) -> Result<Library, AllocError>
     requires some { 1 ≤ count }
     requires few { count ≤ 5 }
@@ -161,7 +163,7 @@ pub(crate) fn one_of(alloc: Global, count: usize) -> Result<Library, AllocError>
     Ok(Library::new(files, names, leaves))
 }
 
-// Whether this is the main clock of this number.
+// Whether a node's clock is the main clock of this number.
 fn is_main(clock: NodeClock, number: u32) -> bool
     ensures { result ≡ true → clock ≡ NodeClock.Main number }
 {

@@ -3,22 +3,24 @@ use Rattle.std.specs.Prelude.{◌≡◌, ◌≤◌, ℕ, List, ◌++◌, length,
 use Rattle.std.specs.Option.{ForSome}
 use Rattle.std.specs.Io.KnownBytes.{Consumes}
 
--- the list kept what it held, and more came behind it
+-- a read added bytes to a list: the list kept what it held, and more came behind it
 pub record Extends (before after : List ℕ) : Type 0 where
   pub more : List ℕ
   pub after_is : after ≡ before ++ more
 
--- the list got the first bytes that the reader had left, and these are left now
+-- A read added bytes to a list: it got the first bytes that the reader had left (`had`), and the others are left now
+-- (`has`), where these are known.
 pub record Reads (had has : Option (List ℕ)) (before after : List ℕ) : Type 0 where
   pub more : List ℕ
   pub after_is : after ≡ before ++ more
   pub consumed : Consumes had has more
 
--- the list got all that the reader had left, where that is known
+-- a read added to the list `before` all bytes that the reader had left (`had`), where those are known
 abbrev pub ReadsWhole : Option (List ℕ) → List ℕ → List ℕ → Type 0
 ReadsWhole had before after = ForSome had (λ bytes. after ≡ before ++ bytes)
 
--- the list got as many first bytes of all that the reader had left, where that is known, and so many there were
+-- A read added to the list `before` the first `count` bytes that the reader had left (`had`), which were at least so
+-- many, where those are known.
 abbrev pub ReadsFront : (count : ℕ) → Option (List ℕ) → List ℕ → List ℕ → Type 0
 ReadsFront count had before after =
     ForSome had (λ bytes. (count ≤ length bytes) × (after ≡ before ++ take count bytes))

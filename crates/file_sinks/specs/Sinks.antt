@@ -5,42 +5,43 @@ use Rattle.file_sinks.specs.declared.certain.Certain.{Certain}
 use Rattle.file_sinks.specs.declared.outputs.FileSink.{FileSink}
 use Rattle.file_sinks.specs.declared.outputs.Place.{Place}
 
--- how often it failed
+-- how often a write to the sink of a file failed
 abbrev pub faults_of : {W : Type 0} → FileSink W → ℕ
 faults_of sink = sink.to.faults
 
--- how many bytes it took
+-- how many bytes the sink of a file took so far
 abbrev pub taken_of : {W : Type 0} → FileSink W → ℕ
 taken_of sink = sink.taken
 
--- how many it is to take
+-- how many bytes the sink of a file is to take in all, as its creation was told
 abbrev pub room_of : {W : Type 0} → FileSink W → ℕ
 room_of sink = sink.room
 
--- the bytes that it keeps
+-- the bytes that the sink of a file holds in memory and has not handed on to its writer yet
 abbrev pub kept_of : {W : Type 0} → FileSink W → List ℕ
 kept_of sink = writer_buffer sink.to.to
 
--- the bytes that its writer got and then those that it keeps, where the first are known
+-- all bytes that the sink of a file took: those that its writer got and then those that it still keeps, where
+-- `contents` tells what the writer got
 abbrev pub tells_of : {W : Type 0} → (W → Option (List ℕ)) → FileSink W → Option (List ℕ)
 tells_of contents sink = writer_contents contents sink.to.to
 
--- its writer
+-- the writer to which the sink of a file hands on its bytes, as an open file of the system
 abbrev pub writer_of : {W : Type 0} → FileSink W → W
 writer_of sink = writer_inner sink.to.to
 
--- how many bytes it may keep
+-- how many bytes the sink of a file may keep in memory before it hands them on
 abbrev pub capacity_of : {W : Type 0} → FileSink W → ℕ
 capacity_of sink = writer_capacity sink.to.to
 
--- where its bytes stand until it is closed
+-- under which name the bytes of a file that is written stand until it is closed: its own, or a temporary one
 abbrev pub place_of : {W : Type 0} → FileSink W → Place
 place_of sink = sink.place
 
--- the writer of a sink whose bytes are certain, and where they stand
+-- the writer of a file that was written whole, all of whose bytes the system has made certain (synced to the disk)
 abbrev pub certain_writer : {W : Type 0} → Certain W → W
 certain_writer certain = certain.writer
 
--- where the bytes stand that are certain
+-- under which name the bytes of a file stand that was written whole and made certain: its own, or a temporary one
 abbrev pub certain_place : {W : Type 0} → Certain W → Place
 certain_place certain = certain.place

@@ -4,14 +4,15 @@ use Rattle.std.specs.declared.result.Result.{Result}
 use Rattle.std.specs.declared.io.ErrorKind.{ErrorKind}
 use Rattle.std.specs.declared.io.ErrorKind.TheVariants.{InvalidInput, Unsupported}
 
--- it went well, or was refused
+-- what the system answers where it is asked to make written bytes certain on the disk (a sync): it went well, or why
+-- not
 abbrev pub SyncAnswer : Type 0
 SyncAnswer = Result (Unit {0}) ErrorKind
 
--- the system knows no sync for what is open, which then told its faults by its writes
+-- this refusal of a sync says that there is none for what is open, as a pipe, which told its faults by its writes
 abbrev pub SaysNoSync : ErrorKind → Type 0
 SaysNoSync kind = (kind ≡ InvalidInput) ⊎ (kind ≡ Unsupported)
 
--- what was written is certain, as far as the system knows a way
+-- after this answer to a sync the written bytes are certain: it went well, or what is open knows no sync
 abbrev pub MakesCertain : SyncAnswer → Type 0
 MakesCertain answer = IfErr answer SaysNoSync

@@ -23,6 +23,7 @@ pub trait Lasting: Write {
 
 /// A file of the system tells nothing of itself to a proof, so of this body no clause says that it asks the system.
 impl Lasting for File {
+    // Asks the system to make certain on the disk what was written to the file.
     fn sync(&mut self) -> Result<(), ErrorKind> {
         match self.sync_all() {
             Ok(()) => Ok(()),
@@ -31,9 +32,9 @@ impl Lasting for File {
     }
 }
 
-/// Has the system make certain what was written to a file, or the names of a folder. Faults that came later than the
-/// writes are told here, as of a disk on the net whose share is used up. What knows no such call, as a pipe or a
-/// device, has told its faults by its writes.
+/// Has the system make certain on the disk what was written to a file, or the names of a folder (a sync); answers
+/// whether it is. Faults that come after the writes are told here. A pipe or device knows no sync, and told its faults
+/// by its writes.
 pub fn make_certain<F: Lasting>(file: &mut F) -> bool
     ensures bytes { Keeps (F.contents file.old) (F.contents file.new) }
     ensures synced { ForSome (F.answered file.new) (λ answer. IsTrue result ↔ MakesCertain answer) }
@@ -44,7 +45,7 @@ pub fn make_certain<F: Lasting>(file: &mut F) -> bool
     }
 }
 
-// Whether a refusal says that there is no such call for what is open.
+// Whether a refused sync says that there is no such call for what is open, as for a pipe, rather than that it failed.
 fn is_syncless(kind: ErrorKind) -> bool
     ensures { IsTrue result ↔ SaysNoSync kind }
 {
@@ -60,7 +61,7 @@ pub struct Certain<W: Lasting + Drop> {
 }
 
 impl<W: Lasting + Drop> Certain<W> {
-    /// Where its bytes stand.
+    /// Under which name its bytes stand until the file takes its place: its own, or a temporary one.
     pub fn place(&self) -> Place
         ensures { result ≡ certain_place self.now }
     {

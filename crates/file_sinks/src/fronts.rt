@@ -9,8 +9,8 @@ use liq_base::{Fetched, Looked, ShelfFault};
 use std::alloc::Global;
 use std::io::{ErrorKind, Read};
 
-/// Looks at a file of `size` bytes, which are more than `front`: adds so many of its first, if it has at most `most`.
-/// Where it turns out to be shorter, it is `Failed`. Those bytes are the first that its reader has left.
+/// Looks at an open file of `size` bytes, more than `front`: adds its first `front` bytes to `into`, if it has at most
+/// `most`. Where it turns out to be shorter, it is `Failed`.
 pub fn look_at_front<R: Read>(
     file: &mut R,
     into: &mut Vec<u8>,
@@ -37,7 +37,8 @@ pub fn look_at_front<R: Read>(
     }
 }
 
-/// Looks at a file by all bytes that its reader has left: adds them, if they are at most `most`.
+/// Looks at an open file by reading it whole: adds all bytes that its reader has left, if they are at most `most`, and
+/// answers how many they are.
 pub fn look_at_whole<R: Read>(
     file: &mut R,
     into: &mut Vec<u8>,
@@ -62,8 +63,8 @@ pub fn look_at_whole<R: Read>(
     }
 }
 
-/// Adds so many bytes that a reader has left, and answers whether it has as many. A read that was interrupted is made
-/// again, and any other failure is `Failed`.
+/// Reads the next `front` bytes of a reader into `into`, and answers whether it had as many. A read that was
+/// interrupted is made again, and any other failure is `Failed`.
 fn read_front<R: Read>(file: &mut R, into: &mut Vec<u8>, front: u64) -> Result<bool, ShelfFault>
     ensures extends { Extends into.old.items into.new.items }
     ensures exact { result ≡ Ok true → vec_len into.new ≡ vec_len into.old + front }

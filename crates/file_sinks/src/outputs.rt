@@ -45,7 +45,8 @@ pub enum Place {
 }
 
 impl<W: Write + Drop> FileSink<W> {
-    /// A sink that is to get `room` bytes, and keeps at most `kept` of them. An error is want of memory.
+    /// The sink of a file that writes to `to`: it is to get `room` bytes, and keeps at most `kept` of them in memory.
+    /// An error is want of memory.
     pub fn new(
         alloc: Global,
         to: W,
@@ -71,21 +72,22 @@ impl<W: Write + Drop> FileSink<W> {
         })
     }
 
-    /// How often it failed.
+    /// How often a write to the file failed, counted since the sink was made.
     pub fn faults(&self) -> u64
         ensures { result ≡ faults_of self.now }
     {
         self.to.faults()
     }
 
-    /// Where its bytes stand.
+    /// Under which name the bytes stand until the file is closed: its own, or a temporary one.
     pub fn place(&self) -> Place
         ensures { result ≡ place_of self.now }
     {
         self.place
     }
 
-    // Whether no piece failed, it got exactly the bytes that it is to get, and all of them were handed on.
+    // Whether the file is written whole: no piece failed, it got exactly the bytes that it is to get, and all were
+    // handed on.
     pub(crate) fn is_whole(&self) -> bool
         ensures { IsTrue result ↔ (faults_of self.now ≡ 0) × (taken_of self.now ≡ room_of self.now)
             × (kept_of self.now ≡ []) }
@@ -93,7 +95,7 @@ impl<W: Write + Drop> FileSink<W> {
         self.to.faults() == 0 && self.taken == self.room && self.to.keeps_nothing()
     }
 
-    /// Hands on what is kept. After `Failed` the writer got a front of it.
+    /// Hands on to the writer what is kept in memory. After `Failed` the writer got a first part of it.
     pub fn hand_on(&mut self) -> Result<(), Failed>
         ensures bytes { Keeps (tells_of W.contents self.old) (tells_of W.contents self.new) }
         ensures none_kept { OnOk result (kept_of self.new ≡ []) }
@@ -107,7 +109,7 @@ impl<W: Write + Drop> FileSink<W> {
         self.to.hand_on()
     }
 
-    // The writer, and where its bytes stand; what is kept is let go.
+    // Ends the sink: the writer, and under which name its bytes stand; what is still kept in memory is let go.
     pub(crate) fn into_writer(self) -> (W, Place)
         ensures writer { result.0 ≡ writer_of self }
         ensures place { result.1 ≡ place_of self }
@@ -123,7 +125,8 @@ impl<W: Write + Drop> FileSink<W> {
 }
 
 impl<W: Lasting + Drop> FileSink<W> {
-    // Has the system make certain what the writer got; what is kept is not among it.
+    // Has the system make certain on the disk (a sync) what the writer got, and answers whether it is; what is still
+    // kept in memory is not among it.
     pub(crate) fn make_certain(&mut self) -> bool
         ensures bytes { Keeps (tells_of W.contents self.old) (tells_of W.contents self.new) }
         ensures place { place_of self.new ≡ place_of self.old }

@@ -10,8 +10,9 @@ use std::io::{ErrorKind, Read};
 /// Bytes that one read asks for: they are cleared for each file, and a short file is not to wait for that.
 pub(crate) const CHUNK: usize = 16_384;
 
-/// Adds the bytes that a reader has left, if they are at most `most`. A read that gives nothing is the end, and one
-/// that was interrupted is made again. Any other failure of the reader is `Failed`; it is never taken for the end.
+/// Reads all that a reader (an open file) has left and adds it to `into`, if it is at most `most` bytes. A read that
+/// gives nothing is the end, and one that was interrupted is made again. Any other failure is `Failed`, never taken
+/// for the end.
 pub fn read_rest<R: Read>(
     file: &mut R,
     into: &mut Vec<u8>,
@@ -43,7 +44,8 @@ pub fn read_rest<R: Read>(
     Err(ShelfFault::Failed)
 }
 
-/// What a failed opening says of a file: it is missing only where the system did not find it.
+/// What the error of a failed opening says of a file: it is missing only where the system did not find it, and else a
+/// failure.
 pub fn unopened(kind: ErrorKind) -> Result<Fetched, ShelfFault>
     ensures missing { result ≡ Ok Fetched.Missing ↔ kind ≡ ErrorKind.NotFound }
     ensures failed { (result ≡ Ok Fetched.Missing) ⊎ (result ≡ Err ShelfFault.Failed) }

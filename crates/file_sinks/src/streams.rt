@@ -21,7 +21,7 @@ pub struct OutSink<W: Write + Drop> {
 }
 
 impl<W: Write + Drop> OutSink<W> {
-    /// The sink of a writer, without a failure so far.
+    /// The sink of a writer, with no failure counted so far.
     pub fn new(to: W) -> OutSink<W>
         ensures faults { result.faults ≡ 0 }
         ensures same { result.to ≡ to }
@@ -29,21 +29,21 @@ impl<W: Write + Drop> OutSink<W> {
         OutSink { to, faults: 0 }
     }
 
-    /// How often it failed.
+    /// How often a write to the writer failed, counted since the sink was made.
     pub fn faults(&self) -> u64
         ensures { result ≡ self.now.faults }
     {
         self.faults
     }
 
-    /// The writer.
+    /// The writer to which the pieces of the output go, to look at.
     pub fn writer(&self) -> &W
         ensures { result.now ≡ self.now.to }
     {
         &self.to
     }
 
-    /// The writer, and no longer a sink.
+    /// Ends the sink and gives its writer back; the count of failures is let go.
     pub fn into_writer(self) -> W
         ensures { result ≡ self.to }
     {
@@ -52,14 +52,14 @@ impl<W: Write + Drop> OutSink<W> {
 }
 
 impl<W: Write + Drop> OutSink<BufWriter<W>> {
-    /// Whether the writer keeps nothing that it has not handed on.
+    /// Whether the buffered writer has handed on all its bytes, so that it keeps none in memory.
     pub(crate) fn keeps_nothing(&self) -> bool
         ensures { IsTrue result ↔ writer_buffer self.now.to ≡ [] }
     {
         self.to.buffer().is_empty()
     }
 
-    /// Hands on what the writer keeps. After `Failed` a front of it was handed on.
+    /// Hands on what the buffered writer keeps in memory. After `Failed` a first part of it was handed on.
     pub(crate) fn hand_on(&mut self) -> Result<(), Failed>
         ensures bytes { Keeps (writer_contents W.contents self.old.to) (writer_contents W.contents self.new.to) }
         ensures none_kept { OnOk result (writer_buffer self.new.to ≡ []) }
@@ -76,7 +76,8 @@ impl<W: Write + Drop> OutSink<BufWriter<W>> {
 }
 
 impl<W: Lasting + Drop> OutSink<BufWriter<W>> {
-    // Has the system make certain what the writer got; what is kept is not among it.
+    // Has the system make certain on the disk (a sync) what the writer got, and answers whether it is; what is still
+    // kept in memory is not among it.
     pub(crate) fn make_certain(&mut self) -> bool
         ensures bytes { Keeps (writer_contents W.contents self.old.to) (writer_contents W.contents self.new.to) }
         ensures kept { writer_buffer self.new.to ≡ writer_buffer self.old.to }
@@ -109,8 +110,8 @@ impl<W: Write + Drop> Sink for OutSink<W> {
     }
 }
 
-// Whether all of the piece was written. A write that takes nothing is a failure, one that was interrupted is made
-// again.
+// Writes the whole piece, and answers whether that went well. A write that takes nothing is a failure, one that was
+// interrupted is made again.
 fn write_whole<W: Write>(to: &mut W, piece: &[u8]) -> bool
     ensures whole { IsTrue result → Appends (W.contents to.old) (W.contents to.new) piece.now }
     ensures part { AppendsPart (W.contents to.old) (W.contents to.new) piece.now }

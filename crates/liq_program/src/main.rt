@@ -9,6 +9,8 @@ use step_gate::StepGate;
 /// The status of a call whose words could not be held.
 const NO_MEMORY: u8 = 5;
 
+// Runs `liq` on the words of the command line, over real files and the standard streams, and exits with the status of
+// the call.
 fn main(rt: HostRuntime) -> ExitCode {
     let alloc = rt.alloc();
     let Some(words) = words(&rt) else {

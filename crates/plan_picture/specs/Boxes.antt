@@ -9,21 +9,22 @@ use Rattle.plan_blames.specs.Texts.{escaped, numbered}
 use Rattle.plan_picture.specs.Sources.{words}
 use Rattle.plan_blames.specs.Blames.{node_red, red_words}
 
--- a source that may offer nothing has a dashed border
+-- the graphviz attribute for the border of a source's box: dashed where the source may offer nothing, and else as
+-- usual
 abbrev pub border : (infallible : Bool) → List ℕ
 border true = []
 border false = codes ", style=\"filled,rounded,dashed\""
 
--- how a box is drawn in red
+-- the graphviz attributes that draw a box in red, where it is to blame for a fault; none else
 abbrev pub red_style : (red : Bool) → List ℕ
 red_style true = codes ", color=\"#b3261e\", penwidth=2.2, fontcolor=\"#b3261e\""
 red_style false = []
 
--- the end of the box of a source, after its label: how it is drawn
+-- the end of the graphviz text of a source's box, after its label: its border, and whether it is red
 abbrev pub box_end : (infallible red : Bool) → List ℕ
 box_end infallible red = codes "\"" ++ (border infallible ++ (red_style red ++ codes "];\n"))
 
--- the front of the box of source k, up to its label
+-- the beginning of the graphviz text of the box of source k, up to its label, which begins with the number
 abbrev pub box_front : (k : ℕ) → List ℕ
 box_front k = (codes "n" ++ decimal k) ++ (codes " [label=\"" ++ decimal k ++ codes "  ")
 
@@ -44,7 +45,8 @@ abbrev pub node_boxes : Plan → List Node → (mark : ℕ → Bool) → (silent
 node_boxes plan nodes mark silent reds clocks = numbered
     (λ k node. node_box plan silent clocks k node (mark k) (node_red silent reds clocks k node.op)) 0 nodes
 
--- how the sheet of an output is drawn: with a dashed border, if its source may offer nothing
+-- the graphviz attributes of an output's box, which is drawn as a sheet of paper: dashed, if its source may offer
+-- nothing
 abbrev pub sheet : (infallible : Bool) → List ℕ
 sheet true = codes " [shape=note, margin=\"0.16,0.08\", style=\"filled\""
 sheet false = codes " [shape=note, margin=\"0.16,0.08\", style=\"filled,dashed\""
@@ -63,12 +65,12 @@ silence_words false = []
 abbrev pub output_label : (name : List ℕ) → (fallible red : Bool) → List ℕ
 output_label name fallible red = escaped name ++ (fallible_words fallible ++ silence_words red)
 
--- the front of the sheet of output k, up to its label
+-- the beginning of the graphviz text of the box of output k, up to its label
 abbrev pub output_front : (k : ℕ) → (infallible red : Bool) → List ℕ
 output_front k infallible red = (codes "s" ++ decimal k) ++ (sheet infallible ++ red_style red)
 
--- the sheet of output k: `fallible` is what the script says of it, `infallible` whether its source always offers
--- something, and `red` whether the output was refused
+-- the graphviz text of the box of output k: `fallible` is what the script says of it, `infallible` whether its source
+-- always offers something, and `red` whether the output was refused
 abbrev pub output_box : (k : ℕ) → (name : List ℕ) → (fallible infallible red : Bool) → List ℕ
 output_box k name fallible infallible red = output_front k infallible red
     ++ (codes ", label=\"" ++ (output_label name fallible red ++ codes "\"];\n"))

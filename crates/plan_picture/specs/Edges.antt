@@ -18,7 +18,8 @@ use Rattle.plan_picture.specs.Predicates.{pred_text, shown}
 use Rattle.plan_blames.specs.Blames.{edge_red}
 use Rattle.plan_picture.specs.Boxes.{is_refused, output_box}
 
--- the predicate of the case at this place, as an edge shows it
+-- the predicate at this place among those of a switch, as an edge shows it (cut where it is long); no text past the
+-- last
 abbrev pub pred_at : List Predicate → (place : ℕ) → List ℕ
 pred_at preds place = option_map_or (λ pred. shown (pred_text false pred)) (slice_get preds place) []
 
@@ -34,16 +35,17 @@ edge_label (Switch sensitive preds) count place = codes "label=\" " ++ (pred_at 
 edge_label (Add normalize) count place = []
 edge_label _ count place = place_label (nat_lt 1 count) place
 
--- how an edge is drawn in red
+-- the graphviz attributes that draw an edge in red, where it is to blame for a fault; none else
 abbrev pub edge_style : (red : Bool) → List ℕ
 edge_style true = codes " color=\"#b3261e\" penwidth=2"
 edge_style false = []
 
--- the front of an edge: from which source to which it goes
+-- the beginning of an edge's graphviz text: from the box of which source it goes to the box of which
 abbrev pub edge_ends : (from to : ℕ) → List ℕ
 edge_ends from to = (codes "n" ++ decimal from) ++ (codes " -> n" ++ decimal to)
 
--- the edge from the child at this place of source k, which has `count` children
+-- the graphviz text of the edge to source k, whose operator is `op`, from the child at this place among its `count`
+-- children
 abbrev pub child_edge : Op → (count k child place : ℕ) → (red : Bool) → List ℕ
 child_edge op count k child place red = edge_ends child k
     ++ (codes " [" ++ (edge_label op count place ++ (edge_style red ++ codes "];\n")))
@@ -61,32 +63,35 @@ abbrev pub node_edges : List Node → (silent : Bool) → (reds : List Bool) →
 node_edges nodes silent reds clocks = numbered (λ k node. child_edges silent reds clocks k node.op node.children) 0
     nodes
 
--- the edge from a source to output k
+-- the graphviz text of the edge from source `node` to output k, red where the output was refused
 abbrev pub output_edge : (k node : ℕ) → (red : Bool) → List ℕ
 output_edge k node red = (codes "n" ++ decimal node)
     ++ ((codes " -> s" ++ decimal k) ++ (codes " [" ++ (edge_style red ++ codes "];\n")))
 
--- whether a source of this operator reads this buffer
+-- whether a source of this operator plays what the buffer of this number holds
 abbrev pub reads : Op → (buffer : ℕ) → Bool
 reads op buffer = option_map_or (λ read. nat_eq read buffer) (buffer_read op) false
 
--- how much a buffer holds at most: how many chunks, and for how long
+-- how much a buffer of this size holds at most, as the label of its edge says it: how many chunks, and for how long
 abbrev pub capacity : Plan → BufferPlan → List ℕ
 capacity plan size = (codes "  at most " ++ decimal size.capacity)
     ++ (codes " chunks, " ++ (seconds (size.capacity * plan.frame) plan.rate ++ codes "  "))
 
--- the label of the edge through a buffer
+-- the label of the edge through a buffer of the plan: how much it holds at most; no text if the plan has no such
+-- buffer
 abbrev pub buffer_label : Plan → (buffer : ℕ) → List ℕ
 buffer_label plan buffer = option_map_or (capacity plan) (slice_get plan.buffers buffer) []
 
--- the thick edge through a buffer, from the feed's source to source k, if that is its reader
+-- The graphviz text of the thick edge through a buffer, from the source `node` that feeds it to source k, if k is its
+-- reader; else nothing.
 abbrev pub through : (is_reader : Bool) → Plan → (buffer node k : ℕ) → List ℕ
 through true plan buffer node k = edge_ends node k
     ++ (codes " [style=bold, color=\"#7a4a00\", fontcolor=\"#7a4a00\", penwidth=2.5, label=\""
     ++ (buffer_label plan buffer ++ codes "\"];\n"))
 through false plan buffer node k = []
 
--- the edge of a feed, through its buffer to the reader
+-- The graphviz text of the edge that a feed makes: from the source `node` that fills the buffer, through it, to the
+-- source among `nodes` that reads it.
 abbrev pub feed_edges : Plan → List Node → (buffer node : ℕ) → List ℕ
 feed_edges plan nodes buffer node = numbered (λ k reader. through (reads reader.op buffer) plan buffer node k) 0 nodes
 

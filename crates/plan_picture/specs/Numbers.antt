@@ -1,13 +1,14 @@
 -- Numbers with a point, and lengths in seconds.
 use Rattle.std.specs.Prelude.{ℕ, zero, suc, ◌*◌, ◌/◌, ◌%◌, ◌&&◌, ℤ, pos, negsuc, List, [], ◌++◌, codes, decimal, nat_eq, if◌then◌else◌}
 
--- the digits of a part of one, given in millionths: at most `places` of them, without zeros at the end
+-- the digits of a fraction behind the first, given what is left in millionths: at most `places` of them, without zeros
+-- at the end
 abbrev pub further : (places millionths : ℕ) → List ℕ
 further places zero = []
 further zero (suc rest) = []
 further (suc places) (suc rest) = decimal (suc rest / 100000) ++ further places (suc rest % 100000 * 10)
 
--- the digits after a point, at least one
+-- the digits of a decimal after its point, given in millionths: at least one, without further zeros at the end
 abbrev pub fraction : (millionths : ℕ) → List ℕ
 fraction millionths = decimal (millionths / 100000) ++ further 5 (millionths % 100000 * 10)
 
@@ -24,7 +25,7 @@ signed (negsuc n) = codes "-" ++ pointed (suc n / 1000000) (suc n % 1000000)
 abbrev pub thousandths : (samples rate : ℕ) → ℕ
 thousandths samples rate = samples % rate * 1000 / rate
 
--- the unit of a length in samples
+-- the word behind a number of samples: `sample` for one, and else `samples`
 abbrev pub samples_word : ℕ → List ℕ
 samples_word samples = if nat_eq samples 1 then codes " sample" else codes " samples"
 

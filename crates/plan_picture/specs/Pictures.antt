@@ -10,25 +10,26 @@ use Rattle.plan_picture.specs.Boxes.{node_boxes}
 use Rattle.plan_picture.specs.Edges.{node_edges, sink_texts}
 use Rattle.plan_picture.specs.Regions.{regions_of}
 
--- the beginning of each picture: how all of it is drawn
+-- the beginning of the graphviz text of each picture: direction, fonts and the usual look of boxes and edges
 unfoldable pub beginning : List ℕ
 beginning = codes "digraph station {\nrankdir=LR; bgcolor=\"#ffffff\"; fontname=\"DejaVu Sans,Helvetica,sans-serif\"; fontsize=12; labeljust=l; nodesep=0.25; ranksep=0.5;\nnode [shape=box, style=\"filled,rounded\", fillcolor=\"#ffffff\", color=\"#3a4450\", fontname=\"DejaVu Sans,Helvetica,sans-serif\", fontsize=11, margin=\"0.12,0.06\", height=0.4];\nedge [color=\"#3a4450\", fontname=\"DejaVu Sans,Helvetica,sans-serif\", fontsize=9, arrowsize=0.7];\n"
 
--- the sources that are red for a silence: none where no output was refused
+-- Of each source, whether it is to blame for the output that was refused, which may fall silent; empty where none was.
+-- `mark` says which sources always offer something.
 abbrev pub reds : Plan → (mark : ℕ → Bool) → Option ℕ → List Bool
 reds plan mark None = []
 reds plan mark (Some sink) = reds_from mark (refused_node plan.sinks sink) 0 plan.nodes
 
--- the text of a plan, where `silent` says that an output was refused, and `red` has of each source whether it is red
--- for that
+-- The graphviz text that draws a plan: `silent` says that an output was refused since it may fall silent, and `red`
+-- has of each source whether it is to blame for that.
 abbrev pub picture_with : Plan → (mark : ℕ → Bool) → Option ℕ → Result ClockMap ClockFault → (group : ℕ → ℕ)
     → (silent : Bool) → (red : List Bool) → List ℕ
 picture_with plan mark refused clocks group silent red = beginning
     ++ (node_boxes plan plan.nodes mark silent red clocks ++ (node_edges plan.nodes silent red clocks
     ++ (sink_texts plan plan.sinks mark refused ++ (regions_of plan silent clocks group ++ codes "}\n"))))
 
--- the text of a plan, of which these sources are infallible, this output was refused, these are the clocks, and these
--- the groups of sources that share one
+-- The graphviz text that draws a plan: `mark` says which sources always offer something, the option is the output that
+-- was refused, then come the clocks or why there are none, and `group` has the group of sources that share a clock.
 abbrev pub picture : Plan → (mark : ℕ → Bool) → Option ℕ → Result ClockMap ClockFault → (group : ℕ → ℕ) → List ℕ
 picture plan mark refused clocks group = picture_with plan mark refused clocks group (is_some refused)
     (reds plan mark refused)

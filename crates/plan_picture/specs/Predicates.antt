@@ -3,17 +3,18 @@ use Rattle.std.specs.Prelude.{ℕ, zero, suc, Bool, true, false, Option, Some, N
 use Rattle.fixed_text.specs.declared.time_mark.TimeMark.{TimeMark}
 use Rattle.time_pred.specs.Predicates.{PredicateTree, OnePredicate, PredicateParts, Always, Never, At, Between, Negated, All, Any, no_parts, first_part}
 
--- a part of a time mark with its unit, if it is written
+-- a part of a time mark (such as the hour) as a number with its unit, if it is written; no text where it is left out
 abbrev pub part_text : Option ℕ → (unit : List ℕ) → List ℕ
 part_text (Some n) unit = decimal n ++ unit
 part_text None unit = []
 
--- a time mark: its parts with their units
+-- a time mark, as a script writes it: those of its parts (day, hour, minute, second) that are written, with their
+-- units
 abbrev pub mark_text : TimeMark → List ℕ
 mark_text mark = (part_text mark.day (codes "w") ++ part_text mark.hour (codes "h"))
     ++ (part_text mark.minute (codes "m") ++ part_text mark.second (codes "s"))
 
--- an interval of the week, as `6h-22h`
+-- an interval of the week from one time mark to another, as a script writes it: `6h-22h`
 abbrev pub interval_text : TimeMark → TimeMark → List ℕ
 interval_text from to = mark_text from ++ (codes "-" ++ mark_text to)
 
@@ -27,7 +28,7 @@ abbrev pub closing : (within : Bool) → List ℕ
 closing true = codes ")"
 closing false = []
 
--- a word stands before each part but the first
+-- the word that joins parts of a predicate (`and`, `or`), where it is due: before each part but the one with number 0
 abbrev pub before_part : (word : List ℕ) → ℕ → List ℕ
 before_part word zero = []
 before_part word (suc n) = word
@@ -43,7 +44,7 @@ abbrev mutual
   pred_text within (All ps) = opening within ++ (joined (codes " and ") 0 ps ++ closing within)
   pred_text within (Any ps) = opening within ++ (joined (codes " or ") 0 ps ++ closing within)
 
-  -- parts, of which the first has this number
+  -- the parts of a predicate with this word between them, where the first one has this number among all parts
   pub joined : (word : List ℕ) → ℕ → PredicateTree PredicateParts → List ℕ
   joined word n no_parts = []
   joined word n (first_part p ps) = (before_part word n ++ pred_text true p) ++ joined word (suc n) ps

@@ -9,34 +9,36 @@ use Rattle.clock_forcings.specs.Forcings.{id_or}
 use Rattle.plan_blames.specs.Texts.{escaped}
 use Rattle.plan_picture.specs.Numbers.{seconds, signed}
 
--- a selection that changes its child within a track says so
+-- what the box of a `fallback` or `switch` says besides its name: that it breaks its sources into tracks, if it may
+-- change its child within a track
 abbrev pub choice_words : (sensitive : Bool) → List ℕ
 choice_words true = []
 choice_words false = codes "\\nbreaks into tracks"
 
--- a playlist says if it is played once
+-- what the box of a playlist says before its file: that it is played once, unless it is played again and again
 abbrev pub playlist_words : (again : Bool) → List ℕ
 playlist_words true = codes "playlist\\n"
 playlist_words false = codes "playlist (once)\\n"
 
--- silence in one endless track has no length
+-- what the box of a `blank` says: that it is silence, and how long its tracks last; one endless track (0) has no
+-- length
 abbrev pub blank_words : (track rate : ℕ) → List ℕ
 blank_words track rate = if nat_eq track 0 then codes "blank" else codes "blank\\ntracks of " ++ seconds track rate
 
--- an addition says if it is a sum, which is not normalized
+-- what the box of an `add` says: whether it is a plain sum, which is not normalized
 abbrev pub add_words : (normalize : Bool) → List ℕ
 add_words true = codes "add"
 add_words false = codes "add\\nsum"
 
--- a reader says how long it collects before it begins to play
+-- what the box of a buffer's reader says of its start: how long the buffer collects before the reader begins to play
 abbrev pub prefill : BufferPlan → (rate : ℕ) → List ℕ
 prefill buffer rate = codes "\\nstarts at " ++ seconds (max 1 buffer.pre) rate
 
--- the prefill of a buffer of the plan
+-- the prefill of the buffer of this number, as the box of its reader tells it; no text if the plan has no such buffer
 abbrev pub size_words : Plan → (buffer : ℕ) → List ℕ
 size_words plan buffer = option_map_or (λ size. prefill size plan.rate) (slice_get plan.buffers buffer) []
 
--- a reader: the number of its buffer, and its prefill
+-- what the box of a buffer's reader says: the number of the buffer, and how long it collects before it is played
 abbrev pub reader_words : Plan → (buffer : ℕ) → List ℕ
 reader_words plan buffer = (codes "buffer " ++ decimal buffer) ++ size_words plan buffer
 

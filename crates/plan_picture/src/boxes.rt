@@ -69,7 +69,7 @@ fn push_node(
     push_end(into, infallible, red)
 }
 
-// Appends the front of the box of source k, up to its label.
+// Appends the beginning of the box of source k, up to its label, which begins with the number.
 fn push_front(into: &mut Vec<u8>, k: u64) -> Result<(), Memory>
     ensures { OnOk result (into.new.items ≡ into.old.items ++ box_front k) }
 {
@@ -104,7 +104,7 @@ fn push_end(into: &mut Vec<u8>, infallible: bool, red: bool) -> Result<(), Memor
     push_style(into, red)
 }
 
-// Appends that a border is dashed, if its source may offer nothing.
+// Appends that the border of a source's box is dashed, if the source may offer nothing; nothing else.
 fn push_border(into: &mut Vec<u8>, infallible: bool) -> Result<(), Memory>
     ensures { OnOk result (into.new.items ≡ into.old.items ++ border infallible) }
 {
@@ -115,7 +115,7 @@ fn push_border(into: &mut Vec<u8>, infallible: bool) -> Result<(), Memory>
     }
 }
 
-// Appends the end of a box, which may be red.
+// Appends the end of the box of a source: that it is red, if it is to blame for a fault, and the closing bracket.
 fn push_style(into: &mut Vec<u8>, red: bool) -> Result<(), Memory>
     ensures { OnOk result (into.new.items ≡ into.old.items ++ (red_style red ++ codes "];\n")) }
 {
@@ -123,7 +123,7 @@ fn push_style(into: &mut Vec<u8>, red: bool) -> Result<(), Memory>
     push_plain(into, b"];\n")
 }
 
-// Appends how a box is drawn in red, if it is.
+// Appends the attributes that draw a box in red, where it is to blame for a fault; nothing else.
 fn push_red(into: &mut Vec<u8>, red: bool) -> Result<(), Memory>
     ensures { OnOk result (into.new.items ≡ into.old.items ++ red_style red) }
 {
@@ -137,8 +137,8 @@ fn push_red(into: &mut Vec<u8>, red: bool) -> Result<(), Memory>
     }
 }
 
-/// Appends the sheet of output k: `fallible` is what the script says of it, `infallible` whether its source always
-/// offers something, and `red` whether the output was refused.
+/// Appends the box of output k, drawn as a sheet of paper: `fallible` is what the script says of it, `infallible`
+/// whether its source always offers something, and `red` whether the output was refused.
 pub fn push_output(
     into: &mut Vec<u8>,
     k: u64,
@@ -153,7 +153,7 @@ pub fn push_output(
     push_output_label(into, name, fallible, red)
 }
 
-// Appends the front of the sheet of output k, up to its label.
+// Appends the beginning of the box of output k, which is drawn as a sheet of paper, up to its label.
 fn push_sheet(into: &mut Vec<u8>, k: u64, infallible: bool, red: bool) -> Result<(), Memory>
     ensures { OnOk result (into.new.items ≡ into.old.items ++ output_front k infallible red) }
 {
@@ -162,7 +162,7 @@ fn push_sheet(into: &mut Vec<u8>, k: u64, infallible: bool, red: bool) -> Result
     push_red(into, red)
 }
 
-// Appends how the sheet of an output is drawn.
+// Appends the attributes that draw an output's box as a sheet of paper: dashed, if its source may offer nothing.
 fn push_sheet_style(into: &mut Vec<u8>, infallible: bool) -> Result<(), Memory>
     ensures { OnOk result (into.new.items ≡ into.old.items ++ sheet infallible) }
 {
@@ -194,7 +194,7 @@ fn push_output_label(
     push_plain(into, b"\"];\n")
 }
 
-// Appends the name of an output, and what is said of it.
+// Appends what the label of an output says: its name, that it may be fallible, and that it was refused.
 fn push_output_words(
     into: &mut Vec<u8>,
     name: &Text,

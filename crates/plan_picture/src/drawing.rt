@@ -58,7 +58,8 @@ fn all_reds(
     }
 }
 
-// Appends the whole text. `groups` has the group of each source, and `red` whether it is to blame for a silence.
+// Appends the whole graphviz text of a plan. `groups` has the group of each source, the sources that share its clock,
+// and `red` whether it is to blame for a silence.
 fn push_picture(
     alloc: Global,
     into: &mut Vec<u8>,
@@ -111,7 +112,7 @@ fn push_rest(
     push_plain(into, b"}\n")
 }
 
-// Appends the beginning of each picture: how all of it is drawn.
+// Appends the beginning of each picture: direction, fonts and the usual look of boxes and edges.
 fn push_beginning(into: &mut Vec<u8>) -> Result<(), Memory>
     ensures { OnOk result (into.new.items ≡ into.old.items ++ beginning) }
 {

@@ -2,7 +2,8 @@
 ghost use Rattle.std.specs.Prelude.{◌≡◌, ℕ, List};
 ghost use Rattle.plan_blames.specs.Texts.{escaped, unescaped};
 
-/// A name is read back from its text, so different names have different texts.
+/// A law of escaped names in pictures: a name can be read back from its escaped text, so different names have
+/// different texts.
 pub fn names_come_back()
     ensures { (name : List ℕ) → unescaped (escaped name) ≡ name }
 {}

@@ -31,7 +31,7 @@ fn thousandths(samples: u64, rate: u32) -> u64
     samples % u64::from(rate) * 1000 / u64::from(rate)
 }
 
-// Appends a length in samples.
+// Appends a short length as a number of samples, with its unit.
 fn push_samples(into: &mut Vec<u8>, samples: u64) -> Result<(), Memory>
     ensures { OnOk result (into.new.items ≡ into.old.items ++ (decimal samples ++ samples_word samples)) }
 {
@@ -39,7 +39,7 @@ fn push_samples(into: &mut Vec<u8>, samples: u64) -> Result<(), Memory>
     push_samples_word(into, samples)
 }
 
-// Appends the unit of a length in samples.
+// Appends the word behind a number of samples: `sample` for one, and else `samples`.
 fn push_samples_word(into: &mut Vec<u8>, samples: u64) -> Result<(), Memory>
     ensures { OnOk result (into.new.items ≡ into.old.items ++ samples_word samples) }
 {
@@ -70,7 +70,7 @@ fn push_pointed(into: &mut Vec<u8>, whole: u64, millionths: u64) -> Result<(), M
     push_point(into, millionths)
 }
 
-// Appends a point and the digits after it, at least one.
+// Appends the point of a decimal and the digits after it, given in millionths: at least one digit.
 fn push_point(into: &mut Vec<u8>, millionths: u64) -> Result<(), Memory>
     requires { millionths < 1000000 }
     ensures { OnOk result (into.new.items ≡ into.old.items ++ (codes "." ++ fraction millionths)) }
@@ -79,7 +79,8 @@ fn push_point(into: &mut Vec<u8>, millionths: u64) -> Result<(), Memory>
     push_further(into, millionths % 100_000 * 10)
 }
 
-// Appends the digits of these millionths, at most five, but for zeros at the end.
+// Appends the digits of a decimal behind the first one after its point, given in millionths: at most five, without
+// zeros at the end.
 fn push_further(into: &mut Vec<u8>, millionths: u64) -> Result<(), Memory>
     requires { millionths < 1000000 }
     ensures { OnOk result (into.new.items ≡ into.old.items ++ further 5 millionths) }

@@ -19,8 +19,8 @@ pub fn push_shown(into: &mut Vec<u8>, pred: &Pred) -> Result<(), Memory>
     cut(into, before)
 }
 
-// Cuts the text after the first `before` bytes, if it has more than 200 characters: to the first 200, and how many it
-// has.
+// Cuts the predicate that was appended after the first `before` bytes, if it has more than 200 characters: to the
+// first 200, and tells how many it has.
 fn cut(into: &mut Vec<u8>, before: usize) -> Result<(), Memory>
     requires { before ≤ length into.old.items }
     ensures { OnOk result (into.new.items ≡ take before into.old.items ++ shown (drop before into.old.items)) }
@@ -33,7 +33,8 @@ fn cut(into: &mut Vec<u8>, before: usize) -> Result<(), Memory>
     push_between(into, b".. (", count as u64, b" characters)")
 }
 
-/// Appends a predicate, in brackets where it has parts and stands within another.
+/// Appends a predicate (a condition on the time of the week) as a script writes it, in brackets where it has parts and
+/// stands within another.
 #[cycle(pred)]
 fn push_pred(into: &mut Vec<u8>, pred: &Pred, within: bool) -> Result<(), Memory>
     ensures { OnOk result (into.new.items ≡ into.old.items ++ pred_text within (view_pred pred.now)) }
@@ -52,7 +53,8 @@ fn push_pred(into: &mut Vec<u8>, pred: &Pred, within: bool) -> Result<(), Memory
     }
 }
 
-// Appends the parts of a predicate with a word between them, in brackets if it stands within another.
+// Appends the parts of an `and` or `or` with this word between them, in brackets if the predicate stands within
+// another.
 #[cycle(pred)]
 fn push_group(into: &mut Vec<u8>, word: &[u8], parts: &[Pred], within: bool) -> Result<(), Memory>
     ensures { OnOk result (into.new.items ≡ into.old.items
@@ -63,7 +65,7 @@ fn push_group(into: &mut Vec<u8>, word: &[u8], parts: &[Pred], within: bool) -> 
     push_closing(into, within)
 }
 
-// Appends predicates with a word between them.
+// Appends the predicates that an `and` or `or` joins, with this word between each two.
 #[cycle(pred)]
 fn push_parts(into: &mut Vec<u8>, word: &[u8], parts: &[Pred]) -> Result<(), Memory>
     ensures { OnOk result (into.new.items ≡ into.old.items ++ joined word.now 0 (parts_of (map view_pred parts.now))) }
@@ -75,7 +77,7 @@ fn push_parts(into: &mut Vec<u8>, word: &[u8], parts: &[Pred]) -> Result<(), Mem
     Ok(())
 }
 
-// Appends a word before the part of this number, but for the first one.
+// Appends the word that joins parts of a predicate, before the part of this number, unless it is the first one.
 fn push_before(into: &mut Vec<u8>, word: &[u8], number: usize) -> Result<(), Memory>
     ensures { OnOk result (into.new.items ≡ into.old.items ++ before_part word.now number) }
 {
@@ -86,7 +88,7 @@ fn push_before(into: &mut Vec<u8>, word: &[u8], number: usize) -> Result<(), Mem
     }
 }
 
-// Appends the bracket before the parts of a predicate that stands within another.
+// Appends the bracket that opens a predicate with parts, if it stands within another one.
 fn push_opening(into: &mut Vec<u8>, within: bool) -> Result<(), Memory>
     ensures { OnOk result (into.new.items ≡ into.old.items ++ opening within) }
 {
@@ -97,7 +99,7 @@ fn push_opening(into: &mut Vec<u8>, within: bool) -> Result<(), Memory>
     }
 }
 
-// Appends the bracket after the parts of a predicate that stands within another.
+// Appends the bracket that closes a predicate with parts, if it stands within another one.
 fn push_closing(into: &mut Vec<u8>, within: bool) -> Result<(), Memory>
     ensures { OnOk result (into.new.items ≡ into.old.items ++ closing within) }
 {
@@ -117,7 +119,7 @@ fn push_interval(into: &mut Vec<u8>, from: TimeMark, to: TimeMark) -> Result<(),
     push_mark(into, to)
 }
 
-// Appends a time mark: its parts with their units.
+// Appends a time mark: those of its parts (day, hour, minute, second) that are written, with their units.
 fn push_mark(into: &mut Vec<u8>, mark: TimeMark) -> Result<(), Memory>
     ensures { OnOk result (into.new.items ≡ into.old.items ++ mark_text mark) }
 {
@@ -125,7 +127,7 @@ fn push_mark(into: &mut Vec<u8>, mark: TimeMark) -> Result<(), Memory>
     push_two(into, mark.minute, b"m", mark.second, b"s")
 }
 
-// Appends two parts of a time mark with their units.
+// Appends two parts of a time mark, each with its unit if it is written.
 fn push_two(
     into: &mut Vec<u8>,
     one: Option<u8>,
@@ -140,7 +142,7 @@ fn push_two(
     push_part(into, other, other_unit)
 }
 
-// Appends a part of a time mark with its unit, if it is written.
+// Appends a part of a time mark (such as the hour) as a number with its unit, if it is written.
 fn push_part(into: &mut Vec<u8>, part: Option<u8>, unit: &[u8]) -> Result<(), Memory>
     ensures { OnOk result (into.new.items ≡ into.old.items ++ part_text part unit.now) }
 {

@@ -11,7 +11,8 @@ use Rattle.resample.specs.declared.changed.Blocks.{Blocks}
 use Rattle.resample.specs.declared.changed.Source.{Source}
 use Rattle.resample.specs.declared.place.Way.{Way}
 
--- the samples of a file at the other rate, left before right where there are two channels
+-- a file once it is read at another rate: its channels, and its samples, left before right where there are two
+-- channels
 pub record Samples : Type 0 where
   pub kind : Kind
   pub samples : List ℤ
@@ -20,28 +21,29 @@ pub record Samples : Type 0 where
 abbrev pub samples_of : Blocks → List ℤ
 samples_of blocks = samples_at blocks.wide (take blocks.size (drop blocks.at blocks.bytes.items))
 
--- the samples of these blocks at another rate, from rate `from` to rate `to`
+-- what is read of a file with these blocks and rate `from`, where it is played at rate `to`
 abbrev pub changed_from : (from to : ℕ) → Blocks → Samples
 changed_from from to blocks = record {
   kind = blocks.kind;
   samples = resampled from to blocks.kind (samples_of blocks);
 }
 
--- the blocks lie within the bytes and are whole, at least one and at most 134217728
+-- the blocks of a file lie within its bytes and are whole, at least one and at most 134217728
 pub record AreThere (blocks : Blocks) : Type 0 where
   pub inside : blocks.at + blocks.size ≤ length blocks.bytes.items
   pub file : IsFile blocks.kind (samples_of blocks)
 
--- the samples of blocks that fill their bytes
+-- the samples of a file whose blocks fill these bytes, at the file's own rate
 abbrev pub samples_in : Source → List ℤ
 samples_in source = samples_at source.wide source.bytes.now
 
--- the blocks are whole, and `last` is the number of the last one
+-- the source of a resampling is sound: its bytes are whole blocks of samples, and `last` is the number of the last one
 pub record IsSource (source : Source) : Type 0 where
   pub file : IsFile source.kind (samples_in source)
   pub last : source.last + 1 ≡ blocks_of source.kind (samples_in source)
 
--- the numbers of a way belong to its two rates
+-- The numbers that go with a change of rate are right: both rates are allowed, the step is how far a sample of the new
+-- rate moves in the file, and the two inverses take the place of divisions by the new rate.
 pub record IsWay (way : Way) : Type 0 where
   pub rates : AreRates way.from way.to
   pub few : way.from < 2 ^ 32
@@ -51,6 +53,6 @@ pub record IsWay (way : Way) : Type 0 where
   pub inverse : way.inverse ≡ inverse_of way.to
   pub by_lanes : way.by_lanes ≡ by_lanes.inverse_of way.to
 
--- how many blocks there are at the other rate
+-- how many blocks (samples of each channel) a file has at the new rate of this way, the change from rate to rate
 abbrev pub blocks_at : Source → Way → ℕ
 blocks_at source way = output_length (blocks_of source.kind (samples_in source)) way.from way.to

@@ -2,6 +2,6 @@
 use Rattle.std.specs.Prelude.{ℕ, ◌+◌, ◌*◌}
 use Rattle.resample.specs.declared.place.Place.{Place}
 
--- a place in the file as a number of parts, of which a block has `to`
+-- a place in a file, given as a block and parts of it, as one number of parts, where a block has `to` parts
 abbrev pub reached : ℕ → Place → ℕ
 reached to place = place.block * to + place.part

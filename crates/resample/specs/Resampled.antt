@@ -12,7 +12,7 @@ pub record AreRates (from to : ℕ) : Type 0 where
   pub least : MIN_RATE ≤ to
   pub most : to ≤ MAX_RATE
 
--- how many samples each channel of a file has
+-- how many blocks a file has, which is how many samples each of its channels has
 abbrev pub blocks_of : Kind → List ℤ → ℕ
 blocks_of kind samples = length samples / channels_of kind
 
@@ -26,7 +26,7 @@ pub record IsFile (kind : Kind) (samples : List ℤ) : Type 0 where
 abbrev pub output_length : (count from to : ℕ) → ℕ
 output_length count from to = max 1 (count * to / from)
 
--- the sample of a block on a side, which is 0 for left and 1 for right
+-- the sample of a block on a side: 0 is left and 1 right; a block has one sample for each channel of the file
 abbrev pub side_at : Kind → List ℤ → (block side : ℕ) → ℤ
 side_at kind samples block side = slice_index_or samples (block * channels_of kind + side) (pos 0)
 
@@ -42,16 +42,17 @@ block_before from to j = j * from / to
 abbrev pub parts_behind : (from to j : ℕ) → ℕ
 parts_behind from to j = (j * from) % to
 
--- the sample of the file at or before sample j of the other rate, on a side
+-- the sample of the file at or before the place at which sample j of the new rate stands, on a side (0 left, 1 right)
 abbrev pub sample_before : (from to : ℕ) → Kind → List ℤ → (j side : ℕ) → ℤ
 sample_before from to kind samples j side = side_at kind samples (block_before from to j) side
 
--- the sample of the file behind sample j of the other rate, on a side; at the end of the file the last one
+-- the sample of the file behind the place at which sample j of the new rate stands, on a side (0 left, 1 right); at
+-- the end of the file the last one
 abbrev pub sample_behind : (from to : ℕ) → Kind → List ℤ → (j side : ℕ) → ℤ
 sample_behind from to kind samples j side = side_at kind samples
     (min (block_before from to j + 1) (blocks_of kind samples - 1)) side
 
--- sample j of a side at the other rate, between the two samples of the file around it
+-- sample j of a side at the new rate `to`: it lies between the two samples of the file around its place, in proportion
 abbrev pub resampled_sample : (from to : ℕ) → Kind → List ℤ → (j side : ℕ) → ℤ
 resampled_sample from to kind samples j side =
     interpolated (sample_before from to kind samples j side) (sample_behind from to kind samples j side)
@@ -63,7 +64,7 @@ resampled from to kind samples =
     map (λ k. resampled_sample from to kind samples (k / channels_of kind) (k % channels_of kind))
     (range_with_len 0 (output_length (blocks_of kind samples) from to * channels_of kind))
 
--- a number lies between two others, both included
+-- a number lies between a and b, whichever of them is less, both included
 pub record LiesBetween (a b number : ℤ) : Type 0 where
   pub low : int_min a b ≤ℤ number
   pub high : number ≤ℤ int_max a b

@@ -70,14 +70,14 @@ impl Changed {
         Changed { blocks, from, to }
     }
 
-    /// How many channels it has.
+    /// Whether it is mono or stereo, which says how many channels it has.
     pub fn kind(&self) -> Kind
         ensures { result ≡ self.now.kind }
     {
         self.blocks.kind
     }
 
-    /// How many samples it has, those of both channels where there are two.
+    /// How many samples it has at the rate at which it is read, those of both channels where there are two.
     pub fn count(&self) -> usize
         ensures count { result ≡ length self.now.samples }
         ensures few { result < 2 ^ 63 }
@@ -87,7 +87,8 @@ impl Changed {
         blocks * usize::from(source.kind.channels())
     }
 
-    /// Sample `at`, counted from 0 over both channels where there are two, left before right.
+    /// Sample `at` of what is read at the new rate, counted from 0 over both channels where there are two, left before
+    /// right.
     pub fn sample(&self, at: usize) -> i16
         requires { at < length self.now.samples }
         ensures { result ≡ slice_index_or self.now.samples at (pos 0) }
@@ -99,7 +100,7 @@ impl Changed {
         sample_between(source, &way, place, at % channels)
     }
 
-    /// The samples of a side, 0 for left, as many as the slice is long, from block `at` at the other rate on.
+    /// Fills `into` with the samples of a side, 0 for left, from block `at` at the new rate on.
     pub fn read(&self, at: usize, side: usize, into: &mut [i16])
         requires side { side < channels_of self.now.kind }
         requires within { at + length into.old ≤ length self.now.samples / channels_of self.now.kind }
@@ -141,7 +142,8 @@ fn count_in(bytes: &[u8], wide: bool) -> usize
     }
 }
 
-// Makes samples of a side at the other rate, from block `at` on.
+// Fills `into` with samples of a side (0 is left) at the new rate, from block `at` at that rate on: eight at a time
+// where that can be, else one by one.
 fn read_side(source: Source<'_>, way: &Way, side: usize, at: usize, into: &mut [i16])
     requires source { IsSource source }
     requires way { IsWay way.now }
@@ -168,8 +170,8 @@ fn are_inside(source: Source<'_>, way: &Way, blocks: usize) -> bool
     blocks as u64 * u64::from(way.from) <= source.last as u64 * u64::from(way.to)
 }
 
-// Makes samples that lie before the last block of the file, from block `at` on: eight at a time by lanes and the rest
-// one by one.
+// Fills `into` with samples of a side (0 is left) that lie before the last block of the file, from block `at` at the
+// new rate on: eight at a time by vector instructions, and the rest one by one.
 fn read_inside(source: Source<'_>, way: &Way, side: usize, at: usize, into: &mut [i16])
     requires source { IsSource source }
     requires way { IsWay way.now }
@@ -231,7 +233,8 @@ fn make_eight(
     place
 }
 
-// Makes samples one by one, from block `at` at the other rate on.
+// Fills `into` with samples of a side (0 is left) one by one, from block `at` at the new rate on; it may reach the
+// file's end.
 fn read_each(source: Source<'_>, way: &Way, side: usize, at: usize, into: &mut [i16])
     requires source { IsSource source }
     requires way { IsWay way.now }
@@ -248,7 +251,8 @@ fn read_each(source: Source<'_>, way: &Way, side: usize, at: usize, into: &mut [
     }
 }
 
-// The sample of a side at a place between two blocks of the file.
+// The sample of a side (0 is left) at a place in the file, which lies between two of its blocks: in proportion to the
+// way between them. At the end of the file it is the last one.
 fn sample_between(source: Source<'_>, way: &Way, place: Place, side: usize) -> i16
     requires source { IsSource source }
     requires way { IsWay way.now }
@@ -266,7 +270,7 @@ fn sample_between(source: Source<'_>, way: &Way, place: Place, side: usize) -> i
     number_between(way.inverse, before, behind, place.part, way.to)
 }
 
-// The sample of a side in a block of the file.
+// The sample of a side (0 is left) in a block of the file, which has one sample for each channel.
 fn sample_of(source: Source<'_>, block: usize, side: usize) -> i16
     requires source { IsSource source }
     requires side { side < channels_of source.kind }

@@ -5,7 +5,8 @@ ghost use Rattle.liq_base.specs.declared.memory.Kind.{Kind};
 ghost use Rattle.resample.specs.Resampled.{AreRates, IsFile, LiesBetween, blocks_of, output_length, resampled};
 ghost use Rattle.resample.specs.Resampled.{sample_before, sample_behind, side_at};
 
-/// Each sample at another rate lies between the two that it is made from, and equal rates change nothing.
+/// A law of resampling: each sample at another rate lies between the two that it is made from, and equal rates change
+/// nothing.
 pub fn changes_lie_between()
     ensures between { (from to : ℕ) (kind : Kind) (samples : List ℤ) (j side : ℕ) → AreRates from to
         → j < output_length (blocks_of kind samples) from to → side < channels_of kind

@@ -29,7 +29,8 @@ pub fn inverse_of(whole: u32) -> u64
     281_474_976_710_656 / u64::from(whole) + 1
 }
 
-// The number `part` of `whole` parts behind one sample on the way to another, by a product with `inverse`.
+// The number that lies `part` of `whole` parts behind the sample `before` on the way to `behind`, computed by a
+// product with `inverse` in place of a division.
 fn between_by(inverse: u64, before: i16, behind: i16, part: u32, whole: u32) -> i16
     requires within { part < whole }
     requires short { whole ≤ 92681 }
@@ -40,7 +41,8 @@ fn between_by(inverse: u64, before: i16, behind: i16, part: u32, whole: u32) -> 
     quotient(sum, inverse, whole) as i16
 }
 
-// The number `part` of `whole` parts behind one sample on the way to another, by a division.
+// The number that lies `part` of `whole` parts behind the sample `before` on the way to `behind`, computed by a
+// division.
 fn between(before: i16, behind: i16, part: u32, whole: u32) -> i16
     requires { part < whole }
     ensures { result ≡ interpolated before behind part whole }
@@ -50,7 +52,8 @@ fn between(before: i16, behind: i16, part: u32, whole: u32) -> i16
     (sum / parts) as i16
 }
 
-// A sum divided by `whole`, a number of parts, rounded toward zero, by a product with `inverse`.
+// The sum of two weighted samples divided by `whole`, the number of parts, rounded toward zero; a product with
+// `inverse` takes the place of the division.
 fn quotient(sum: i64, inverse: u64, whole: u32) -> i32
     requires short { (0 < whole) × (whole ≤ 92681) }
     requires inverse { inverse ≡ inverse_of whole }
@@ -61,7 +64,7 @@ fn quotient(sum: i64, inverse: u64, whole: u32) -> i32
     signed_as(sum, size)
 }
 
-// The number of this size that has the sign of `number`.
+// The number with the size `size` and the sign of `number`, as a quotient takes the sign of what is divided.
 fn signed_as(number: i64, size: u64) -> i32
     requires { size ≤ 32768 }
     ensures { result ≡ signed_as number size }
@@ -73,7 +76,7 @@ fn signed_as(number: i64, size: u64) -> i32
     }
 }
 
-// A sample times its number of parts.
+// A sample times its weight, a number of parts, in an interpolation between two samples.
 fn weighted(sample: i16, times: u32) -> i64
     ensures { result ≡ sample *ℤ pos times }
 {

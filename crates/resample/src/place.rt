@@ -32,7 +32,8 @@ pub struct Way {
     pub by_lanes: u64,
 }
 
-/// What is needed to read a file of rate `from` at rate `to`, in samples a second.
+/// The numbers that go with a change from rate `from` to rate `to`, in samples a second: the step from sample to
+/// sample in the file, and what takes the place of divisions by `to`.
 pub fn way_of(from: u32, to: u32) -> Way
     requires { AreRates from to }
     ensures way { IsWay result }
@@ -76,7 +77,7 @@ pub fn step_of(from: u32, to: u32) -> Place
     }
 }
 
-/// The place one `step` behind `place`, where a block has `to` parts.
+/// The place in the file one `step` behind `place`: the sum of both, where the way from block to block has `to` parts.
 pub fn moved(place: Place, step: Place, to: u32) -> Place
     requires part { place.part < to }
     requires step { step.part < to }

@@ -15,53 +15,57 @@ use Rattle.clock_ticks.specs.Pieces.{GotBetween, GotPieces, RoseAt}
 use Rattle.buffer_ends.specs.declared.run_end.End.{End}
 use Rattle.buffer_ends.specs.declared.run_end.End.TheVariants.{Write, Memory as NoMemory}
 
--- the setting in which buffers answer what these calls got, and then `rest`
+-- the setting of a run in which each buffer answers what these calls got from it, and then what `rest` has for it
 abbrev pub world : Setting → List Call → (rest : ℕ → List Answer) → Setting
 world setting calls rest = with_rest setting (λ buffer. answers_in buffer calls) rest
 
--- the calls of `turns` turns of `clocks` clocks: turn j is tick j / clocks of clock j % clocks. `accepted j b` is what
--- buffer b answers to the give of turn j
+-- The calls to buffers in the first `turns` turns; a turn is one tick of one of the `clocks` clocks, each in its
+-- order. Turn j is tick j / clocks of clock j % clocks. `accepted j b` is what buffer b answers to the give of turn j.
 abbrev pub calls_of_turns : Setting → (accepted : ℕ → ℕ → Bool) → (clocks turns : ℕ) → List Call
 calls_of_turns setting accepted clocks turns = joined_upto
     (λ j. calls_of_tick setting (accepted j) (j % clocks) (j / clocks)) turns
 
--- these are the calls of `turns` turns, given the answers that they got, whatever answers follow
+-- these are the calls to buffers of the first `turns` turns of a run (a turn is one tick of one clock), given the
+-- answers that they got, whatever answers follow
 pub record AreTurns (setting : Setting) (clocks turns : ℕ) (calls : List Call) : Type 0 where
   pub accepted : ℕ → ℕ → Bool
   pub are : (rest : ℕ → List Answer) → calls ≡ calls_of_turns (world setting calls rest) accepted clocks turns
 
--- these calls begin those of `turns` turns, given the answers that they got, whatever answers follow
+-- these calls to buffers are a beginning of those of the first `turns` turns of a run (a turn is one tick of one
+-- clock), given the answers that they got, whatever answers follow
 pub record AreTurnsBegun (setting : Setting) (clocks turns : ℕ) (calls : List Call) : Type 0 where
   pub accepted : ℕ → ℕ → Bool
   pub begun : (rest : ℕ → List Answer) → IsBegin calls (calls_of_turns (world setting calls rest) accepted clocks turns)
 
--- these are the calls of `turns` turns and a beginning of those of the next one, given the answers that they got,
--- whatever answers follow
+-- these are the calls to buffers of `turns` turns (a turn is one tick of one clock) and a beginning of those of the
+-- next one, given the answers that they got, whatever answers follow
 pub record AreTurnsUpto (setting : Setting) (clocks turns : ℕ) (calls : List Call) : Type 0 where
   pub accepted : ℕ → ℕ → Bool
   pub whole : (rest : ℕ → List Answer) → IsBegin (calls_of_turns (world setting calls rest) accepted clocks turns) calls
   pub begun : (rest : ℕ → List Answer)
       → IsBegin calls (calls_of_turns (world setting calls rest) accepted clocks (suc turns))
 
--- no answers of any buffer
+-- the answers of buffers before a run, by the buffer's number: none of any buffer
 abbrev pub nothing : ℕ → List Answer
 nothing buffer = []
 
--- an engine may begin: it made no tick and did not stop, and its sinks have room for so many ticks
+-- an engine may begin a run of `ticks` ticks: it made no tick and did not stop, and its sinks, as `told` tells them,
+-- have room for so many ticks
 pub record MayRun {S : Type 0} (told : S → SinkTold) (ticks : ℕ) (engine : ClockEngine S) : Type 0 where
   pub fresh : EngineStands engine.parts 0 nothing
   pub rooms : HaveTicksRoom told engine.parts engine.outs ticks
 
--- the engines of a run, one per clock, in clock order, over one plan with its files, clocks and start
+-- The engines of a run of `ticks` ticks: one per clock, in clock order, each fresh and with room in its sinks, and all
+-- over one plan with its files, clocks and start.
 pub record AreEngines {S : Type 0} (told : S
     → SinkTold) (ticks : ℕ) (setting : Setting) (engines : List (ClockEngine S)) : Type 0 where
   pub each : (k : ℕ) (engine : ClockEngine S) → slice_get engines k ≡ Some engine → MayRun told ticks engine
   pub in_order : (k : ℕ) (engine : ClockEngine S) → slice_get engines k ≡ Some engine → engine.parts.clock ≡ k
   pub over : (k : ℕ) (engine : ClockEngine S) → slice_get engines k ≡ Some engine → setting_of engine.parts ≡ setting
 
--- an engine has gone from `old` to `new` by `ticks` ticks, none of them with a fault, in a run that made these calls:
--- it has taken the answers of the buffers that it reads; each output holds its bytes of these ticks more, and its sink
--- got a piece for each of them; and it keeps its marks if it did before
+-- An engine has gone from `old` to `new` by `ticks` ticks without a fault, in a run that made these calls: it took the
+-- answers of its buffers, each output and its sink got the bytes and pieces of these ticks, and marks (where tracks
+-- begin) are kept if they were before.
 pub record HasRunTurns {S : Type 0} (told : S
     → SinkTold) (calls : List Call) (ticks : ℕ) (old new : ClockEngine S) : Type 0 where
   pub setting : setting_of new.parts ≡ setting_of old.parts
@@ -90,21 +94,24 @@ pub record HasRunPart {S : Type 0} (told : S → SinkTold) (world : (ℕ → Lis
   pub pieces : GotBetween told least most old.outs new.outs
   pub outs : length new.outs ≡ length old.outs
 
--- engine k has made `ticks k` ticks, in a run that made these calls
+-- each engine has gone from its old to its new state without a fault, engine k by `ticks k` ticks, in a run that made
+-- these calls to buffers
 pub record HaveRun {S : Type 0} (told : S → SinkTold) (calls : List Call) (ticks : ℕ
     → ℕ) (old new : List (ClockEngine S)) : Type 0 where
   pub size : length new ≡ length old
   pub each : (k : ℕ) (before after : ClockEngine S) → slice_get old k ≡ Some before → slice_get new k ≡ Some after
       → HasRunTurns told calls (ticks k) before after
 
--- engine k has made at least `least k` and at most `most k` ticks
+-- each engine has gone from its old to its new state, engine k by at least `least k` and at most `most k` ticks, as
+-- where a fault ended the run
 pub record HaveRunPart {S : Type 0} (told : S → SinkTold) (world : (ℕ → List Answer) → Setting) (least most : ℕ
     → ℕ) (old new : List (ClockEngine S)) : Type 0 where
   pub size : length new ≡ length old
   pub each : (k : ℕ) (before after : ClockEngine S) → slice_get old k ≡ Some before → slice_get new k ≡ Some after
       → HasRunPart told world (least k) (most k) before after
 
--- the end names an output of this clock, whose sink's count of faults rose
+-- a failed write to an output of this clock ended the run: the end names the output, and the count of faults of its
+-- sink rose
 pub record IsWriteEnd {S : Type 0} (told : S
     → SinkTold) (clock : ℕ) (old new : List (ClockEngine S)) (end : End) : Type 0 where
   pub before : ClockEngine S
@@ -118,8 +125,8 @@ pub record IsWriteEnd {S : Type 0} (told : S
   pub end_is : end ≡ Write clock sink
   pub rose : RoseAt told place before.outs after.outs
 
--- between two ticks of a run: the calls that were made and that the taps got, how many ticks each engine has made, and
--- the room of its sinks for those that are left
+-- The state of a run between two turns (one tick of one clock each): the calls that were made and that the taps got,
+-- the ticks that each engine has made, and room in its sinks for those left of `total`.
 pub record AreGoing {S : Type 0} (told : S → SinkTold) (got : List Call → Type 0) (setting : Setting) (total : ℕ)
     (made : ℕ → ℕ) (turns : ℕ) (first now : List (ClockEngine S)) : Type 0 where
   pub calls : List Call
@@ -129,7 +136,8 @@ pub record AreGoing {S : Type 0} (told : S → SinkTold) (got : List Call → Ty
   pub rooms : (k left : ℕ) (engine : ClockEngine S) → slice_get now k ≡ Some engine → made k + left ≡ total
       → HaveTicksRoom told engine.parts engine.outs left
 
--- all rounds were made, by these calls, which the taps got
+-- the run went through without a fault: all `ticks` rounds were made, in each of which every clock makes a tick, by
+-- these calls to buffers, which the taps got
 pub record RoundsMade {S : Type 0} (told : S → SinkTold) (got : List Call → Type 0) (setting : Setting) (ticks : ℕ)
     (first now : List (ClockEngine S)) : Type 0 where
   pub calls : List Call
@@ -152,11 +160,11 @@ pub record RoundsStopped {S : Type 0} (told : S → SinkTold) (got : List Call �
       first now
   pub cause : (end ≡ NoMemory) ⊎ IsWriteEnd told clock first now end
 
--- no engine keeps its marks
+-- none of these engines keeps its marks, the places at which its tracks begin
 pub record KeepNone {S : Type 0} (engines : List (ClockEngine S)) : Type 0 where
   pub each : (k : ℕ) (engine : ClockEngine S) → slice_get engines k ≡ Some engine → engine.parts.cues.keeping ≡ true → ⊥
 
--- there are as many buffers as each engine's plan has
+-- the plan of each of these engines has so many buffers
 pub record HaveBuffers {S : Type 0} (buffers : ℕ) (engines : List (ClockEngine S)) : Type 0 where
   pub each : (k : ℕ) (engine : ClockEngine S) → slice_get engines k ≡ Some engine
       → buffers ≡ length engine.parts.scene.plan.now.buffers

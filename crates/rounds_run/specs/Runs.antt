@@ -18,7 +18,8 @@ use Rattle.buffer_ends.specs.declared.run_end.End.TheVariants.{Write}
 use Rattle.buffer_sides.specs.Logs.{told as told_of}
 use Rattle.rounds_run.specs.Rounds.{AreEngines, HaveRunPart, IsWriteEnd, ticks_by}
 
--- the engines of a run, one per clock, in clock order, over this plan with its files, clocks and start
+-- the engines of a run of `ticks` ticks: one per clock, in clock order, fresh, and all over this well-formed plan with
+-- its files, clocks and start
 pub record AreOver {S : Type 0} (told : S
     → SinkTold) (plan : Plan) (ticks : ℕ) (setting : Setting) (engines : List (ClockEngine S)) : Type 0 where
   pub plan_is : setting.plan ≡ plan
@@ -42,15 +43,16 @@ pub record HasRunTicks {S : Type 0} (told : S
   pub pieces : GotPieces told ticks old.outs new.outs
   pub outs : length new.outs ≡ length old.outs
 
--- each engine has made `ticks` ticks in this setting
+-- each engine has gone from its old to its new state by `ticks` ticks without a fault, where the buffers answer as
+-- this setting says
 pub record HaveRunTicks {S : Type 0} (told : S
     → SinkTold) (setting : Setting) (ticks : ℕ) (old new : List (ClockEngine S)) : Type 0 where
   pub size : length new ≡ length old
   pub each : (k : ℕ) (before after : ClockEngine S) → slice_get old k ≡ Some before → slice_get new k ≡ Some after
       → HasRunTicks told setting ticks before after
 
--- how many puts of these windows were accepted and how many found the buffer full, and how many takes got a chunk and
--- how many found it empty
+-- The counts of a buffer over these windows, the stretches of a run between two ends of its log: how many puts were
+-- accepted, how many found it full, how many takes got a chunk, and how many found it empty.
 abbrev pub counts_of_windows : List Window → Counts
 counts_of_windows windows = record {
   accepted = count_by is_some (flat_map (λ (window : Window). window.0) windows);
@@ -59,11 +61,11 @@ counts_of_windows windows = record {
   empty = count_by is_none (flat_map (λ (window : Window). window.1) windows);
 }
 
--- the counts of each buffer in a run
+-- for each buffer of a run, how many of its puts and takes went well and how many found it full or empty
 abbrev pub counts_of_run : Run → List Counts
 counts_of_run run = map counts_of_windows run.buffers
 
--- the log of each buffer in a run
+-- for each buffer of a run its log: window by window, how its puts and takes were answered
 abbrev pub logs_of_run : Run → List (List Answers)
 logs_of_run run = map (λ windows. map told_of windows) run.buffers
 

@@ -12,7 +12,8 @@ use frame_core::Taps;
 use liq_base::Sink;
 use std::alloc::Global;
 
-// How a run ends at a fault of the engine of this clock.
+// The end of a run that the fault of an engine's tick brings: a failed write, with this clock and its sink, or want of
+// memory.
 fn end_of(clock: u32, fault: TickFault) -> End
     ensures write { (sink : ℕ) → fault ≡ TickWrite sink → result ≡ Write clock sink }
     ensures memory { fault ≡ OutOfMemory → result ≡ NoMemory }

@@ -39,7 +39,8 @@ pub fn run_rounds<O: Sink>(
     }
 }
 
-// The result of a whole run, with the counts and logs of its buffers; want of memory if there is no room for them.
+// The result of a run that went through, with the counts and logs of its buffers; where there is no memory for them,
+// the result of a run that ended for want of memory.
 fn told_or_ended(alloc: Global, taps: LocalTaps, buffers: usize) -> RunEnd
     requires { buffers ≡ length taps }
     ensures counts { result.end ≡ Done → result.counts.items ≡ map (λ list. counts_of (all_answers list)) taps }
@@ -53,7 +54,8 @@ fn told_or_ended(alloc: Global, taps: LocalTaps, buffers: usize) -> RunEnd
     }
 }
 
-// The result of a whole run, with the counts and logs of its buffers.
+// The result of a run that went through, with the counts and logs that the taps (the ends of the buffers) have; memory
+// may be refused for them.
 fn told(alloc: Global, mut taps: LocalTaps, buffers: usize) -> Result<RunEnd, Memory>
     requires { buffers ≡ length taps }
     ensures counts { IfOk result (λ run. run.counts.items ≡ map (λ list. counts_of (all_answers list)) taps) }
@@ -70,7 +72,7 @@ fn told(alloc: Global, mut taps: LocalTaps, buffers: usize) -> Result<RunEnd, Me
     })
 }
 
-// The counts of the answers of each buffer, by its number.
+// For each buffer, by its number, how many of its puts and takes went well and how many found it full or empty.
 fn count_all(alloc: Global, taps: &LocalTaps, buffers: usize) -> Result<Vec<Counts>, Memory>
     requires { buffers ≡ length taps.now }
     ensures counts { IfOk result (λ counts. counts.items ≡ map (λ list. counts_of (all_answers list)) taps.now) }
@@ -84,7 +86,7 @@ fn count_all(alloc: Global, taps: &LocalTaps, buffers: usize) -> Result<Vec<Coun
     Ok(counts)
 }
 
-// The result of a run that was broken off: it has no counts and no logs.
+// The result of a run that was broken off, with this end: it has no counts and no logs.
 fn ended(alloc: Global, end: End) -> RunEnd
     ensures { result.end ≡ end }
 {

@@ -45,7 +45,8 @@ impl Begun {
         self.near[other as usize].fetch_or(1 << clock, Ordering::SeqCst);
     }
 
-    // Notes that a clock has begun `ticks` ticks; those that waited for this go on.
+    // Notes that a clock has begun `ticks` ticks, and wakes those of the clocks near it (joined by a buffer) that
+    // waited for this alone.
     pub(crate) fn set(&self, clock: u32, ticks: u64)
         requires { clock < 64 }
     {
@@ -61,7 +62,8 @@ impl Begun {
         }
     }
 
-    // Whether each clock near this one has begun `ticks` ticks, or was given up and has begun none since.
+    // Whether a clock need not wait: each clock near it (joined by a buffer) has begun `ticks` ticks, or was given up
+    // and has begun none since.
     pub(crate) fn are_near(&self, clock: usize, ticks: u64) -> bool
         requires { clock < 64 }
     {
@@ -77,7 +79,8 @@ impl Begun {
         true
     }
 
-    // Whether a clock has not begun `ticks` ticks, and was not given up since it began the last one.
+    // Whether others still wait for this clock: it has not begun `ticks` ticks, and was not given up since it began
+    // its last one.
     fn is_awaited(&self, clock: usize, ticks: u64) -> bool
         requires { clock < 64 }
     {
@@ -85,7 +88,7 @@ impl Begun {
         begun < ticks && begun != self.given_up[clock].load(Ordering::SeqCst)
     }
 
-    // Whether each clock that has one near it has begun `ticks` ticks.
+    // Whether each clock that a buffer joins to another has begun `ticks` ticks.
     pub(crate) fn have_all(&self, ticks: u64) -> bool {
         for k in 0..CLOCKS {
             let is_joined = self.near[k].load(Ordering::SeqCst) > 0;
@@ -96,7 +99,8 @@ impl Begun {
         true
     }
 
-    // Gives up the clocks near this one that have not begun `ticks` ticks; the clocks that waited for them go on.
+    // Gives up the clocks near this one (joined by a buffer) that have not begun `ticks` ticks, until they begin one;
+    // the clocks that waited for them go on.
     pub(crate) fn give_up(&self, clock: usize, ticks: u64)
         requires { clock < 64 }
     {
@@ -112,7 +116,7 @@ impl Begun {
         }
     }
 
-    // Wakes a clock, if it waits and has not to any longer.
+    // Wakes a clock that sleeps, if the clocks for which it waits have come or were given up.
     fn wake(&self, clock: usize)
         requires { clock < 64 }
     {
@@ -123,8 +127,8 @@ impl Begun {
         }
     }
 
-    // Waits until the clocks near this one have begun `ticks` ticks, in at most `sleeps` sleeps of `millis`
-    // milliseconds each; answers whether they have.
+    // Puts a clock to sleep until the clocks near it (joined by a buffer) have begun `ticks` ticks, at most `sleeps`
+    // times for `millis` milliseconds; answers whether they have, or were given up.
     pub(crate) fn wait<R: Wait>(
         &self,
         rt: &R,

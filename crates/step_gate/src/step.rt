@@ -60,14 +60,16 @@ impl<'a, R> StepGate<'a, R> {
         }
     }
 
-    // Notes that a wait for `ticks` ticks was in vain, before which `vain` were.
+    // Notes that a wait of a clock for others to begin `ticks` ticks was in vain, where `vain` waits were in vain
+    // before.
     fn tell_vain(&self, vain: u64, ticks: u64) {
         self.vain_ticks.fetch_max(ticks, Ordering::SeqCst);
         self.count_from(vain, vain.saturating_add(1));
     }
 
-    // Whether all has gone well for long, where a wait for `ticks` ticks was not in vain. That it was not says little:
-    // where some clocks run behind others, the last of each window find that all have come.
+    // Whether all clocks have gone well for long, so that waits may be long again, where a wait for `ticks` ticks was
+    // not in vain. That one says little: where some clocks run behind others, the last of each window find that all
+    // have come.
     fn is_calm(&self, ticks: u64) -> bool {
         ticks / 2 >= self.vain_ticks.load(Ordering::SeqCst).max(CALM) && self.begun.have_all(ticks)
     }
@@ -81,7 +83,8 @@ impl<'a, R> StepGate<'a, R> {
 }
 
 impl<R: Wait> StepGate<'_, R> {
-    // Waits for the clocks near this one to begin `ticks` ticks, perhaps in vain.
+    // Waits for the clocks that a buffer joins to this one to begin `ticks` ticks. Where it was in vain, they are
+    // given up, and later waits are shorter.
     fn wait(&self, clock: usize, ticks: u64)
         requires { clock < 64 }
     {
@@ -97,12 +100,15 @@ impl<R: Wait> StepGate<'_, R> {
 }
 
 impl<R: Wait> Gate for StepGate<'_, R> {
+    // Notes that a buffer joins clock `from` to clock `to`, so that each will wait for the other.
     fn join(&self, from: u32, to: u32) {
         if from < MAX_CLOCKS && to < MAX_CLOCKS {
             self.begun.join(from, to);
         }
     }
 
+    // Called as a clock begins its tick of this number: waits, for a while, until the clocks that a buffer joins to it
+    // have begun theirs.
     fn enter(&self, clock: u32, tick: u64) {
         if clock >= MAX_CLOCKS {
             return;

@@ -6,17 +6,17 @@ use Rattle.wav_io.specs.Reading.{Wav, read_of}
 use Rattle.wav_io.specs.declared.fault.WavFault.{WavFault}
 use Rattle.track_library.specs.Walk.{sound_of}
 
--- bytes were read as a WAV file
+-- the bytes of a file were read as a WAV file, without a fault
 abbrev pub IsReadable : Result Wav WavFault → Type 0
 IsReadable (Err fault) = ⊥
 IsReadable (Ok wav) = ⊤
 
--- the sound of a WAV file at `rate` samples a second; no sound where the bytes were read as none
+-- the sound that was read of a WAV file, at `rate` samples a second; no sound where the bytes are no WAV file
 abbrev pub sound_in : (rate : ℕ) → Result Wav WavFault → Sound
 sound_in rate (Err fault) = no_sound
 sound_in rate (Ok wav) = sound_of rate wav
 
--- these are the bytes of a WAV file, as many as one may have, which is played at this rate
+-- the bytes of an audio file that is used: a WAV file, as many bytes as one may have, to be played at this rate
 pub record IsUsed (rate : ℕ) (bytes : List ℕ) : Type 0 where
   pub least : 8000 ≤ rate
   pub most : rate ≤ 192000

@@ -12,11 +12,11 @@ use Rattle.track_library.specs.declared.rules.Rules.{Rules}
 use Rattle.track_library.specs.declared.fault.Unusable.{Unusable}
 use Rattle.track_library.specs.declared.fault.Unusable.TheVariants.{TooLong}
 
--- how many samples stand in `size` bytes of blocks
+-- how many samples stand in `size` bytes of audio data: three bytes each where they are `wide` (24 bits), else two
 abbrev pub samples_in : (wide : Bool) → (size : ℕ) → ℕ
 samples_in wide size = if wide then size / 3 else size / 2
 
--- how many blocks a file of this head has
+-- how many blocks a WAV file with this head has; a block is one sample for each channel
 abbrev pub blocks_in : Head → ℕ
 blocks_in head = samples_in head.wide head.size / channels_of head.kind
 
@@ -32,7 +32,8 @@ count_of_at_most most count = if nat_le count most then Ok count else Err TooLon
 abbrev pub head_count : Rules → Head → (size : ℕ) → Result ℕ Unusable
 head_count rules head size = count_of_at_most rules.file (max size (written_size head rules.rate))
 
--- these bytes are a WAV file of this head and so many bytes, or no WAV file, for this reason
+-- What is found in the bytes of a file: they are a WAV file with this head and of so many bytes, or no WAV file, for
+-- this reason.
 abbrev pub IsHeadIn : List ℕ → Result (Head × ℕ) Unusable → Type 0
 IsHeadIn bytes (Ok (head, size)) = IsHeadOf bytes head × (length bytes ≡ size)
 IsHeadIn bytes (Err fault) = wav_opened (Ok bytes) ≡ Err fault

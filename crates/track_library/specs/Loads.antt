@@ -34,7 +34,8 @@ pub record CanLoad (rules : Rules) (files : Files) (nodes : List Node) : Type 0 
   pub loaded : load_of rules files nodes ≡ Ok library
   pub sounds : IsLibrary library
 
--- why the audio files of the nodes are not loaded: this fault ends the walk over them
+-- why the audio files of these nodes are not loaded, between two states of the shelf: this fault ends the walk over
+-- them
 abbrev pub LoadEnds : (old new : ShelfTold) → Rules → List Node → LoadFault → Type 0
 LoadEnds old new rules nodes = Ends old new (λ files. LoadReads rules files nodes) (λ files. load_of rules files nodes)
 

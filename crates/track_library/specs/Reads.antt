@@ -8,11 +8,13 @@ use Rattle.track_library.specs.declared.rules.Rules.{Rules}
 use Rattle.track_library.specs.declared.fault.LoadFault.{LoadFault}
 use Rattle.track_library.specs.Walk.{Heard, Walked, entry_next, node_next, nothing_met, use_list, entry_of}
 
--- the file `read` is the one of this name, which was not met before
+-- the file `read` is the one of this name, which is not among the names met so far, so that it is read from the disk
+-- here
 abbrev pub FirstRead : {V : Type 0} → List (List ℕ × V) → List ℕ → List ℕ → Type 0
 FirstRead met name read = (read ≡ name) × (entry_of name met ≡ None)
 
--- the file `read` is read for the first time at one of these entries of a list; those before it have no fault
+-- the file `read` is read for the first time at one of these entries of a playlist, given what was met and played
+-- before them; those before it have no fault
 abbrev pub EntriesRead : Rules → Files → List (List ℕ) → Result (Heard × List ℕ) LoadFault → List ℕ → Type 0
 EntriesRead rules files [] played read = ⊥
 EntriesRead rules files (name ∷ names) (Err fault) read = ⊥
@@ -20,7 +22,8 @@ EntriesRead rules files (name ∷ names) (Ok (heard, leaf)) read =
     FirstRead heard.names name read
     ⊎ EntriesRead rules files names (entry_next rules files name (Ok (heard, leaf))) read
 
--- the file `read` is read for the first time at one of the entries of a list that has no fault itself
+-- The file `read` is read for the first time at one of the entries of a playlist. The list itself was read with these
+-- names, and has no fault.
 abbrev pub PlaylistReads : Rules → Files → Heard → Result (List (List ℕ × List (List ℕ)) × List (List ℕ)) LoadFault
     → List ℕ → Type 0
 PlaylistReads rules files heard (Err fault) read = ⊥

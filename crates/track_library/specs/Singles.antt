@@ -4,7 +4,7 @@ use Rattle.plan_core.specs.declared.node.Node.{Node}
 use Rattle.plan_core.specs.declared.node.Op.{Op}
 use Rattle.plan_core.specs.declared.node.Op.TheVariants.{Single}
 
--- a leaf has one file, if its node is a `single`
+-- if a node with this operator is a `single`, its leaf (the numbers of the files that it plays) has one file
 abbrev pub HasOne : Op → (leaf : List ℕ) → Type 0
 HasOne op leaf = (file : List ℕ) → op ≡ Single file → length leaf ≡ 1
 

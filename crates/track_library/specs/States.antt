@@ -26,7 +26,8 @@ named entries = map (λ e. (string_bytes e.0, e.1)) entries
 abbrev pub listed : List (String Global × Vec (List ℕ) Global) → List (List ℕ × List (List ℕ))
 listed entries = map (λ e. (string_bytes e.0, e.1.items)) entries
 
--- what was met, as the definitions have it: what each name is, the files that are used, and their bytes
+-- the audio files that were met, as the definitions have them: what each name is, the names of the files that are
+-- used, and for how many bytes these count
 abbrev pub heard_of : AudioFiles → Heard
 heard_of audio = record {
   names = named audio.names.entries;
@@ -38,7 +39,7 @@ heard_of audio = record {
 abbrev pub lists_of : ReadLists → List (List ℕ × List (List ℕ))
 lists_of read = listed read.lists.entries
 
--- the names of the list at a place
+-- the names in the list file at this place among those that were read; none past the end
 abbrev pub names_at : List (List ℕ × List (List ℕ)) → ℕ → List (List ℕ)
 names_at lists at = (slice_index_or lists at ([], [])).1
 
@@ -47,12 +48,13 @@ pub record IsHeard (heard : Heard) : Type 0 where
   pub numbers : All (λ e. IfOk e.1 (λ number. number < length heard.titles)) heard.names
   pub many : length heard.titles < 2 ^ 32
 
--- these sounds, and one more if there is one
+-- the kept sounds with this one behind them, if there is one; they stay as they are where sounds are not kept
 abbrev pub one_kept : List Sound → Option Sound → List Sound
 one_kept sounds None = sounds
 one_kept sounds (Some sound) = sounds ++ sound ∷ []
 
--- there is a sound, and it is that of the audio file of this name, where the shelf tells its files
+-- There is a sound, and it is a sound of whole blocks. Where the shelf tells its files, it is that of the audio file
+-- of this name.
 abbrev pub IsHeld : Rules → (told : Option Files) → (name : List ℕ) → Option Sound → Type 0
 IsHeld rules told name None = ⊥
 IsHeld rules told name (Some sound) = IsSound sound
@@ -77,24 +79,28 @@ pub record Keeps (rules : Rules) (told : Option Files) (old new : AudioFiles) : 
   pub same : new.keeps ≡ old.keeps
   pub kept : IsKept rules told old → IsKept rules told new
 
--- between two states, files were added alone; what was found is a fault, or the number of a file that is used
+-- Between two states of the audio files met, a name was looked up: files were added alone, and what was found is a
+-- fault, or the number of a file that is used.
 pub record Finds (old new : Heard) (found : Result ℕ Unusable) : Type 0 where
   pub heard : IsHeard new
   pub grew : length old.titles ≤ length new.titles
   pub number : IfOk found (λ number. number < length new.titles)
 
--- between two states, files were added alone; the numbers of the leaf, fewer than 2^32, are those of files
+-- Between two states of the audio files met, the files of one node were looked up: files were added alone, and the
+-- leaf of the node has numbers of files that are used, fewer than 2^32.
 pub record Plays (old new : Heard) (leaf : List ℕ) : Type 0 where
   pub heard : IsHeard new
   pub grew : length old.titles ≤ length new.titles
   pub below : All (λ number. number < length new.titles) leaf
   pub few : length leaf < 2 ^ 32
 
--- a leaf with the number of one more file, if that can be used
+-- the leaf of a playlist (the numbers of its files) with what was found for one more entry: a usable file is added, a
+-- fault is left out
 abbrev pub with_found : List ℕ → Result ℕ Unusable → List ℕ
 with_found leaf (Ok number) = leaf ++ number ∷ []
 with_found leaf (Err fault) = leaf
 
--- what a walk has read, as the definitions have it
+-- the state of the running walk as the definitions have it: the lists that it has read and the audio files that it has
+-- met
 abbrev pub walked_of : Walk → Walked
 walked_of walk = record { lists = lists_of walk.lists; heard = heard_of walk.audio }

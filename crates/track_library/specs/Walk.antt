@@ -23,12 +23,13 @@ use Rattle.track_library.specs.declared.fault.LoadFault.TheVariants.{Missing, Ba
 use Rattle.track_library.specs.declared.fault.Unusable.{Unusable}
 use Rattle.track_library.specs.declared.fault.Unusable.TheVariants.{NotThere, NotWav, TooLong}
 
--- the bytes of a file, if it is there and has at most `most`
+-- the bytes of a file as it was found on the shelf: refused as not there, or as too long where it has more than `most`
+-- bytes
 abbrev pub bytes_in : ℕ → Option (List ℕ) → Result (List ℕ) Unusable
 bytes_in most None = Err NotThere
 bytes_in most (Some bytes) = if nat_le (length bytes) most then Ok bytes else Err TooLong
 
--- the bytes that were read, as a list, or why there are none
+-- the bytes that a read answered, turned from a vector into a list; a read that failed keeps its fault
 abbrev pub items_of : Result (Vec ℕ Global) Unusable → Result (List ℕ) Unusable
 items_of (Err fault) = Err fault
 items_of (Ok bytes) = Ok bytes.items
@@ -45,31 +46,33 @@ sound_of rate wav = record {
 abbrev pub counted_bytes : ℕ → Sound → ℕ
 counted_bytes size sound = max size (44 + 2 * length sound.samples)
 
--- the sound of an audio file at the rate of the script, and how many bytes the file counts for
+-- the sound of an audio file at the rate of the script, with how many bytes the file counts for against the limits
 abbrev pub Audio : Type 0
 Audio = Sound × ℕ
 
--- an audio file, if it counts for at most `most` bytes
+-- an audio file with what it counts for, or the fault that it is too long where it counts for more than `most` bytes
 abbrev pub of_at_most : ℕ → Audio → Result Audio Unusable
 of_at_most most audio = if nat_le audio.1 most then Ok audio else Err TooLong
 
--- the audio of these bytes, which were read as a WAV file or not; or why they are of no use
+-- the audio of a file with these bytes, given whether they were read as a WAV file; or why the file is of no use: it
+-- is no WAV file, or it counts for more bytes than the rules let one file have
 abbrev pub audio_in : Rules → List ℕ → Result Wav WavFault → Result Audio Unusable
 audio_in rules bytes (Err fault) = Err (NotWav fault)
 audio_in rules bytes (Ok wav) = of_at_most rules.file
     (sound_of rules.rate wav, counted_bytes (length bytes) (sound_of rules.rate wav))
 
--- a WAV file, or why its bytes are none
+-- the answer of the WAV reader as the loader tells it: the WAV file, or the fault that the bytes are no WAV file
 abbrev pub wav_or_fault : Result Wav WavFault → Result Wav Unusable
 wav_or_fault (Err fault) = Err (NotWav fault)
 wav_or_fault (Ok wav) = Ok wav
 
--- the WAV file of these bytes, or why there is none
+-- the WAV file in the bytes of a file, if the file could be opened and its bytes are a WAV file; else the fault
 abbrev pub wav_opened : Result (List ℕ) Unusable → Result Wav Unusable
 wav_opened (Err fault) = Err fault
 wav_opened (Ok bytes) = wav_or_fault (read_of bytes)
 
--- the audio of a file whose bytes are these, or why it has none
+-- the audio of a file whose bytes were opened, or why it has none: it could not be opened, is no WAV file or is too
+-- long
 abbrev pub audio_opened : Rules → Result (List ℕ) Unusable → Result Audio Unusable
 audio_opened rules (Err fault) = Err fault
 audio_opened rules (Ok bytes) = audio_in rules bytes (read_of bytes)
@@ -84,7 +87,7 @@ abbrev pub sound_from : Result Audio Unusable → Sound
 sound_from (Err fault) = no_sound
 sound_from (Ok audio) = audio.0
 
--- how many bytes an audio file counts for, if it can be used
+-- how many bytes an audio file counts for (the second part of the pair), or the fault why it cannot be used
 abbrev pub count_of : {S : Type 0} → Result (S × ℕ) Unusable → Result ℕ Unusable
 count_of (Err fault) = Err fault
 count_of (Ok audio) = Ok audio.1
@@ -93,7 +96,7 @@ count_of (Ok audio) = Ok audio.1
 abbrev pub sounds_named : Rules → Files → List (List ℕ) → List Sound
 sounds_named rules files names = map (λ name. sound_from (audio_at rules files name)) names
 
--- the first value under this name
+-- the value of the first entry of a list of named values that has this name; none if no entry has it
 abbrev pub entry_of : {V : Type 0} → List ℕ → List (List ℕ × V) → Option V
 entry_of name [] = None
 entry_of name (entry ∷ entries) = if bytes_eq name entry.0 then Some entry.1 else entry_of name entries
@@ -105,8 +108,8 @@ pub record Heard : Type 0 where
   pub titles : List (List ℕ)
   pub bytes : ℕ
 
--- what was met with one new name, and what this is: its file is used if what it counts for fits with the others into
--- `all` bytes; a name that cannot be used is kept with its fault
+-- Meets a name that was not met before: what was met is extended by it. A usable file gets the next number, if what it
+-- counts for fits with the earlier ones into `all` bytes; a name that cannot be used is kept with its fault.
 abbrev pub first_use : ℕ → Heard → List ℕ → Result ℕ Unusable → Result (Heard × Result ℕ Unusable) LoadFault
 first_use all heard name (Err fault) = Ok (
   record {
@@ -128,7 +131,8 @@ first_use all heard name (Ok count) =
     )
     else Err AllTooLarge
 
--- what was met with this name, and what it is: a name that was met before is what it was then
+-- Meets a name. One that was met before is what it was then, and nothing changes; a new one is entered, with the
+-- number of bytes for which its file counts, or its fault.
 abbrev pub use_of : ℕ → Heard → List ℕ → Option (Result ℕ Unusable) → Result ℕ Unusable
     → Result (Heard × Result ℕ Unusable) LoadFault
 use_of all heard name (Some found) count = Ok (heard, found)
@@ -145,30 +149,34 @@ told_fault name NotThere = Missing name
 told_fault name (NotWav fault) = BadAudio name fault
 told_fault name TooLong = FileTooLarge name
 
--- a `single` plays its file; one that cannot be used is a fault of the plan
+-- the leaf of a `single` (the numbers of the files that a node plays): its one file; one that cannot be used is a
+-- fault of the plan
 abbrev pub single_leaf : List ℕ → Result (Heard × Result ℕ Unusable) LoadFault → Result (Heard × List ℕ) LoadFault
 single_leaf name (Err fault) = Err fault
 single_leaf name (Ok (heard, Err fault)) = Err (told_fault name fault)
 single_leaf name (Ok (heard, Ok number)) = Ok (heard, number ∷ [])
 
--- the leaf of a list with one more entry, if that can be used; an entry that cannot be is left out
+-- the leaf of a playlist (the numbers of the files that it plays) after one more entry was looked at: a usable one is
+-- added at the end, one that cannot be used is left out
 abbrev pub entry_played : List ℕ → Result (Heard × Result ℕ Unusable) LoadFault → Result (Heard × List ℕ) LoadFault
 entry_played leaf (Err fault) = Err fault
 entry_played leaf (Ok (heard, Err fault)) = Ok (heard, leaf)
 entry_played leaf (Ok (heard, Ok number)) = Ok (heard, leaf ++ number ∷ [])
 
--- what is met and played after one more entry of a list
+-- The files met, and the leaf of a playlist (the numbers of the files that it plays), after one more entry of its
+-- list. A fault that came before stays.
 abbrev pub entry_next : Rules → Files → List ℕ → Result (Heard × List ℕ) LoadFault → Result (Heard × List ℕ) LoadFault
 entry_next rules files name (Err fault) = Err fault
 entry_next rules files name (Ok (heard, leaf)) = entry_played leaf (use_audio rules files heard name)
 
--- what is met and played after these entries of a list, one after another
+-- The files met, and the leaf of a playlist (the numbers of the files that it plays), after these entries of its list,
+-- one after another.
 abbrev pub entries_played : Rules → Files → List (List ℕ) → Result (Heard × List ℕ) LoadFault
     → Result (Heard × List ℕ) LoadFault
 entries_played rules files [] played = played
 entries_played rules files (name ∷ names) played = entries_played rules files names (entry_next rules files name played)
 
--- the names of the list whose bytes these are, or the fault of a list that has none
+-- the names in the list file `name` with these bytes; where it could not be opened, that is a fault of the plan
 abbrev pub list_in : List ℕ → Result (List ℕ) Unusable → Result (List (List ℕ)) LoadFault
 list_in name (Err fault) = Err (told_fault name fault)
 list_in name (Ok bytes) = Ok (names_listed bytes)
@@ -178,38 +186,41 @@ pub record Walked : Type 0 where
   pub lists : List (List ℕ × List (List ℕ))
   pub heard : Heard
 
--- the lists that were read with this new one, and its names
+-- Enters a list file that was read for the first time: the lists read so far with this one behind them, and its names.
 abbrev pub first_list : List (List ℕ × List (List ℕ)) → List ℕ → Result (List (List ℕ)) LoadFault
     → Result (List (List ℕ × List (List ℕ)) × List (List ℕ)) LoadFault
 first_list lists name (Err fault) = Err fault
 first_list lists name (Ok names) = Ok (lists ++ (name, names) ∷ [], names)
 
--- the lists that were read and the names of this one: a list that was read before is what it was then
+-- The lists read so far and the names in this one. A list that was read before is not read again; a new one is
+-- entered.
 abbrev pub list_of : List (List ℕ × List (List ℕ)) → List ℕ → Option (List (List ℕ)) → Result (List (List ℕ)) LoadFault
     → Result (List (List ℕ × List (List ℕ)) × List (List ℕ)) LoadFault
 list_of lists name (Some names) fresh = Ok (lists, names)
 list_of lists name None fresh = first_list lists name fresh
 
--- the lists that were read once the list of this name was used, and its names
+-- The lists read once the list file of this name was used, and the names in it; a list may have at most 2^20 bytes.
 abbrev pub use_list : Files → List (List ℕ × List (List ℕ)) → List ℕ
     → Result (List (List ℕ × List (List ℕ)) × List (List ℕ)) LoadFault
 use_list files lists name = list_of lists name (entry_of name lists)
     (list_in name (bytes_in (2 ^ 20) (file_at files name)))
 
--- a step of a walk that read audio files: its lists stay
+-- what a walk has read, put together of its lists and of the audio files met; the leaf of the node goes with it
 abbrev pub with_lists : List (List ℕ × List (List ℕ)) → Result (Heard × List ℕ) LoadFault
     → Result (Walked × List ℕ) LoadFault
 with_lists lists (Err fault) = Err fault
 with_lists lists (Ok (heard, leaf)) = Ok (record { lists = lists; heard = heard }, leaf)
 
--- a `playlist` plays those entries of its list that can be used
+-- the leaf of a `playlist` (the numbers of the files that it plays): those entries of its list that can be used, in
+-- order
 abbrev pub playlist_leaf : Rules → Files → Heard → Result (List (List ℕ × List (List ℕ)) × List (List ℕ)) LoadFault
     → Result (Walked × List ℕ) LoadFault
 playlist_leaf rules files heard (Err fault) = Err fault
 playlist_leaf rules files heard (Ok (lists, names)) = with_lists lists
     (entries_played rules files names (Ok (heard, [])))
 
--- what was read once the files of a node were found, and their numbers
+-- What a walk has read once it came to a node of this operator, and the node's leaf: the numbers of the files that it
+-- plays, none unless it is a `single` or a `playlist`.
 abbrev pub leaf_of : Rules → Files → Op → Walked → Result (Walked × List ℕ) LoadFault
 leaf_of rules files (Single name) walked = with_lists walked.lists
     (single_leaf name (use_audio rules files walked.heard name))
@@ -217,24 +228,26 @@ leaf_of rules files (Playlist name again) walked = playlist_leaf rules files wal
     (use_list files walked.lists name)
 leaf_of rules files _ walked = Ok (walked, [])
 
--- the leaves of the nodes with one more: the files that the next node plays
+-- adds the leaf of the next node (the numbers of the files that it plays) behind the leaves of the earlier nodes
 abbrev pub leaf_added : List (List ℕ) → Result (Walked × List ℕ) LoadFault → Result (Walked × List (List ℕ)) LoadFault
 leaf_added leaves (Err fault) = Err fault
 leaf_added leaves (Ok (walked, leaf)) = Ok (walked, leaves ++ leaf ∷ [])
 
--- what was read, and the leaves, after one more node of the plan
+-- what was read, and the leaves of the nodes so far (for each the numbers of its files), after one more node of the
+-- plan
 abbrev pub node_next : Rules → Files → Node → Result (Walked × List (List ℕ)) LoadFault
     → Result (Walked × List (List ℕ)) LoadFault
 node_next rules files node (Err fault) = Err fault
 node_next rules files node (Ok (walked, leaves)) = leaf_added leaves (leaf_of rules files node.op walked)
 
--- what was read, and the leaves, after these nodes, one after another
+-- what was read, and the leaves of the nodes (for each the numbers of its files), after these nodes, one after another
 abbrev pub nodes_walked : Rules → Files → List Node → Result (Walked × List (List ℕ)) LoadFault
     → Result (Walked × List (List ℕ)) LoadFault
 nodes_walked rules files [] walked = walked
 nodes_walked rules files (node ∷ nodes) walked = nodes_walked rules files nodes (node_next rules files node walked)
 
--- the sounds of a plan once all nodes were met, or the first fault
+-- the library of a plan once all its nodes were walked: the sounds of the files, their names, and for each node the
+-- numbers of its files; or the first fault
 abbrev pub sounds_or_fault : Rules → Files → Result (Walked × List (List ℕ)) LoadFault → Result Sounds LoadFault
 sounds_or_fault rules files (Err fault) = Err fault
 sounds_or_fault rules files (Ok (walked, leaves)) = Ok (record {
@@ -247,7 +260,8 @@ sounds_or_fault rules files (Ok (walked, leaves)) = Ok (record {
 abbrev pub nothing_met : Walked
 nothing_met = record { lists = []; heard = record { names = []; titles = []; bytes = 0 } }
 
--- the library of a plan, or the first fault of the walk
+-- the library of a plan with these nodes: all sounds that they play, each file once, and which node plays which; or
+-- the first fault of the walk over them
 abbrev pub load_of : Rules → Files → List Node → Result Sounds LoadFault
 load_of rules files nodes = sounds_or_fault rules files (nodes_walked rules files nodes (Ok (nothing_met, [])))
 
@@ -271,7 +285,7 @@ IsReading file old new AllTooLarge = ⊥
 IsReading file old new (ReadFault name) = Rose old.reads new.reads × (name ≡ file)
 IsReading file old new Memory = ⊤
 
--- a step that reads nothing ends with this fault: its own, or that memory was refused
+-- a step that reads no file ends with this fault: it is the fault that the step itself answers, or memory was refused
 abbrev pub EndsAt : {X : Type 0} → Result X LoadFault → LoadFault → Type 0
 EndsAt step (Missing name) = step ≡ Err (Missing name)
 EndsAt step (BadAudio name fault) = step ≡ Err (BadAudio name fault)

@@ -37,15 +37,16 @@ pub struct AudioFiles {
 }
 
 impl AudioFiles {
-    /// What this name was found to be, if it was met before: the number of a file that is used, or why it cannot be.
+    /// What this name was found to be earlier on the walk: the number of a file that is used, or why it cannot be;
+    /// nothing where it is new.
     fn known(&self, name: &str) -> Option<Result<u32, Unusable>>
         ensures { result ≡ entry_of name.now (heard_of self.now).names }
     {
         self.names.get(name).copied()
     }
 
-    /// Notes what a name, which was not met before, was found to be: the number of a file that is used, or why it
-    /// cannot be.
+    /// Keeps in mind what a new name was found to be, so that it is read once: the number of a file that is used, or
+    /// why it cannot be.
     fn note(
         &mut self,
         alloc: Global,
@@ -144,7 +145,7 @@ impl AudioFiles {
     }
 }
 
-/// Adds a file to those that are kept, if there is one.
+/// Adds an audio file to those that are kept; nothing, where files are not kept and there is none.
 fn push_some(files: &mut Vec<Undecoded>, file: Option<Undecoded>) -> Result<(), Memory>
     ensures { OnOk result (files.new.items ≡ one_kept files.old.items file) }
 {
@@ -154,7 +155,8 @@ fn push_some(files: &mut Vec<Undecoded>, file: Option<Undecoded>) -> Result<(), 
     Ok(())
 }
 
-/// The number of a file or a list which comes after `count` others. Memory is refused from 2^32 - 1 others on.
+/// The number of a file or a list which comes after `count` others, as 32 bits. Memory is refused from 2^32 - 1 others
+/// on.
 pub fn new_number(count: usize) -> Result<u32, Memory>
     ensures number { IfOk result (λ number. number ≡ count) }
     ensures few { IfOk result (λ number. number + 1 < 2 ^ 32) }

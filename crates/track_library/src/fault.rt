@@ -53,12 +53,13 @@ pub enum Unusable {
 impl From<Memory> for LoadFault {
     ghost from_gives = { λ _ e. e ≡ faults.Memory };
 
+    // Refused memory as the fault of a load, so that `?` hands it on.
     fn from(_refused: Memory) -> LoadFault {
         LoadFault::Memory
     }
 }
 
-/// The fault of a plan that needs the file of this name, which cannot be used.
+/// The fault of a plan that needs the file of this name, made from why the file cannot be used.
 pub fn fault_of(alloc: Global, name: &str, fault: Unusable) -> Result<LoadFault, Memory>
     ensures { IfOk result (λ told. told ≡ told_fault name.now fault) }
 {
@@ -73,6 +74,7 @@ pub fn fault_of(alloc: Global, name: &str, fault: Unusable) -> Result<LoadFault,
 impl From<AllocError> for LoadFault {
     ghost from_gives = { λ _ e. e ≡ faults.Memory };
 
+    // Refused memory as the fault of a load, so that `?` hands it on.
     fn from(_refused: AllocError) -> LoadFault {
         LoadFault::Memory
     }
@@ -81,6 +83,7 @@ impl From<AllocError> for LoadFault {
 impl<T: Drop> From<AllocFailed<T>> for LoadFault {
     ghost from_gives = { λ _ e. e ≡ faults.Memory };
 
+    // Refused memory as the fault of a load, so that `?` hands it on.
     fn from(_refused: AllocFailed<T>) -> LoadFault {
         LoadFault::Memory
     }

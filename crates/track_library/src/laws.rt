@@ -3,7 +3,7 @@ ghost use Rattle.std.specs.Prelude.{◌≡◌, ◌≤◌, ℕ, List, length, Ok}
 ghost use Rattle.wav_io.specs.Reading.{Wav, read_of};
 ghost use Rattle.track_library.specs.Walk.{counted_bytes, samples_at, sound_of};
 
-/// A file at the rate of the script is loaded as it is, and counts for its own bytes.
+/// A law of loading: a file at the rate of the script is loaded as it is, and counts for its own bytes.
 pub fn own_rate_changes_nothing()
     ensures sound { (bytes : List ℕ) (wav : Wav) → length bytes ≤ 268435456 → read_of bytes ≡ Ok wav
         → sound_of wav.rate wav ≡ record { kind = wav.kind; samples = samples_at wav.wide wav.body } }

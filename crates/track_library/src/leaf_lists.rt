@@ -35,7 +35,7 @@ impl Model for LeafLists {
 }
 
 impl LeafLists {
-    /// The lists of the nodes before the first is added.
+    /// The lists of files that nodes play, before the first node is added.
     pub fn new(alloc: Global) -> LeafLists
         ensures { result ≡ [] }
     {
@@ -84,7 +84,7 @@ impl LeafLists {
         Ok(number)
     }
 
-    /// Hands out the lists, and for each node the number of its own.
+    /// Hands out the different lists of files that nodes play, and for each node the number of its list among them.
     pub fn into_lists(self) -> (Vec<Vec<u32>>, Vec<u32>)
         ensures lists { chosen_lists (map (λ v. v.items) result.0.items) result.1.items ≡ self }
         ensures there { All (λ number. number < length result.0.items) result.1.items }
@@ -98,7 +98,7 @@ impl LeafLists {
     }
 }
 
-// The number of a list again, if that list has the files of `leaf`.
+// The number of an earlier list, if there is one and it has the same files as `leaf`, so that two nodes can share it.
 fn if_same(lists: &[Vec<u32>], number: Option<u32>, leaf: &[u32]) -> Option<u32>
     ensures { IfSome result (λ number. (number < length lists.now)
         × (slice_index_or (map (λ v. v.items) lists.now) number [] ≡ leaf.now)) }

@@ -25,7 +25,7 @@ pub fn read_list(alloc: Global, bytes: &[u8]) -> Result<Vec<Text>, Memory>
     Ok(names)
 }
 
-/// The bytes after the byte order mark at their start; all bytes where there is none.
+/// The bytes of a list file after the byte order mark at their start; all bytes where there is none.
 pub fn cut_mark(bytes: &[u8]) -> &[u8]
     ensures { result.now ≡ without_mark bytes.now }
 {
@@ -35,7 +35,7 @@ pub fn cut_mark(bytes: &[u8]) -> &[u8]
     }
 }
 
-/// The first line of some bytes, and what comes after its LF.
+/// The first line of a list file's bytes, without its LF, and what comes behind the LF; the whole where there is none.
 pub fn cut_line(bytes: &[u8]) -> (&[u8], &[u8])
     requires { 0 < length bytes.now }
     ensures cut { lines bytes.now ≡ result.0.now ∷ lines result.1.now }
@@ -49,7 +49,7 @@ pub fn cut_line(bytes: &[u8]) -> (&[u8], &[u8])
     (bytes, &[])
 }
 
-/// The name in a line; nothing where the line is skipped.
+/// The name of an audio file in a line of a list; nothing where the line is skipped, as empty, a comment or not UTF-8.
 fn line_name(line: &[u8]) -> Option<&str>
     ensures { MatchOption result (is_name (without_cr line.now) ≡ false)
         (λ name. (is_name (without_cr line.now) ≡ true) × (name.now ≡ without_cr line.now)) }
@@ -64,7 +64,7 @@ fn line_name(line: &[u8]) -> Option<&str>
     }
 }
 
-/// The line without the CR at its end.
+/// The line of a list without the CR at its end, if it has one.
 pub fn cut_cr(line: &[u8]) -> &[u8]
     ensures { result.now ≡ without_cr line.now }
 {

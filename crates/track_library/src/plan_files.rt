@@ -29,7 +29,8 @@ impl Model for PlanFiles {
 }
 
 impl PlanFiles {
-    /// The files of a plan, their names, and the files that each node plays.
+    /// Puts together the audio files of a plan, not decoded: the files, their names, and the numbers of the files that
+    /// each node plays.
     pub fn new(files: Vec<Undecoded>, names: Vec<Text>, leaves: LeafLists) -> PlanFiles
         requires { IsLibrary (record { files = files.items; names = names.items; leaves = leaves }) }
         ensures { result ≡ record { files = files.items; names = names.items; leaves = leaves } }
@@ -56,7 +57,7 @@ impl PlanFiles {
     }
 }
 
-// The tracks of some files, in their order.
+// Decodes these audio files, one after another, into the tracks that the engine plays, in their order.
 fn decode_each(alloc: Global, files: Vec<Undecoded>) -> Result<Vec<Track>, Memory>
     ensures tracks { IfOk result (λ tracks. tracks.items ≡ files.items) }
 {

@@ -21,7 +21,8 @@ pub struct ReadLists {
 }
 
 impl ReadLists {
-    /// The place of the list of this name among those that were read; it is read where it was not read before.
+    /// The place of the list file of this name among those that were read on the walk; it is read where it was not
+    /// read before. A list that cannot be used is a fault.
     pub fn find<S: Shelf>(
         &mut self,
         alloc: Global,
@@ -60,7 +61,7 @@ impl ReadLists {
         Ok(at)
     }
 
-    /// The names of the list at a place.
+    /// The names of audio files in the list at this place among those that were read; none past the end.
     pub fn names(&self, at: usize) -> &[Text]
         requires { at < length (lists_of self.now) }
         ensures { result.now ≡ names_at (lists_of self.now) at }

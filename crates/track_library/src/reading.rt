@@ -27,7 +27,8 @@ const HEADER_BYTES: u64 = 44;
 /// How many of a file's first bytes are looked at.
 const FRONT_BYTES: u64 = 16_384;
 
-/// The bytes of the file of this name, if it is there and has at most `most`.
+/// Reads the whole file of this name from the shelf, if it is there and has at most `most` bytes; else why it cannot
+/// be used. A read that failed is a fault of the load.
 pub fn fetch<S: Shelf>(
     alloc: Global,
     shelf: &mut S,
@@ -50,7 +51,8 @@ pub fn fetch<S: Shelf>(
     }
 }
 
-/// The fault of a load for which the file of this name could not be read; want of memory may come in its place.
+/// The fault of a load whose file of this name could not be read; where there is no memory for the name, want of
+/// memory.
 fn read_fault(alloc: Global, name: &str) -> LoadFault
     ensures { (old new : ShelfTold) → Rose old.reads new.reads → IsReading name.now old new result }
 {
@@ -60,8 +62,8 @@ fn read_fault(alloc: Global, name: &str) -> LoadFault
     }
 }
 
-/// The head of the audio file of this name, and how many bytes it has, at most `most`, if it is there and is a WAV
-/// file. Where its first bytes tell its head, no more of it is asked for.
+/// The head of the WAV file of this name (its rate, channels and where its samples stand), and how many bytes it has,
+/// at most `most`. Where its first bytes tell its head, no more of it is asked for.
 pub fn find_head<S: Shelf>(
     alloc: Global,
     shelf: &mut S,
@@ -84,8 +86,8 @@ pub fn find_head<S: Shelf>(
     }
 }
 
-/// Adds the first bytes of the file of this name to an empty list, and answers how many bytes the file has, at most
-/// `most`.
+/// Reads the first bytes of the file of this name into the empty list `front`, and answers how many bytes the file
+/// has, at most `most`; or why it cannot be used.
 fn look_at_front<S: Shelf>(
     alloc: Global,
     shelf: &mut S,
@@ -107,7 +109,7 @@ fn look_at_front<S: Shelf>(
     }
 }
 
-/// The head of the audio file of this name, which is read whole, and how many bytes it has, at most `most`.
+/// The head of the WAV file of this name, for which it is read whole, and how many bytes it has, at most `most`.
 fn find_whole_head<S: Shelf>(
     alloc: Global,
     shelf: &mut S,
@@ -124,7 +126,7 @@ fn find_whole_head<S: Shelf>(
     }
 }
 
-/// The head of these bytes, and how many they are, if they are a WAV file.
+/// The head of the WAV file with these bytes, and how many they are; or the fault that they are no WAV file.
 fn head_in(bytes: &[u8]) -> Result<(Head, u64), Unusable>
     ensures { IsHeadIn bytes.now result }
 {
@@ -134,7 +136,8 @@ fn head_in(bytes: &[u8]) -> Result<(Head, u64), Unusable>
     }
 }
 
-/// How many bytes an audio file of these bytes and this head counts for, if one file may have so many.
+/// How many bytes an audio file with these bytes and this head counts for against the limits; too long, if for more
+/// than one file may.
 fn count_bytes(bytes: &[u8], head: Head, rules: Rules) -> Result<u64, Unusable>
     requires rules { AreRules rules }
     requires few { length bytes.now ≤ rules.file }
@@ -146,7 +149,8 @@ fn count_bytes(bytes: &[u8], head: Head, rules: Rules) -> Result<u64, Unusable>
     count_head(head, bytes.len() as u64, rules)
 }
 
-/// How many bytes a file with this head and of `size` bytes counts for, if one file may have so many.
+/// How many bytes a file with this head and of `size` bytes counts for against the limits: its own, or those of its
+/// sound at the rate of the script, whichever are more. Too long, if one file may not have so many.
 fn count_head(head: Head, size: u64, rules: Rules) -> Result<u64, Unusable>
     requires rules { AreRules rules }
     requires rate { 0 < head.rate }
@@ -161,7 +165,8 @@ fn count_head(head: Head, size: u64, rules: Rules) -> Result<u64, Unusable>
     Ok(counted)
 }
 
-/// The audio file of these bytes, and how many bytes it counts for, if it can be used.
+/// The audio file of these bytes, not decoded, and how many bytes it counts for; or why it cannot be used: it is no
+/// WAV file, or too long.
 fn use_bytes(bytes: Vec<u8>, rules: Rules) -> Result<(Undecoded, u64), Unusable>
     requires rules { AreRules rules }
     requires few { length bytes.items ≤ rules.file }
@@ -189,7 +194,7 @@ pub fn written_bytes(head: Head, to: u32) -> u64
     HEADER_BYTES + block * resample::length(block_count(head), head.rate, to)
 }
 
-/// How many blocks a file of this head has.
+/// How many blocks a WAV file with this head has; a block is one sample for each channel.
 pub fn block_count(head: Head) -> u64
     requires blocks { AreWhole head.wide head.kind head.size }
     requires few { head.size ≤ 268435456 }
@@ -200,15 +205,15 @@ pub fn block_count(head: Head) -> u64
     sample_count(head.wide, head.size) / u64::from(head.kind.channels())
 }
 
-/// How many samples stand in `size` bytes of blocks: of three bytes each where they are wide, and else of two.
+/// How many samples stand in `size` bytes of audio data: three bytes each where they are wide (24 bits), and else two.
 fn sample_count(wide: bool, size: u64) -> u64
     ensures { result ≡ samples_in wide size }
 {
     if wide { size / 3 } else { size / 2 }
 }
 
-/// The audio file of this name, and how many bytes it counts for, if it can be used. Whether it can is known from its
-/// bytes alone: no memory is taken for its samples.
+/// Reads the audio file of this name, not decoded, and answers how many bytes it counts for; or why it cannot be used.
+/// That is known from its bytes alone: no memory is taken for its samples.
 fn read_audio<S: Shelf>(
     alloc: Global,
     shelf: &mut S,
@@ -228,7 +233,8 @@ fn read_audio<S: Shelf>(
     }
 }
 
-/// How many bytes the audio file of this name counts for, if it can be used. It is not kept, and is known by its head.
+/// How many bytes the audio file of this name counts for, or why it cannot be used. The file is not kept: its head is
+/// enough.
 fn count_audio<S: Shelf>(
     alloc: Global,
     shelf: &mut S,
@@ -247,7 +253,8 @@ fn count_audio<S: Shelf>(
     }
 }
 
-/// The audio file of this name, if it is kept, and how many bytes it counts for, if it can be used.
+/// How many bytes the audio file of this name counts for, and where `keeps` is true the file itself, not decoded; or
+/// why it cannot be used.
 pub fn find_audio<S: Shelf>(
     alloc: Global,
     shelf: &mut S,

@@ -11,8 +11,8 @@ use resample::{Blocks, Changed};
 use std::alloc::Global;
 use wav_io::Head;
 
-/// The track of the WAV file of this head, played at `rate`, from 8000 to 192000 samples a second. Samples of another
-/// rate, and those of 16 bits, stay in the bytes of the file.
+/// The track that the engine plays of a WAV file with these bytes and this head, at `rate` samples a second, from 8000
+/// to 192000. Samples of another rate, and those of 16 bits, stay in the bytes of the file.
 pub fn track_of(alloc: Global, bytes: Vec<u8>, head: Head, rate: u32) -> Result<Track, Memory>
     requires head { IsHeadOf bytes.items head }
     requires few { length bytes.items ≤ 268435456 }
@@ -29,7 +29,8 @@ pub fn track_of(alloc: Global, bytes: Vec<u8>, head: Head, rate: u32) -> Result<
     Ok(own_track(bytes, head))
 }
 
-// The track of a WAV file that is played at another rate than it has, at `rate`.
+// The track of a WAV file whose own rate is another than `rate`, at which it is played: each sample is made where it
+// is read.
 fn changed_track(bytes: Vec<u8>, head: Head, rate: u32) -> Track
     requires head { IsHeadOf bytes.items head }
     requires few { length bytes.items ≤ 268435456 }
@@ -58,7 +59,7 @@ fn wide_track(alloc: Global, bytes: Vec<u8>, head: Head) -> Result<Track, Memory
     Ok(Track::new(head.kind, samples))
 }
 
-// The blocks of a file of this head.
+// The audio data (the blocks of samples) in the bytes of a WAV file with this head.
 fn body_of(bytes: &[u8], head: Head) -> &[u8]
     requires { head.at + head.size ≤ length bytes.now }
     ensures { result.now ≡ (wav_at bytes.now head).body }
@@ -67,7 +68,7 @@ fn body_of(bytes: &[u8], head: Head) -> &[u8]
     &behind[..head.size as usize]
 }
 
-// The track of a file of 16 bits at its own rate.
+// The track of a file of 16 bits at its own rate, whose samples stay in the bytes of the file.
 fn own_track(bytes: Vec<u8>, head: Head) -> Track
     requires head { IsHeadOf bytes.items head }
     requires few { length bytes.items ≤ 268435456 }

@@ -35,7 +35,8 @@ impl Model for Undecoded {
 }
 
 impl Undecoded {
-    /// The file of these bytes, which have this head, at this rate, from 8000 to 192000 samples a second.
+    /// The audio file with these bytes and this head, kept as it was read, to be played at this rate, from 8000 to
+    /// 192000 samples a second.
     pub fn new(bytes: Vec<u8>, head: Head, rate: u32) -> Undecoded
         requires used { IsUsed rate bytes.items }
         requires head { IsHeadOf bytes.items head }

@@ -32,7 +32,7 @@ pub struct Walk {
 }
 
 impl Walk {
-    /// A walk that has read nothing; `keeps` says whether it keeps the files that are used.
+    /// A walk over a plan's nodes that has read nothing; `keeps` says whether it keeps the audio files that are used.
     fn new(alloc: Global, keeps: bool) -> Walk
         ensures unread { walked_of result ≡ nothing_met }
         ensures keeps { result.audio.keeps ≡ keeps }
@@ -52,7 +52,8 @@ impl Walk {
         }
     }
 
-    /// The files that a node of this operator plays, by their numbers; none where it plays no files.
+    /// The leaf of a node with this operator: the numbers of the audio files that it plays, which are read where they
+    /// were not met before. It is empty where the node plays no files.
     fn find_leaf<S: Shelf>(
         &mut self,
         alloc: Global,
@@ -83,7 +84,8 @@ impl Walk {
         }
     }
 
-    /// The files that were used and kept, with the files that each node plays.
+    /// Ends the walk: the audio files that were used and kept, their names, and with them the leaves, the numbers of
+    /// the files that each node plays.
     fn into_files(self, leaves: LeafLists) -> PlanFiles
         requires { IsLibrary (record {
           files = self.audio.files.items;
@@ -201,7 +203,8 @@ fn walk_nodes<S: Shelf>(
     Ok(())
 }
 
-/// The file that a `single` of this name plays, by its number, alone in a list.
+/// The leaf of a `single` of this name: the number of its file, alone in a list. A file that cannot be used is a
+/// fault.
 fn find_single<S: Shelf>(
     alloc: Global,
     shelf: &mut S,
@@ -233,7 +236,8 @@ fn find_single<S: Shelf>(
     }
 }
 
-/// Adds the number of a file that can be used; one that cannot is left out.
+/// Adds to the leaf of a playlist the number of what was found for an entry, if it can be used; else the entry is left
+/// out.
 fn push_found(leaf: &mut Vec<u32>, found: Result<u32, Unusable>) -> Result<(), Memory>
     ensures { OnOk result (leaf.new.items ≡ with_found leaf.old.items found) }
 {
@@ -243,7 +247,7 @@ fn push_found(leaf: &mut Vec<u32>, found: Result<u32, Unusable>) -> Result<(), M
     Ok(())
 }
 
-/// The files of a list's entries that can be used, by their numbers, in the order of the entries.
+/// The leaf of a playlist with these entries: the numbers of the files among them that can be used, in their order.
 fn play_entries<S: Shelf>(
     alloc: Global,
     shelf: &mut S,

@@ -9,7 +9,8 @@ use Rattle.typing_rules.specs.Table.{signature}
 use Rattle.type_instances.specs.Schemes.{Scheme, open_numbers}
 use Rattle.type_steps.specs.Environment.{Found, Known, Pending, TextUse, function, of_def, of_term, value}
 
--- the number of an open kind in the text of a def, as a list; empty for a kind that is a term
+-- the number of an open kind in the text of a def, one that each call gives, as a list; empty for a kind that is a
+-- term
 abbrev pub open_in : Pending → List ℕ
 open_in (of_term k) = []
 open_in (of_def j) = j ∷ []
@@ -18,32 +19,36 @@ open_in (of_def j) = j ∷ []
 abbrev pub opens_in : List TextUse → List ℕ
 opens_in us = flat_map (λ u. flat_map open_in u.kinds) us
 
--- how many open kinds a text has, if each new one has the next number; nothing if they are numbered otherwise
+-- how many open kinds the text of a def has, if each new one has the next number; nothing if they are numbered
+-- otherwise
 abbrev pub text_count : List TextUse → Option ℕ
 text_count us = numbered_on 0 (opens_in us)
 
--- how many open kinds a general type has
+-- how many open kinds a general type of a def has: those that each call gives and that a use in the text of the def
+-- takes
 abbrev pub scheme_count : Scheme → ℕ
 scheme_count g = length (open_numbers 0 g.kinds)
 
--- how many open kinds the newest def has whose name stands at token t
+-- how many open kinds the newest def has among the known bindings whose name stands at token t; none if there is no
+-- such def
 abbrev pub count_at : ℕ → List Known → Option ℕ
 count_at t [] = None
 count_at t (value x u ∷ ks) = count_at t ks
 count_at t (function d us ∷ ks) = cond (nat_eq (def_token d) t) (text_count us) (count_at t ks)
 
--- a use of this target has n kinds: a value has none, and a def or a builtin has its open ones
+-- A use of a name with this target has n kinds: a value has none, a def as many as its text has open ones, and a
+-- builtin as many as its signature has. `ks` has the defs that are known.
 abbrev pub HasCount : List Known → Target → ℕ → Type 0
 HasCount ks (target.Slot t) n = n ≡ 0
 HasCount ks (target.Def t) n = count_at t ks ≡ Some n
 HasCount ks (target.Builtin b) n = n ≡ (signature b).kinds
 
--- each use that was found has as many kinds as its target has open ones
+-- each use that was found outside of defs has as many kinds as its target has open ones, where the defs ks are known
 abbrev pub AreCounted : List Known → List Found → Type 0
 AreCounted ks [] = ⊤
 AreCounted ks (f ∷ fs) = HasCount ks f.target (length f.kinds) × AreCounted ks fs
 
--- each use in a text has as many kinds as its target has open ones
+-- each use in the text of a def has as many kinds as its target has open ones, where the defs ks are known
 abbrev pub IsTextCounted : List Known → List TextUse → Type 0
 IsTextCounted ks [] = ⊤
 IsTextCounted ks (u ∷ us) = HasCount ks u.target (length u.kinds) × IsTextCounted ks us

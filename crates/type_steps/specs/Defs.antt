@@ -48,11 +48,12 @@ pub record IsTypingOf (s : Table) (targets : Targets) (before : List Known) (d :
       → DefHas (sight targets kinds (entries_under a before) []) d ts r →
       (opens : List Kind) × IsInstance g a ts r opens × IsTextTaken a kinds before opens us
 
--- each solution of s at which the def has a typing agrees with a solution of s' on the variables of s
+-- from s to s' no typing of the def d is lost: each solution of s at which it has one agrees with a solution of s' on
+-- the variables of s
 abbrev pub KeepsTypings : Table → Table → Targets → List Known → Tree ADef → Type 0
 KeepsTypings s s' targets before d = (a : Assignment) → Solves a s → HasSome targets (entries_under a before) d
     → (b : Assignment) × Solves b s' × Agrees s a b
 
--- at no solution has the def a typing
+-- the def d has no typing at any solution of the substitution s, given the names' meanings and the bindings before it
 abbrev pub HasNoTyping : Table → Targets → List Known → Tree ADef → Type 0
 HasNoTyping s targets before d = (a : Assignment) → Solves a s → HasSome targets (entries_under a before) d → ⊥

@@ -59,23 +59,24 @@ term_before t [] = None
 term_before t (value x u ∷ ks) = cond (nat_eq x t) (Some u) (term_before t ks)
 term_before t (function d us ∷ ks) = term_before t ks
 
--- the first of two terms, or the second where there is no first
+-- the first of two types of a name, or the second where there is no first: an inner binding hides an outer one
 abbrev pub or_else : Option Term → Option Term → Option Term
 or_else (Some u) o = Some u
 or_else None o = o
 
--- the type of the binding whose name stands at token t: an inner one, or one of a statement
+-- the type of the binding whose name stands at token t, as an expression sees it: an inner one, or one of a statement
 abbrev pub term_seen : ℕ → Env → Option Term
 term_seen t env = or_else (term_at t env.inner) (term_before t env.before)
 
 -- ---- what is seen, under an assignment to the variables
 
--- a pending kind under an assignment: a kind, or the number of an open kind
+-- a kind of a use in the text of a def, once the variables have their values: a fixed kind, or still the number of an
+-- open kind of the def
 abbrev pub settled : Assignment → Pending → KindOf
 settled a (of_term k) = Fixed (kind_meaning a k)
 settled a (of_def j) = Given j
 
--- a use in a text under an assignment
+-- a use of a name in the text of a def, once the variables have their values by the assignment
 abbrev pub settled_use : Assignment → TextUse → Use
 settled_use a u = record { at = u.at; target = u.target; kinds = map (settled a) u.kinds }
 
@@ -85,7 +86,7 @@ entries_under a [] = []
 entries_under a (value t u ∷ ks) = entry.value t (meaning a u) ∷ entries_under a ks
 entries_under a (function d us ∷ ks) = entry.function d ∷ entries_under a ks
 
--- parameters and inner bindings under an assignment, by their tokens
+-- the types of parameters and inner bindings, each by the token of its name, once the variables have their values
 abbrev pub types_under : Assignment → List (ℕ × Term) → TypesByToken
 types_under a ts = map (λ x. (x.0, meaning a x.1)) ts
 
@@ -95,7 +96,7 @@ sight_under env a kinds = within (types_under a env.inner) (sight env.targets ki
 
 -- ---- what the uses say of the kinds at the places
 
--- the uses in the texts of defs, by the tokens of the defs, the newest first
+-- the uses in the texts of defs, each text under the token of its def's name, the newest def first
 abbrev pub Texts : Type 0
 Texts = List (ℕ × List Use)
 
@@ -105,21 +106,22 @@ texts_under a [] = []
 texts_under a (value t u ∷ ks) = texts_under a ks
 texts_under a (function d us ∷ ks) = (def_token d, map (settled_use a) us) ∷ texts_under a ks
 
--- A use of a target at token `at` behind a chain of calls has the open kinds ks: at a builtin's place are these, and a
--- call of a def leads to the places of its text.
+-- A use of a name at token `at`, reached by a chain of calls, has the open kinds ks at its place: a builtin's are
+-- these, a call of a def has them and goes on to the places of its text (by `calls`), and a value has none.
 abbrev pub Takes : (List ℕ → ℕ → List Kind → Type 0) → Places → List ℕ → ℕ → Target → List Kind → Type 0
 Takes calls kinds chain at (target.Slot t) ks = ⊤
 Takes calls kinds chain at (target.Def t) ks = (js : List Kind) × (kinds chain at ≡ Some js) × calls (at ∷ chain) t ks
 Takes calls kinds chain at (target.Builtin b) ks = kinds chain at ≡ Some ks
 
--- each use in a text has its kinds at the places behind a chain of calls, where the text's own open kinds are given
+-- Each use in the text of a def has its kinds at its place, reached by a chain of calls, where the open kinds of the
+-- def are `given`; `calls` says what a call of a def asks for.
 abbrev pub TextTakes : (List ℕ → ℕ → List Kind → Type 0) → Places → List ℕ → List Kind → List Use → Type 0
 TextTakes calls kinds chain given [] = ⊤
 TextTakes calls kinds chain given (u ∷ us) = ((ks : List Kind) × (kinds_of given u.kinds ≡ Some ks)
     × Takes calls kinds chain u.at u.target ks) × TextTakes calls kinds chain given us
 
--- the places behind a chain that ends in a call of the def at token t, with the open kinds ks, have the kinds of the
--- uses in its text; of a def that is not among the texts there is no call
+-- A call of the def at token t, at the end of this chain of calls, has the open kinds ks: the places in the text of
+-- the def have the kinds of its uses. A def that is not among the texts cannot be called.
 abbrev pub CallTakes : Texts → Places → List ℕ → ℕ → List Kind → Type 0
 CallTakes [] kinds chain t ks = ⊥
 CallTakes (x ∷ xs) kinds chain t ks =
@@ -128,27 +130,27 @@ CallTakes (x ∷ xs) kinds chain t ks =
       | false ↦ CallTakes xs kinds chain t ks
     ]
 
--- each use that was found has its kinds at the places, under an assignment
+-- each use that was found has its kinds at its place, at the assignment a; xs has the uses in the texts of the defs
 abbrev pub EachTakes : Texts → Places → Assignment → List Found → Type 0
 EachTakes xs kinds a [] = ⊤
 EachTakes xs kinds a (f ∷ fs) = Takes (CallTakes xs kinds) kinds [] f.at f.target (map (kind_meaning a) f.kinds)
     × EachTakes xs kinds a fs
 
--- at the places of what is being typed, the kinds are those of the uses that were found
+-- the kinds that stand at the places of the uses fs are those that inference found for them, at the assignment a
 abbrev pub AreFound : Env → Assignment → Places → List Found → Type 0
 AreFound env a kinds fs = EachTakes (texts_under a env.before) kinds a fs
 
--- the uses with one more, of this target at token `at` with these kinds
+-- the uses found so far with one more behind them: of the name at token `at`, which means t, with the kinds ks
 abbrev pub with_use : List Found → ℕ → Target → List KindTerm → List Found
 with_use fs at t ks = fs ++ record { at = at; target = t; kinds = ks } ∷ []
 
 -- ---- over the variables of a substitution
 
--- a kind term has only variables of the substitution
+-- a kind that may be a variable has only variables of the substitution s
 abbrev pub IsKindOver : Table → KindTerm → Type 0
 IsKindOver s k = InKind (λ n. n < length s.kinds) k
 
--- each kind term has only variables of the substitution
+-- each of these kinds, which may be variables, has only variables of the substitution s
 abbrev pub AreKindsOver : Table → List KindTerm → Type 0
 AreKindsOver s [] = ⊤
 AreKindsOver s (k ∷ ks) = IsKindOver s k × AreKindsOver s ks
@@ -158,12 +160,12 @@ abbrev pub AreUsesOver : Table → List Found → Type 0
 AreUsesOver s [] = ⊤
 AreUsesOver s (f ∷ fs) = AreKindsOver s f.kinds × AreUsesOver s fs
 
--- a pending kind has only variables of the substitution
+-- a kind of a use in a def's text has only variables of the substitution; an open kind has none
 abbrev pub IsPendingOver : Table → Pending → Type 0
 IsPendingOver s (of_term k) = IsKindOver s k
 IsPendingOver s (of_def j) = ⊤
 
--- each pending kind has only variables of the substitution
+-- each of these kinds of a use in a def's text has only variables of the substitution
 abbrev pub ArePendingOver : Table → List Pending → Type 0
 ArePendingOver s [] = ⊤
 ArePendingOver s (k ∷ ks) = IsPendingOver s k × ArePendingOver s ks

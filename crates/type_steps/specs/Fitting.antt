@@ -8,11 +8,12 @@ use Rattle.name_scope.specs.Seen.{left_of, seen_label}
 use Rattle.name_scope.specs.declared.labels.Labels.{Labels}
 use Rattle.type_steps.specs.declared.arguments.Argument.{Argument}
 
--- an argument as its label and its type variable
+-- an argument of a call as its label, if any, and the number of the variable that is its type
 abbrev pub seen_argument : Argument → GivenArgument ℕ
 seen_argument g = (seen_label g.label, g.var)
 
--- A parameter of type t takes an argument of this type, or it takes none and need not have one.
+-- The parameter p, whose type is t, takes what a call gives for it: an argument of this type, or none where it need
+-- not have one.
 abbrev pub FitsOne : Parameter → Option Ground → Ground → Type 0
 FitsOne p None t = is_needed p.form ≡ false
 FitsOne p (Some g) t = g ≡ t
@@ -22,10 +23,11 @@ abbrev pub IsInside : Table → Option ℕ → Type 0
 IsInside s None = ⊤
 IsInside s (Some n) = n < length s.types
 
--- the type variable of the argument at index i; 0 if there is none
+-- the type variable of the argument of a call at index i; 0 if there is none
 abbrev pub var_at : List Argument → ℕ → ℕ
 var_at gs i = get_or (map (λ g. g.var) gs) i 0
 
--- the arguments gs that are left in a table of their labels
+-- the arguments of a call that no parameter has taken yet, from the table of labels t: each with its label and type
+-- variable
 abbrev pub left_given : List Argument → Labels → List (GivenArgument ℕ)
 left_given gs t = map (on (var_at gs)) (left_of t)

@@ -14,22 +14,26 @@ use Rattle.typing_rules.specs.Typing.{Has, EachHas, HaveAll, AreGiven, Applied}
 use Rattle.typing_rules.specs.Scripts.{Places}
 use Rattle.type_steps.specs.Environment.{Env, Found, AreFound, AreUsesOver, AreKindsOver, Takes, CallTakes, sight_under, texts_under}
 
--- a solution of s' that agrees with `a` on the variables of s, at which Q holds
+-- from a solution `a` of the substitution s, a solution of s' was reached: it agrees with `a` on the variables of s,
+-- and the condition Q holds at it
 pub record Reached (s s' : Table) (a : Assignment) (Q : Assignment → Type 0) : Type 0 where
   pub at : Assignment
   pub solves : Solves at s'
   pub agrees : Agrees s a at
   pub holds : Q at
 
--- at an assignment, the term u is the type g and the uses fs have their kinds at the places
+-- what inference found of an expression is right at assignment b: its term u means the type g, and the uses fs of
+-- names in it have the kinds that stand at the places
 abbrev pub FoundAs : Env → Places → Term → Ground → List Found → Assignment → Type 0
 FoundAs env kinds u g fs b = (meaning b u ≡ g) × AreFound env b kinds fs
 
--- at an assignment, the uses fs have their kinds at the places
+-- the uses fs of names that inference has found are right at assignment b: they have the kinds that stand at the
+-- places
 abbrev pub Uses : Env → Places → List Found → Assignment → Type 0
 Uses env kinds fs b = AreFound env b kinds fs
 
--- at an assignment, the terms us are the types gs and the uses fs have their kinds at the places
+-- what inference found of several expressions is right at assignment b: their terms us mean the types gs, and the uses
+-- fs of names in them have the kinds that stand at the places
 abbrev pub AllAs : Env → Places → Terms → Grounds → List Found → Assignment → Type 0
 AllAs env kinds us gs fs b = (meanings b us ≡ gs) × AreFound env b kinds fs
 
@@ -85,16 +89,17 @@ abbrev pub HaveNoTypes : Table → Env → Tree (Many AFull) → List Found → 
 HaveNoTypes s env es old = (a : Assignment) → Solves a s → (kinds : Places) (gs : Grounds)
     → HaveAll (sight_under env a kinds) es gs → AreFound env a kinds old → ⊥
 
--- the arguments of a call by label, each with the type that its variable has under an assignment
+-- the arguments of a call by label, each with the type that its variable has under the assignment a
 abbrev pub given_under : Assignment → List (GivenArgument ℕ) → List (GivenArgument Ground)
 given_under a gs = map (λ g. (g.0, a.type_of g.1)) gs
 
--- at an assignment, the arguments gs have the types in hs and the uses fs have their kinds at the places
+-- what inference found of a call's arguments is right at assignment b: their variables, gs, mean the types in hs, and
+-- the uses fs of names in them have the kinds that stand at the places
 abbrev pub GivenAs : Env → Places → List (GivenArgument ℕ) → List (GivenArgument Ground) → List Found → Assignment
     → Type 0
 GivenAs env kinds gs hs fs b = (given_under b gs ≡ hs) × AreFound env b kinds fs
 
--- the type variable of each argument is one of the substitution
+-- the type variable of each argument of a call is one of the substitution s
 abbrev pub AreInside : Table → List (GivenArgument ℕ) → Type 0
 AreInside s [] = ⊤
 AreInside s (g ∷ gs) = (g.1 < length s.types) × AreInside s gs
@@ -125,11 +130,12 @@ pub record Restricts (s s' : Table) (C : Assignment → Type 0) : Type 0 where
   pub sound : (a : Assignment) → Solves a s' → C a
   pub complete : (a : Assignment) → Solves a s → C a → (b : Assignment) × Solves b s' × Agrees s a b
 
--- the condition C holds at no solution of s
+-- the condition C on the values of type variables holds at no solution of the substitution s, so it cannot be met
 abbrev pub Never : Table → (Assignment → Type 0) → Type 0
 Never s C = (a : Assignment) → Solves a s → C a → ⊥
 
--- C was made to hold from s to s' if the answer is true; if it is false, C holds at no solution of s
+-- The answer of a step that makes the condition C hold: if it is true, C holds from s to s' and no solution at which C
+-- holds is lost; if it is false, C holds at no solution of s.
 abbrev pub IsMade : Bool → Table → Table → (Assignment → Type 0) → Type 0
 IsMade true s s' C = Restricts s s' C
 IsMade false s s' C = Never s C
@@ -141,14 +147,14 @@ pub record Defines (s s' : Table) (n : ℕ) (t : Term) : Type 0 where
   pub sound : (a : Assignment) → Solves a s' → a.type_of n ≡ meaning a t
   pub complete : (a : Assignment) → Solves a s → (b : Assignment) × Solves b s' × Agrees s a b
 
--- P is asked for only if there are any more operands
+-- P, but only where n operands are left and n is not 0; nothing is asked where no operand is left
 abbrev pub IfMany : ℕ → Type 0 → Type 0
 IfMany zero P = ⊤
 IfMany (suc n) P = P
 
 -- ---- calls
 
--- each term has only variables of the substitution
+-- each of these types has only variables of the substitution s
 abbrev pub AreTermsOver : Table → List Term → Type 0
 AreTermsOver s [] = ⊤
 AreTermsOver s (t ∷ ts) = IsOver s t × AreTermsOver s ts
@@ -191,7 +197,7 @@ abbrev pub IsTypeOf : Table → Table → Env → {r : Sort} → Tree r → List
 IsTypeOf s s' env e old new None = HasNoType s env e old
 IsTypeOf s s' env e old new (Some n) = Infers s s' env e (variable n) old new
 
--- whether expressions were all made to have type variable n as their type
+-- by an answer: whether all these expressions were made to have type variable n as their type, or cannot all have it
 abbrev pub AreJoined : Table → Table → Env → {r : Sort} → Tree (Many r) → ℕ → List Found → List Found → Bool → Type 0
 AreJoined s s' env es n old new false = HaveNoType s env es (variable n) old
 AreJoined s s' env es n old new true = InfersEach s s' env es (variable n) old new
@@ -207,7 +213,7 @@ abbrev pub AreGivenOf : Table → Table → Env → Tree (Many AnArg) → List F
 AreGivenOf s s' env es old new None = HaveNoGiven s env es old
 AreGivenOf s s' env es old new (Some gs) = InfersGiven s s' env es gs old new
 
--- the number n if the answer is true, and otherwise nothing
+-- the number n of a type variable, as a step answers it that went well; nothing where it did not
 abbrev pub if_yes : Bool → ℕ → Option ℕ
 if_yes true n = Some n
 if_yes false n = None

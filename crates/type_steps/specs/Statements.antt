@@ -23,7 +23,8 @@ pub data Done : Type 0 where
 
 -- ---- what is known behind statements, the newest first
 
--- what is known behind a statement that left this
+-- the bindings known behind a statement: what the statement left, if it binds a value or a def, before those known so
+-- far
 abbrev pub known_with : Done → List Known → List Known
 known_with (bound t u fs) ks = value t u ∷ ks
 known_with (defined d us) ks = function d us ∷ ks
@@ -38,13 +39,13 @@ known_after ks (x ∷ xs) = known_after (known_with x ks) xs
 abbrev pub known_of : List Done → List Known
 known_of xs = known_after [] xs
 
--- no def among these has its name at the token of the name of d
+-- the def d is new among the known bindings: no def of these has its name at the same token
 abbrev pub IsNewDef : List Known → Tree ADef → Type 0
 IsNewDef [] d = ⊤
 IsNewDef (value t u ∷ ks) d = IsNewDef ks d
 IsNewDef (function e us ∷ ks) d = (def_token e ≢ def_token d) × IsNewDef ks d
 
--- no two defs among these have their names at one token
+-- no two defs among the known bindings have their names at one token, so that a token names one def
 abbrev pub AreApart : List Known → Type 0
 AreApart [] = ⊤
 AreApart (value t u ∷ ks) = AreApart ks
@@ -52,17 +53,17 @@ AreApart (function d us ∷ ks) = IsNewDef ks d × AreApart ks
 
 -- ---- the uses of statements
 
--- the uses outside of defs that a statement has left
+-- the uses of names that a statement has left outside of defs; none where it is a def, whose uses stay in its text
 abbrev pub founds_of : Done → List Found
 founds_of (bound t u fs) = fs
 founds_of (defined d us) = []
 founds_of (ran fs) = fs
 
--- the token of a use that was found, with what it means
+-- a use that inference has found, as the scoping rules tell it: its token, and what the name there means
 abbrev pub found_said : Found → Meaning
 found_said f = (f.at, Some f.target)
 
--- the token of a use in a text, with what it means
+-- a use in the text of a def, as the scoping rules tell it: its token, and what the name there means
 abbrev pub text_said : TextUse → Meaning
 text_said u = (u.at, Some u.target)
 
@@ -82,19 +83,19 @@ uses_under a xs = flat_map (uses_in a) xs
 
 -- ---- scripts that go on
 
--- a script with one more statement at its end
+-- a script with the statement s added at its end
 abbrev pub with_last : Script → Tree AStmt → Script
 with_last none s = more s none
 with_last (more q rest) s = more q (with_last rest s)
 
--- the scope behind a script that begins in the scope sc
+-- the scope behind a script that begins in the scope sc: sc with the names that its statements bind
 abbrev pub scope_after : Scope → Script → Scope
 scope_after sc none = sc
 scope_after sc (more s rest) = scope_after (with_statement s sc) rest
 
 -- ---- the typings of statements
 
--- the uses that statements left outside of defs have their kinds at the places, where ks is known before
+-- the uses that statements left outside of defs have their kinds at the places, where the bindings ks are known before
 abbrev pub AreTaken : Assignment → Places → List Known → List Done → Type 0
 AreTaken a kinds ks [] = ⊤
 AreTaken a kinds ks (x ∷ xs) = EachTakes (texts_under a ks) kinds a (founds_of x)
@@ -112,7 +113,7 @@ pub record IsDefKnown (s : Table) (targets : Targets) (ks : List Known) (d : Tre
     pub typing : IsTypingOf s targets ks d general us
     pub numbered : text_count us ≡ Some (scheme_count general)
 
--- each def among these is known with a general type
+-- each def among the known bindings ks is known with a general type, where only the bindings before it are known
 abbrev pub AreDefsKnown : Table → Targets → List Known → Type 0
 AreDefsKnown s targets [] = ⊤
 AreDefsKnown s targets (value t u ∷ ks) = AreDefsKnown s targets ks
@@ -130,6 +131,6 @@ pub record AreTypings (s : Table) (targets : Targets) (script : Script) (xs : Li
   pub complete : (kinds : Places) (es : List Entry) → IsTypedTo targets kinds [] script es →
       (a : Assignment) × Solves a s × AreTaken a kinds [] xs × (entries_under a (known_of xs) ≡ es)
 
--- the script has no typing
+-- the script has no typing at all, whatever kinds stand at its places
 abbrev pub HasNoTypings : Targets → Script → Type 0
 HasNoTypings targets script = (kinds : Places) (es : List Entry) → IsTypedTo targets kinds [] script es → ⊥

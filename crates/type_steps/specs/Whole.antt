@@ -24,15 +24,16 @@ IsDoneOf sc (Stmt (IfPart i) semicolon) (bound t u fs) = ⊥
 IsDoneOf sc (Stmt (IfPart i) semicolon) (defined d us) = ⊥
 IsDoneOf sc (Stmt (IfPart i) semicolon) (ran fs) = map found_said fs ≡ map meant (names sc i)
 
--- each statement of a script that begins in the scope sc has left its item
+-- the statements of a script that begins in the scope sc have each left one item, in order, with the uses of the names
+-- in it
 abbrev pub AreDone : Scope → Script → List Done → Type 0
 AreDone sc none [] = ⊤
 AreDone sc none (x ∷ xs) = ⊥
 AreDone sc (more s rest) [] = ⊥
 AreDone sc (more s rest) (x ∷ xs) = IsDoneOf sc s x × AreDone (with_statement s sc) rest xs
 
--- where ks is known, each use has as many kinds as its target has open ones; a def numbers its open kinds in the order
--- in which its text has them
+-- Each use that a statement has left has as many kinds as its target has open ones, where the bindings ks are known; a
+-- def numbers its open kinds in the order in which its text has them.
 abbrev pub IsDoneCounted : List Known → Done → Type 0
 IsDoneCounted ks (bound t u fs) = AreCounted ks fs
 IsDoneCounted ks (defined d us) = ((n : ℕ) × (text_count us ≡ Some n)) × IsTextCounted ks us
@@ -43,7 +44,8 @@ abbrev pub AreDonesCounted : List Known → List Done → Type 0
 AreDonesCounted ks [] = ⊤
 AreDonesCounted ks (x ∷ xs) = IsDoneCounted ks x × AreDonesCounted (known_with x ks) xs
 
--- the tokens of a script are in place, and what its statements left has the uses of their names with all kinds
+-- What inference has left of a script is whole: its tokens are in place, each statement left its item with the uses of
+-- all its names, and each use has all its kinds.
 pub record AreWhole (script : Script) (xs : List Done) : Type 0 where
   pub placed : IsPlaced 0 script
   pub done : AreDone [] script xs

@@ -23,8 +23,8 @@ pub struct Argument<'a> {
     pub var: u64,
 }
 
-/// Makes the arguments match parameters of these types, if they can; false if they cannot. Arguments that are taken may
-/// leave `given`.
+/// Makes the arguments of a call match its parameters, which have these types, if they can; false if they cannot.
+/// Arguments that were matched may leave `given`.
 pub fn fit(
     alloc: Global,
     subst: &mut Subst,
@@ -55,7 +55,8 @@ pub fn fit(
     Ok(given.is_empty())
 }
 
-/// Makes many arguments match parameters of these types, if they can, by a table of the arguments' labels.
+/// Makes the many arguments of a call match its parameters, which have these types, if they can, by a table of the
+/// labels of the arguments.
 fn fit_many(
     alloc: Global,
     subst: &mut Subst,
@@ -74,7 +75,8 @@ fn fit_many(
     fit_labelled(alloc, subst, params, types, given, &mut labels)
 }
 
-/// Makes the arguments that are left in the table `labels` match parameters of these types, if they can.
+/// Makes the arguments of a call that are left in the table `labels` match its parameters, which have these types, if
+/// they can; none may be left over.
 fn fit_labelled(
     alloc: Global,
     subst: &mut Subst,
@@ -102,7 +104,7 @@ fn fit_labelled(
     Ok(labels.is_empty())
 }
 
-/// The labels of arguments, in order; `None` for one without a label.
+/// The labels of a call's arguments, in order; `None` for one without a label.
 fn labels_of<'a>(alloc: Global, given: &[Argument<'a>]) -> Result<Vec<Option<&'a str>>, Memory>
     ensures same { IfOk result (λ ls. map seen_label ls.items ≡ map (λ g. seen_label g.label) given.now) }
 {
@@ -113,8 +115,8 @@ fn labels_of<'a>(alloc: Global, given: &[Argument<'a>]) -> Result<Vec<Option<&'a
     Ok(labels)
 }
 
-/// Takes the first argument left in the table with this label, or the first without one. Returns its type variable;
-/// `None` if there is no such argument.
+/// Takes out of the table the first argument left with this label, or the first without one where `label` is none.
+/// Returns its type variable; `None` if there is no such argument.
 fn take_labelled(
     labels: &mut Labels<'_>,
     given: &[Argument<'_>],
@@ -132,7 +134,7 @@ fn take_labelled(
     }
 }
 
-/// The type variable of the argument at index `place`; 0 if there is none.
+/// The type variable of the argument of a call at index `place`; 0 if there is none.
 fn var_of(given: &[Argument<'_>], place: usize) -> u64
     ensures at { result ≡ var_at given.now place }
 {
@@ -142,8 +144,8 @@ fn var_of(given: &[Argument<'_>], place: usize) -> u64
     }
 }
 
-/// Takes the first argument with this label, or the first without one, out of `given`. Returns its type variable;
-/// `None` if there is no such argument.
+/// Takes out of `given` the first argument with this label, or the first without one where `label` is none. Returns
+/// its type variable; `None` if there is no such argument.
 fn take_argument(given: &mut Vec<Argument<'_>>, label: Option<&str>) -> Option<u64>
     ensures taken { result ≡ option_map (λ x. x.0)
         (argument (seen_label label.entry) (map seen_argument given.old.items)) }
@@ -181,7 +183,7 @@ fn fit_one(
     }
 }
 
-/// Parameter `i` of these, counted from 0.
+/// Parameter `i` of a callee's parameters, counted from 0; it must be there.
 fn param_at<'a>(params: &[Parameter<'a>], i: usize) -> Parameter<'a>
     requires inside { i < length params.now }
     ensures at { result ≡ get_or params.now i result }

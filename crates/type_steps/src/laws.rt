@@ -10,8 +10,8 @@ ghost use Rattle.typing_rules.specs.Scoping.{meanings_of, target_in};
 ghost use Rattle.type_steps.specs.Statements.{AreTypings, Done, uses_under};
 ghost use Rattle.type_steps.specs.Whole.{AreWhole};
 
-/// If the typings of a script are the solutions of a substitution, and each statement has its uses with all their
-/// kinds, the script is typed with the uses under the default solution.
+/// A law of inference: if the typings of a script are the solutions of a substitution, and each statement has its uses
+/// with all their kinds, the script is typed with the uses under the default solution.
 pub fn defaults_are_the_answer()
     ensures typed { (s : Table) (script : Script) (xs : List Done) → AreWhole script xs
         → AreTypings s (target_in (meanings_of script)) script xs → (default : HasDefaults s)

@@ -11,7 +11,7 @@ use liq_base::Memory;
 use std::alloc::Global;
 use type_terms::{Subst, Ty, unify};
 
-/// Binds type variable `n` to a type, if it can be; false if they clash.
+/// Not a test alone: makes type variable `n` be the type `ty`, if it can be (unification); false if they clash.
 pub fn is_type(alloc: Global, subst: &mut Subst, n: u64, ty: &Ty) -> Result<bool, Memory>
     requires inside { n < length subst.old.types }
     requires over { IsOver subst.old (term_of ty.now) }
@@ -21,7 +21,7 @@ pub fn is_type(alloc: Global, subst: &mut Subst, n: u64, ty: &Ty) -> Result<bool
     unify(alloc, subst, &variable, ty)
 }
 
-/// Makes two type variables the same, if they can be; false if they clash.
+/// Makes two type variables stand for one type, if they can (unification); false if they clash.
 pub fn same(alloc: Global, subst: &mut Subst, left: u64, right: u64) -> Result<bool, Memory>
     requires left { left < length subst.old.types }
     requires right { right < length subst.old.types }
@@ -31,7 +31,7 @@ pub fn same(alloc: Global, subst: &mut Subst, left: u64, right: u64) -> Result<b
     is_type(alloc, subst, left, &right)
 }
 
-/// Makes type variable `n` bool, if it can be.
+/// Not a test alone: makes type variable `n` be bool, if it can be; false if that clashes.
 pub fn is_truth(alloc: Global, subst: &mut Subst, n: u64) -> Result<bool, Memory>
     requires inside { n < length subst.old.types }
     ensures { IfOk result (λ yes. IsMade yes subst.old subst.new (λ a. a.type_of n ≡ truth)) }
@@ -50,7 +50,7 @@ pub fn new_var(subst: &mut Subst, number: bool) -> Result<u64, Memory>
     }
 }
 
-/// Makes type variable `n` int or decimal, if it can be.
+/// Not a test alone: makes type variable `n` be int or decimal, if it can be; false if that clashes.
 pub fn is_number(alloc: Global, subst: &mut Subst, n: u64) -> Result<bool, Memory>
     requires inside { n < length subst.old.types }
     ensures { IfOk result (λ yes. IsMade yes subst.old subst.new (λ a. IsNumber (a.type_of n))) }
@@ -91,8 +91,8 @@ pub fn new_tuple(alloc: Global, subst: &mut Subst, parts: &[u64]) -> Result<u64,
     Ok(n)
 }
 
-/// Makes type variable `n`, the type of the first operand, bool, if it can be and there are `others` besides; true if
-/// there are none.
+/// Makes type variable `n`, the type of the first operand of `and` or `or`, be bool, if it can be and `others` more
+/// operands follow; true if none does, as then there is no operator.
 pub fn is_truth_of_many(
     alloc: Global,
     subst: &mut Subst,
@@ -109,8 +109,8 @@ pub fn is_truth_of_many(
     }
 }
 
-/// Makes type variable `n`, the type of the first operand, int or decimal, if it can be and there are `others` besides;
-/// true if there are none.
+/// Makes type variable `n`, the type of the first operand of a sum or product, be int or decimal, if it can be and
+/// `others` more operands follow; true if none does, as then there is no operator.
 pub fn is_number_of_many(
     alloc: Global,
     subst: &mut Subst,
@@ -127,14 +127,14 @@ pub fn is_number_of_many(
     }
 }
 
-/// The type variable of this number as a type.
+/// The type that is the type variable of this number.
 fn var(n: u64) -> Ty
     ensures { term_of result ≡ variable n }
 {
     Ty::Var(n)
 }
 
-/// These type variables as types.
+/// The type variables of these numbers, as types, in their order.
 fn vars(alloc: Global, parts: &[u64]) -> Result<Vec<Ty>, Memory>
     ensures { IfOk result (λ ts. map term_of ts.items ≡ map variable parts.now) }
 {

@@ -82,7 +82,8 @@ fn call_of<'a>(
     Ok((make::call(at, name, items), rest))
 }
 
-// (argument (`,` argument)*)? `)`, behind the NameOpen. The arguments are pushed.
+// Reads what stands behind the name and `(` of a call: (argument (`,` argument)*)? `)`. The arguments are pushed to
+// `items`; the tokens behind the bracket are answered.
 #[cycle(value)]
 #[tactic(auto, unfolding(script_grammar::specs::ReadValue::args))]
 fn args<'a>(
@@ -109,7 +110,7 @@ fn args<'a>(
     Ok(rest)
 }
 
-// argument (`,` argument)*
+// Reads one argument or several, argument (`,` argument)*, pushes them to `items`, and answers the tokens behind them.
 #[cycle(value)]
 fn some_args<'a>(
     alloc: Global,
@@ -133,7 +134,7 @@ fn some_args<'a>(
     Ok(rest)
 }
 
-// `,` argument
+// Reads a further argument of a call, `,` argument, pushes it to `items`, and answers the tokens behind it.
 #[cycle(value)]
 #[tactic(auto, unfolding(script_grammar::specs::Read::behind))]
 fn comma_arg<'a>(
@@ -154,9 +155,7 @@ fn comma_arg<'a>(
     arg(alloc, total, levels, items, rest)
 }
 
-// argument: value | Name `=` value
-//
-// It is pushed.
+// Reads an argument of a call: value | Name `=` value. It is pushed to `items`; the tokens behind it are answered.
 #[cycle(value)]
 #[tactic(auto, using(crate::proofs::Labels::arg_labelled))]
 fn arg<'a>(
@@ -178,7 +177,8 @@ fn arg<'a>(
     labelled(alloc, total, levels, at, label, items, rest)
 }
 
-// value, behind the label of an argument or without one. The argument is pushed; `at` is the index of its first token.
+// Reads the value of an argument whose label, if it has one, was read already. The argument is pushed to `items`; `at`
+// is the index of its first token. The tokens behind it are answered.
 #[cycle(value)]
 fn labelled<'a>(
     alloc: Global,
@@ -279,7 +279,8 @@ fn push_operand<'a>(
     }
 }
 
-// Pushes an argument that is one operand. `at` is the index of its first token.
+// Pushes an argument whose value is one operand without operators; room for it was made before. `at` is the index of
+// its first token.
 fn push_lone(alloc: Global, at: u32, label: Option<Text>, items: &mut Vec<Arg>, operand: Operand)
     requires room { vec_len items.old < vec_capacity items.old }
     ensures pushed { (x : Arg) × (items.new.items ≡ items.old.items ++ x ∷ [])
@@ -310,7 +311,7 @@ fn push_arg<'a>(
     Ok(rest)
 }
 
-// An argument of its parts. `at` is the index of its first token.
+// The tree of an argument, from its label, if it has one, and its value. `at` is the index of its first token.
 fn argument(at: u32, label: Option<Text>, value: Full) -> Arg
     ensures made { view_arg result ≡ an_argument at label (view_full value) }
     ensures whole { IsWholeFull value → IsWholeArg result }

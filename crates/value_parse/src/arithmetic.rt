@@ -22,9 +22,8 @@ use script_grammar::tree::{self, Added, Compare, Compared, Multiplied, Product, 
 use script_lex::Token;
 use std::alloc::Global;
 
-/// comparison: sum ((`==` | `!=` | `<` | `<=` | `>` | `>=`) sum)?
-///
-/// The first sum is what was read at these tokens.
+/// Goes on with a comparison whose left sum is given, as it was read at `at`: sum ((`==` | `!=` | `<` | `<=` | `>` |
+/// `>=`) sum)?
 #[inline(never)]
 #[cycle(value)]
 #[tactic(auto, unfolding(script_grammar::specs::ReadValue::compare))]
@@ -45,7 +44,7 @@ pub fn compare_of<'a>(
     behind_sum(at.alloc, at.total, at.levels, at.loose, left, rest)
 }
 
-// ((`==` | `!=` | `<` | `<=` | `>` | `>=`) sum)?, behind the sum on its left.
+// Reads the right side of a comparison, an operator and a sum, if there is one, behind the sum `left` on its left.
 #[cycle(value)]
 fn behind_sum(
     alloc: Global,
@@ -98,9 +97,7 @@ fn behind_sum(
     }
 }
 
-/// sum: product ((`+` | `-`) product)*
-///
-/// The first product is what was read at these tokens.
+/// Goes on with a sum whose first product is given, as it was read at `at`: product ((`+` | `-`) product)*
 #[inline(never)]
 #[cycle(value)]
 #[tactic(auto, unfolding(script_grammar::specs::ReadValue::sum))]
@@ -121,7 +118,7 @@ pub fn sum_of<'a>(
     Ok((make::sum(first, others), rest))
 }
 
-// ((`+` | `-`) product)*
+// Reads the further parts of a sum, ((`+` | `-`) product)*, and answers them with the tokens behind them.
 #[cycle(value)]
 fn addends<'a>(at: At<'a>) -> Result<(Vec<Added>, &'a [Token]), Fault>
     requires within { length at.tokens.now ≤ at.total }
@@ -138,7 +135,7 @@ fn addends<'a>(at: At<'a>) -> Result<(Vec<Added>, &'a [Token]), Fault>
     Ok((items, rest))
 }
 
-// (`+` | `-`) product
+// Reads one further part of a sum: (`+` | `-`) product. `here` is where it begins.
 #[cycle(value)]
 #[tactic(auto, using(crate::proofs::Signs::added_fails, crate::proofs::Signs::added_part_fails, crate::proofs::Signs::added_goes))]
 fn added<'a>(here: At<'a>) -> Result<(Added, &'a [Token]), Fault>
@@ -165,9 +162,7 @@ fn added<'a>(here: At<'a>) -> Result<(Added, &'a [Token]), Fault>
     Ok((Added { at, minus, product }, rest))
 }
 
-/// product: operand ((`*` | `/`) operand)*
-///
-/// The first operand is what was read at these tokens.
+/// Goes on with a product whose first operand is given, as it was read at `at`: operand ((`*` | `/`) operand)*
 #[inline(never)]
 #[cycle(value)]
 #[tactic(auto, unfolding(script_grammar::specs::ReadValue::product))]
@@ -189,7 +184,7 @@ pub fn product_of<'a>(
     Ok((make::product(first, others), rest))
 }
 
-// ((`*` | `/`) operand)*
+// Reads the further parts of a product, ((`*` | `/`) operand)*, and answers them with the tokens behind them.
 #[cycle(value)]
 fn factors<'a>(at: At<'a>) -> Result<(Vec<Multiplied>, &'a [Token]), Fault>
     requires within { length at.tokens.now ≤ at.total }
@@ -206,7 +201,7 @@ fn factors<'a>(at: At<'a>) -> Result<(Vec<Multiplied>, &'a [Token]), Fault>
     Ok((items, rest))
 }
 
-// (`*` | `/`) operand
+// Reads one further part of a product: (`*` | `/`) operand. `here` is where it begins.
 #[cycle(value)]
 #[tactic(auto, using(crate::proofs::Signs::multiplied_fails, crate::proofs::Signs::multiplied_part_fails, crate::proofs::Signs::multiplied_goes))]
 fn multiplied<'a>(here: At<'a>) -> Result<(Multiplied, &'a [Token]), Fault>

@@ -15,7 +15,8 @@ use script_grammar::tree::{self, Full, If, Literal};
 use script_lex::{Keyword, Symbol, Token, TokenKind};
 use std::alloc::Global;
 
-/// An operand that holds no value. The tokens are the last of `total`; where it is loose, a `(` may stand behind it.
+/// Reads an operand that holds no value within it: a number, text, truth value, name, predicate or `%wav`. The tokens
+/// are the last of `total`; where it is loose, a `(` may stand behind it.
 #[tactic(auto, unfolding(script_grammar::specs::ReadValue::operand))]
 pub fn atom(
     alloc: Global,
@@ -105,7 +106,7 @@ pub fn atom(
     }
 }
 
-/// An `if` of its parts. `at` is the index of its first token.
+/// The tree of an `if`, made of its three values. `at` is the index of its first token.
 pub fn make_choice(at: u32, condition: Box<Full>, then_part: Box<Full>, else_part: Box<Full>) -> If
     ensures made { view_if result
         ≡ an_if at (view_full condition.value) (view_full then_part.value) (view_full else_part.value) }
@@ -120,7 +121,7 @@ pub fn make_choice(at: u32, condition: Box<Full>, then_part: Box<Full>, else_par
     }
 }
 
-// predicate `}`, behind the `{`, whose index is `at`.
+// Reads a predicate and its `}`, as an operand, behind the `{`, whose index is `at`.
 fn braces(alloc: Global, at: u32, tokens: &[Token]) -> Result<(tree::Operand, &[Token]), Fault>
     ensures { Reads view_operand IsWholeOperand (braces_at at) tokens.now result }
 {

@@ -14,9 +14,8 @@ use script_grammar::tree::{Full, If};
 use script_lex::Token;
 use std::alloc::Global;
 
-/// if: `if` value `then` value `else` value `end`
-///
-/// Its values nest less than `levels` deep.
+/// Reads an `if`: `if` value `then` value `else` value `end`. Its values nest less than `levels` deep; the tokens are
+/// the last of `total`.
 #[cycle(value)]
 #[tactic(auto, using(crate::proofs::Choices::choice_goes, crate::proofs::Choices::choice_fails))]
 pub fn choice(
@@ -37,7 +36,7 @@ pub fn choice(
     chosen(alloc, total, levels, at, rest)
 }
 
-// value `then` value `else` value `end`, behind the `if`, whose index is `at`.
+// Reads an `if` behind its first word, whose index is `at`: value `then` value `else` value `end`.
 #[cycle(value)]
 fn chosen(
     alloc: Global,
@@ -55,7 +54,7 @@ fn chosen(
     Ok((make_choice(at, condition, then_part, else_part), rest))
 }
 
-// `then` value `else` value `end`
+// Reads the two branches of an `if`, `then` value `else` value `end`: both values, and the tokens behind the `end`.
 #[cycle(value)]
 fn branches(
     alloc: Global,
@@ -76,7 +75,7 @@ fn branches(
     Ok((then_part, else_part, rest))
 }
 
-// `else` value `end`
+// Reads the second branch of an `if`, `else` value `end`: the value, and the tokens behind the `end`.
 #[cycle(value)]
 fn otherwise(
     alloc: Global,

@@ -21,7 +21,7 @@ use script_grammar::tree::{And, Compare, Expr, Not, Operand};
 use script_lex::Token;
 use std::alloc::Global;
 
-/// expression: and (`or` and)*
+/// Reads an expression, and (`or` and)*: conjunctions joined by `or`. Answers its tree and the tokens behind it.
 pub fn expr<'a>(at: At<'a>) -> Result<(Expr, &'a [Token]), Fault>
     requires within { length at.tokens.now ≤ at.total }
     requires small { at.total < 2 ^ 32 }
@@ -41,7 +41,8 @@ pub fn expr<'a>(at: At<'a>) -> Result<(Expr, &'a [Token]), Fault>
     )
 }
 
-/// An expression whose first operand was read at `inner`: at its first token, or behind the `not` there.
+/// Goes on with an expression whose first operand is given, as it was read at `inner`: at the first token of the
+/// expression, or behind the `not` there (`negated`). `at` is where the expression begins.
 #[inline(never)]
 #[cycle(value)]
 #[tactic(auto, unfolding(script_grammar::specs::ReadValue::not_))]
@@ -69,7 +70,8 @@ pub fn expr_from<'a>(
     expr_of(at, first)
 }
 
-// An expression whose first part was read at these tokens.
+// Goes on with an expression whose first part, up to an `or`, is given, as it was read at `at`: reads the parts behind
+// each `or`.
 #[inline(never)]
 #[cycle(value)]
 #[tactic(auto, unfolding(script_grammar::specs::ReadValue::expr, script_grammar::specs::Read::chain))]
@@ -91,7 +93,7 @@ fn expr_of<'a>(
     Ok((make::expr(first, others), rest))
 }
 
-// (`or` and)*
+// Reads the further parts of an expression, (`or` and)*, and answers them with the tokens behind them.
 #[cycle(value)]
 fn ands<'a>(at: At<'a>) -> Result<(Vec<And>, &'a [Token]), Fault>
     requires within { length at.tokens.now ≤ at.total }
@@ -108,7 +110,7 @@ fn ands<'a>(at: At<'a>) -> Result<(Vec<And>, &'a [Token]), Fault>
     Ok((items, rest))
 }
 
-// `or` and
+// Reads one further part of an expression: `or` and.
 #[cycle(value)]
 #[tactic(auto, unfolding(script_grammar::specs::Read::behind))]
 fn or_and<'a>(at: At<'a>) -> Result<(And, &'a [Token]), Fault>
@@ -125,9 +127,8 @@ fn or_and<'a>(at: At<'a>) -> Result<(And, &'a [Token]), Fault>
     )
 }
 
-// and: not (`and` not)*
-//
-// The first part is what was read at these tokens.
+// Goes on with a conjunction, not (`and` not)*, whose first part is given, as it was read at `at`: reads the parts
+// behind each `and`.
 #[inline(never)]
 #[cycle(value)]
 #[tactic(auto, unfolding(script_grammar::specs::ReadValue::and_, script_grammar::specs::Read::chain))]
@@ -148,7 +149,7 @@ fn and_of<'a>(
     Ok((make::and_term(first, others), rest))
 }
 
-// (`and` not)*
+// Reads the further parts of a conjunction, (`and` not)*, and answers them with the tokens behind them.
 #[cycle(value)]
 fn nots<'a>(at: At<'a>) -> Result<(Vec<Not>, &'a [Token]), Fault>
     requires within { length at.tokens.now ≤ at.total }
@@ -165,7 +166,7 @@ fn nots<'a>(at: At<'a>) -> Result<(Vec<Not>, &'a [Token]), Fault>
     Ok((items, rest))
 }
 
-// `and` not
+// Reads one further part of a conjunction: `and` not.
 #[cycle(value)]
 #[tactic(auto, unfolding(script_grammar::specs::Read::behind, script_grammar::specs::ReadValue::not_))]
 fn and_not<'a>(at: At<'a>) -> Result<(Not, &'a [Token]), Fault>
@@ -188,7 +189,7 @@ fn and_not<'a>(at: At<'a>) -> Result<(Not, &'a [Token]), Fault>
     )
 }
 
-// not: `not`? comparison
+// Reads a comparison, before which a `not` may stand: `not`? comparison.
 #[cycle(value)]
 #[tactic(auto, unfolding(script_grammar::specs::ReadValue::not_))]
 fn not_term<'a>(at: At<'a>) -> Result<(Not, &'a [Token]), Fault>
@@ -209,7 +210,8 @@ fn not_term<'a>(at: At<'a>) -> Result<(Not, &'a [Token]), Fault>
     )
 }
 
-// A comparison whose first operand was read at these tokens, with whether `not` stands before it.
+// Goes on with a comparison whose first operand is given, as it was read at `tokens`: reads the rest of its product,
+// its sum and its right side. `negated` says that a `not` stood before it.
 #[inline(never)]
 #[cycle(value)]
 fn negation_of<'a>(
@@ -265,7 +267,7 @@ fn negation_of<'a>(
     )
 }
 
-// The comparison that was read, with whether `not` stands before it.
+// Puts the comparison that was read into its tree, with `negated`: whether a `not` stands before it.
 #[inline(never)]
 fn not_of<'a>(
     negated: bool,

@@ -15,7 +15,7 @@ use script_grammar::tree::{CompareOp, Literal};
 use script_lex::{Keyword, Symbol, Token, TokenKind};
 use std::alloc::Global;
 
-/// The number that stands first, and the tokens behind it.
+/// Reads a number literal, with or without a point, which must stand first: its value, and the tokens behind it.
 #[tactic(auto, unfolding(script_grammar::specs::ReadValue::digits))]
 pub fn digits(tokens: &[Token]) -> Result<(Literal, &[Token]), Fault>
     ensures shorter { IfOk result (λ x. length x.1.now < length tokens.now) }
@@ -40,8 +40,8 @@ pub fn digits(tokens: &[Token]) -> Result<(Literal, &[Token]), Fault>
     }
 }
 
-/// The option behind `%wav`, if there is one, and the tokens behind it. Where the value is loose, another `(` may stand
-/// there.
+/// Reads the option behind `%wav`, `(samplesize = number)`, if it is there: its number, and the tokens behind it.
+/// Where the value is loose, another `(` may stand there, and is left.
 #[tactic(auto, unfolding(script_grammar::specs::ReadValue::wav))]
 pub fn wav(loose: bool, tokens: &[Token]) -> Result<(Option<i64>, &[Token]), Fault>
     ensures shorter { IfOk result (λ x. length x.1.now ≤ length tokens.now) }
@@ -55,7 +55,7 @@ pub fn wav(loose: bool, tokens: &[Token]) -> Result<(Option<i64>, &[Token]), Fau
     }
 }
 
-/// The comparing operator that stands first, if one does.
+/// The comparing operator (as `<=`) that stands first, if one does; it is looked at and not taken.
 pub fn next_op(tokens: &[Token]) -> Option<CompareOp>
     ensures { result ≡ next_op (kinds tokens.now) }
 {
@@ -71,7 +71,7 @@ pub fn next_op(tokens: &[Token]) -> Option<CompareOp>
     }
 }
 
-/// Whether an operator stands first that may stand behind an operand.
+/// Whether the first token is an operator that may stand behind an operand, so that a value goes on there.
 pub fn at_operator(tokens: &[Token]) -> bool
     ensures { result ≡ next is_operator (kinds tokens.now) }
 {
@@ -81,7 +81,7 @@ pub fn at_operator(tokens: &[Token]) -> bool
     }
 }
 
-/// Whether a value that begins here begins with its first operand: neither with `-` nor with `not`.
+/// Whether a value that begins with these tokens begins with its first operand: neither with `-` nor with `not`.
 pub fn is_bare(tokens: &[Token]) -> bool
     ensures { result ≡ is_bare (kinds tokens.now) }
 {
@@ -125,7 +125,8 @@ pub fn argument_label(alloc: Global, tokens: &[Token]) -> Result<(Option<Text>, 
     }
 }
 
-/// Whether a sum goes on by `-`, not `+`, and the tokens behind the sign. Any other token is a fault.
+/// Reads the sign by which a sum goes on: true for `-`, false for `+`, and the tokens behind it. Any other token is a
+/// fault.
 pub fn sum_sign(tokens: &[Token]) -> Result<(bool, &[Token]), Fault>
     ensures shorter { IfOk result (λ x. length x.1.now < length tokens.now) }
     ensures gives { Gives (λ x. (x.0, kinds x.1.now)) result (sum_sign (kinds tokens.now)) }
@@ -149,7 +150,8 @@ pub fn sum_sign(tokens: &[Token]) -> Result<(bool, &[Token]), Fault>
     }
 }
 
-/// Whether a product goes on by `/`, not `*`, and the tokens behind the sign. Any other token is a fault.
+/// Reads the sign by which a product goes on: true for `/`, false for `*`, and the tokens behind it. Any other token
+/// is a fault.
 pub fn product_sign(tokens: &[Token]) -> Result<(bool, &[Token]), Fault>
     ensures shorter { IfOk result (λ x. length x.1.now < length tokens.now) }
     ensures gives { Gives (λ x. (x.0, kinds x.1.now)) result (product_sign (kinds tokens.now)) }
@@ -173,7 +175,7 @@ pub fn product_sign(tokens: &[Token]) -> Result<(bool, &[Token]), Fault>
     }
 }
 
-// The number without a point that stands first, and the tokens behind it.
+// Reads a number without a point, which must stand first: its value, and the tokens behind it.
 #[tactic(auto, unfolding(script_grammar::specs::ReadValue::whole_number))]
 fn whole_number(tokens: &[Token]) -> Result<(i64, &[Token]), Fault>
     ensures shorter { IfOk result (λ x. length x.1.now < length tokens.now) }
@@ -191,7 +193,7 @@ fn whole_number(tokens: &[Token]) -> Result<(i64, &[Token]), Fault>
     }
 }
 
-// The tokens behind the name `samplesize`, which must stand first.
+// Reads the name `samplesize`, the one option of `%wav`, which must stand first; answers the tokens behind it.
 #[tactic(auto, unfolding(script_grammar::specs::ReadValue::the_name))]
 fn the_name(tokens: &[Token]) -> Result<((), &[Token]), Fault>
     ensures shorter { IfOk result (λ x. length x.1.now < length tokens.now) }
@@ -215,7 +217,7 @@ fn the_name(tokens: &[Token]) -> Result<((), &[Token]), Fault>
     }
 }
 
-// Whether `samplesize` and `=` stand first.
+// Whether the name `samplesize` and `=` stand first, as behind the `(` of the option of `%wav`.
 fn at_option_name(tokens: &[Token]) -> bool
     ensures { result ≡ cond (opens_name (kinds tokens.now)) (binds (kinds tokens.now)) false }
 {
@@ -235,7 +237,7 @@ fn at_option_name(tokens: &[Token]) -> bool
     }
 }
 
-// Whether `(`, `samplesize` and `=` stand first.
+// Whether the option of `%wav` surely begins here: `(`, `samplesize` and `=` stand first.
 fn optional(tokens: &[Token]) -> bool
     ensures { result ≡ optional (kinds tokens.now) }
 {

@@ -25,7 +25,8 @@ use script_grammar::tree::{self, Full};
 use script_lex::{Keyword, Symbol, Token, TokenKind};
 use std::alloc::Global;
 
-/// operand: call | if | `(` .. `)` | `[` .. `]` | one that holds no value
+/// Reads an operand: a call, an `if`, values in `(` .. `)` or `[` .. `]`, or one that holds no value. Answers its tree
+/// and the tokens behind it.
 #[cycle(value)]
 #[tactic(auto, unfolding(script_grammar::specs::ReadValue::operand, script_grammar::specs::ReadValue::call))]
 pub fn operand<'a>(at: At<'a>) -> Result<(tree::Operand, &'a [Token]), Fault>
@@ -90,7 +91,8 @@ pub fn operand<'a>(at: At<'a>) -> Result<(tree::Operand, &'a [Token]), Fault>
     }
 }
 
-// `)` | value `)` | value (`,` value)+ `)`, behind the `(`, whose index is `at`.
+// Reads what stands behind a `(`, whose index is `at`: `)` | value `)` | value (`,` value)+ `)`. It is the operand
+// unit, a value in brackets or a tuple.
 #[cycle(value)]
 fn round(
     alloc: Global,
@@ -111,7 +113,7 @@ fn round(
     round_of(alloc, at, parts, read)
 }
 
-// (value (`,` value)*)? `]`, behind the `[`, whose index is `at`.
+// Reads what stands behind a `[`, whose index is `at`, as a list: (value (`,` value)*)? `]`.
 #[cycle(value)]
 fn list(
     alloc: Global,
@@ -132,7 +134,8 @@ fn list(
     list_of(at, parts, read)
 }
 
-// (value (`,` value)*)? and the bracket `close`. The values are pushed.
+// Reads values up to the closing bracket `close`, which may come at once: (value (`,` value)*)? `close`. The values
+// are pushed to `parts`; the tokens behind the bracket are answered.
 #[cycle(value)]
 fn fulls<'a>(
     alloc: Global,
@@ -159,7 +162,7 @@ fn fulls<'a>(
     Ok(rest)
 }
 
-// value (`,` value)*, whose values are pushed.
+// Reads one value or several, value (`,` value)*, pushes them to `parts`, and answers the tokens behind them.
 #[cycle(value)]
 fn some_fulls<'a>(
     alloc: Global,
@@ -183,7 +186,7 @@ fn some_fulls<'a>(
     Ok(rest)
 }
 
-// `,` value
+// Reads a further value of a sequence: `,` value. Answers it and the tokens behind it.
 #[cycle(value)]
 #[tactic(auto, unfolding(script_grammar::specs::Read::behind))]
 fn comma_full(
@@ -237,7 +240,8 @@ fn list_of<'a>(
     Ok((make::list(at, parts), rest))
 }
 
-// No value, one, or a tuple in parentheses. `at` is the index of the `(`.
+// The operand that values in round brackets make: unit where there is none, the value in brackets where there is one,
+// and else a tuple. `at` is the index of the `(`.
 fn in_round(alloc: Global, at: u32, parts: Vec<Full>) -> Result<tree::Operand, Memory>
     ensures made { IfOk result (λ p. view_operand p ≡ round_or_unit at (listed (map view_full parts.items))) }
     ensures whole { IfOk result (λ p. All IsWholeFull parts.items → IsWholeOperand p) }

@@ -27,7 +27,8 @@ use script_grammar::tree::{And, Compare, Expr, Full, Not, Operand, Product, Sum}
 use script_lex::{Symbol, Token, TokenKind};
 use std::alloc::Global;
 
-/// A value, where so many levels may nest; with no level left it is refused.
+/// Reads a value (a "full" expression, which may begin with `-`) in which values nest less than `levels` deep; with no
+/// level left it is refused. The tokens are the last of `total`.
 #[cycle(value)]
 pub fn full(
     alloc: Global,
@@ -52,9 +53,8 @@ pub fn full(
     }
 }
 
-/// value: `-` Int | `-` Number | expression
-///
-/// Others nest at most `levels` deep in it. Where it is loose, a `(` may stand behind it.
+/// Reads a value, `-` Int | `-` Number | expression, in which other values nest at most `levels` deep. Where it is
+/// loose, a `(` may stand behind it.
 #[cycle(value)]
 #[tactic(auto, unfolding(script_grammar::specs::ReadValue::full_step))]
 pub fn full_step<'a>(at: At<'a>) -> Result<(Full, &'a [Token]), Fault>
@@ -80,7 +80,8 @@ pub fn full_step<'a>(at: At<'a>) -> Result<(Full, &'a [Token]), Fault>
     }
 }
 
-/// A value, at once in a box, so that the parts of an `if` stand on no stack while others are read.
+/// Reads a value, at once into a box on the heap, so that the parts of an `if` stand on no stack while others are
+/// read.
 #[cycle(value)]
 pub fn full_box(
     alloc: Global,
@@ -98,7 +99,7 @@ pub fn full_box(
     boxed(alloc, full(alloc, total, levels, tokens))
 }
 
-// value: expression
+// Reads a value that is an expression, so that it does not begin with `-`.
 #[cycle(value)]
 fn plain<'a>(at: At<'a>) -> Result<(Full, &'a [Token]), Fault>
     requires within { length at.tokens.now ≤ at.total }
@@ -119,8 +120,8 @@ fn plain<'a>(at: At<'a>) -> Result<(Full, &'a [Token]), Fault>
     )
 }
 
-// A value that is an expression, whose first operand was read at `inner`: at its first token, or behind the `not`
-// there. The operand is mostly all of the value, whose tree is then made at once.
+// Goes on with a value that is an expression, whose first operand is given, as it was read at `inner`: at the first
+// token or behind a `not` (`negated`). Mostly the operand is all of it, and the tree is made at once.
 #[inline(never)]
 #[cycle(value)]
 fn plain_of<'a>(
@@ -149,7 +150,7 @@ fn plain_of<'a>(
     }
 }
 
-/// A value that is one operand, behind `not` or not.
+/// The tree of a value that is one operand and has no operator, with a `not` before it where it is negated.
 pub fn lone(alloc: Global, negated: bool, operand: Operand) -> Full
     ensures made { view_full result ≡ lone negated (view_operand operand) }
     ensures whole { IsWholeOperand operand → IsWholeFull result }
@@ -175,7 +176,7 @@ pub fn lone(alloc: Global, negated: bool, operand: Operand) -> Full
     })
 }
 
-/// The expression that was read, as a value.
+/// Puts the expression that was read into the tree of a value; a fault and the tokens behind stay as they are.
 #[inline(never)]
 pub fn in_full<'a>(read: Result<(Expr, &'a [Token]), Fault>) -> Result<(Full, &'a [Token]), Fault>
     ensures shorter { (n : ℕ) → IfOk read.entry (λ x. length x.1.now < n) → IfOk result (λ x. length x.1.now < n) }
@@ -187,7 +188,7 @@ pub fn in_full<'a>(read: Result<(Expr, &'a [Token]), Fault>) -> Result<(Full, &'
     Ok((Full::Plain(expr), rest))
 }
 
-// The value that was read, in a box.
+// Puts the value that was read into a box on the heap; a fault and the tokens behind stay as they are.
 #[inline(never)]
 fn boxed<'a>(
     alloc: Global,
