@@ -14,8 +14,8 @@ use Rattle.clock_instants.specs.Takes.{IsUnder}
 use Rattle.clock_outputs.specs.declared.port.Port.{Port}
 use Rattle.clock_outputs.specs.declared.feed.FeedPort.{FeedPort}
 
--- the state of node i of a plan before the first instant, in an engine of main clock m: where the clock drives the
--- node, which lies in it or in a sub-clock below it, it stands for no instant
+-- The state of node i in a new engine of main clock m fits the node. If the clock drives it, the node lies in it or in
+-- a sub-clock below it, and its state stands for no instant made.
 pub record IsNewState (plan : Plan) (clocks : List NodeClock) (m i : ℕ) (node : Node) (state : NodeState) : Type 0 where
   pub fits : (library : Sounds) → IsLibrary library → i < length library.leaves
       → Fits library (length node.children) state

@@ -17,8 +17,8 @@ use Rattle.clock_instants.specs.Held.{IsHeld, gave_at, goes_through, passes_at}
 use Rattle.node_states.specs.Passing.{LaneFills}
 use Rattle.nested_instants.specs.Clocks.{AreClockStates, GoesOnFor, IsFilling, IsIdle, IsOpen, IsWorld, Progress, RanAsNeeded, Stand, clock_at, fade_at, is_none, laned_at, rest_at, room_at}
 
--- the slots of a node at the `many` instants after one at which its slot was `first`: empty if that is empty, and
--- otherwise cells of its title that begin no track, with these samples
+-- The `many` slots of a node that follow a slot `first` go on as it: none if it is empty, and otherwise cells of its
+-- title, in the middle of the track, with these left and right samples.
 pub record IsStretchOf (slots : ℕ → Slot) (many : ℕ) (first : Slot) (left right : List ℤ) : Type 0 where
   pub given : is_some first ≡ true → IsLane slots many left right
   pub titled : is_some first ≡ true → AreTitled slots many (title_of first)
@@ -44,7 +44,8 @@ pub record HasMadeOn (setting : Setting) (sub : ℕ → ℕ → List Slot) (rank
       (offer (moment_after setting sub clock (first_instants setting sub clock n)) i)
       (samples_of all.room.left.items i many) (samples_of all.room.right.items i many)
 
--- the states stand for the instants of a clock up to n, its latest one, and `many` instants can go on as that one did
+-- A clock whose latest instant is number n can make `many` more as that one: the states stand for the instants up to
+-- n, no deeper clock ran further than needed, and so many instants go on.
 pub record CanGoOn (setting : Setting) (sub : ℕ → ℕ → List Slot) (rank : NodeClock → ℕ) (own : List Bool)
     (clock : NodeClock) (n many : ℕ) (progress : Progress) (all : ClockStates) : Type 0 where
   pub world : IsWorld setting sub rank own
@@ -54,8 +55,8 @@ pub record CanGoOn (setting : Setting) (sub : ℕ → ℕ → List Slot) (rank :
   pub goes : GoesOnFor setting sub clock (first_instants setting sub clock n) many progress.filled all.room.held.items
       all.states.items
 
--- a clock can make `many` instants at once: there are states for the nodes of a plan, no instants of the clock are
--- kept, and a stretch has room for so many
+-- A clock can make `many` instants at once, at most 2048 and a second's: the states fit the scene, a plan with its
+-- files and clocks, and no count of further instants is kept of this clock.
 pub record CanRunClock (over : Scene) (clock : NodeClock) (many : ℕ) (all : ClockStates) : Type 0 where
   pub scene : IsScene over
   pub clocks : AreClockStates over all
@@ -64,7 +65,8 @@ pub record CanRunClock (over : Scene) (clock : NodeClock) (many : ℕ) (all : Cl
   pub short : many ≤ 2048
   pub later : many ≤ over.plan.now.rate
 
--- `many` instants of a clock were made, which go on as its latest one: whatever instants the states stood for
+-- A clock made `many` instants that go on as its latest one: whatever instants the old states stood for, if so many
+-- can go on, the new states stand for them too.
 pub record ClockMade (scene : Scene) (clock : NodeClock) (many : ℕ) (old new : ClockStates) : Type 0 where
   pub run : (other : Setting) (sub : ℕ → ℕ → List Slot) (rank : NodeClock → ℕ) (progress : Progress)
       (own : List Bool) (n : ℕ) →
@@ -107,8 +109,8 @@ pub record FilledOn (scene : Scene) (k : ℕ) (time : WeekTime) (old new : Clock
       → TimeStands setting.start n time
       → IsFilling setting sub rank k is_none progress more new
 
--- of the crossfades of a clock below node `below`, the sub-clocks of those through which cells pass have made `many`
--- instants more, without a call, and left the samples of the crossfades' children
+-- The sub-clocks of a clock's crossfades with numbers below `below`, but only where cells pass (`through`), made
+-- `many` instants more, without a call. Their crossfades' children left samples for them.
 pub record SubsMade (setting : Setting) (sub : ℕ → ℕ → List Slot) (rank : NodeClock → ℕ) (clock : NodeClock) (many : ℕ)
     (through : ℕ → Bool) (below : ℕ) (progress : Progress) (all : ClockStates) : Type 0 where
   pub now : Progress
