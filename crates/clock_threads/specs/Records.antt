@@ -21,7 +21,8 @@ use Rattle.clock_threads.specs.declared.wires.Wire.{Wire}
 use Rattle.clock_threads.specs.Wires.{wire_at, kept}
 use Rattle.clock_threads.specs.Ends.{puts_of as put_ends, takes_of as take_ends, JoinOpen}
 
--- what the puts and the takes of a buffer met in `count` ticks, from tick `from` on
+-- what the puts and the takes of buffer b met in `count` ticks, from tick `from` on, by the calls of the two clocks
+-- that its wire names
 abbrev pub window_of : Wire → (ℕ → TickCalls) → (b from count : ℕ) → Window
 window_of wire clock_calls b from count = (
   puts_to b (joined_from (clock_calls wire.from).calls from count),
@@ -29,7 +30,8 @@ window_of wire clock_calls b from count = (
       (joined_from (clock_calls wire.to).calls from count),
 )
 
--- the first windows of buffer b, in a run of N ticks in windows of W
+-- the first `count` windows of buffer b, each with what its puts and takes met, in a run of N ticks that is cut into
+-- windows of W ticks
 abbrev pub windows_upto : Wire → (ℕ → TickCalls) → (b W N count : ℕ) → List Window
 windows_upto wire clock_calls b W N zero = []
 windows_upto wire clock_calls b W N (suc j) =
@@ -124,7 +126,8 @@ pub record AllEndedTasks {S R : Type 0} (wires : List Wire) (old new : List (Tas
   pub each : (k : ℕ) (d : Task S (ThreadTaps R)) → k < length old
       → EndedTask wires (length wires) k (slice_index_or old k d) (slice_index_or new k d)
 
--- each task has a list for each of these wires' buffers
+-- each task has a list for each of these wires' buffers, and each wire begins at a task: so the windows of a clock's
+-- own buffers can be closed in its lists
 pub record HaveLists {S R : Type 0} (wires : List Wire) (tasks : List (Task S (ThreadTaps R))) : Type 0 where
   pub few : length wires < 2 ^ 32
   pub places : (b : ℕ) → b < length wires → (wire_at wires b).from < length tasks

@@ -10,11 +10,12 @@ use Rattle.clock_ticks.specs.Pieces.{AreKept, GotBetween, GotPieces, RoseAt}
 use Rattle.clock_threads.specs.declared.task.Task.{Task}
 use Rattle.clock_threads.specs.TickCalls.{TickCalls, joined_from, Agree, HasGone, HasGonePart}
 
--- an engine stands for t ticks and these answers
+-- an engine made t ticks without a fault, in which its readers took these answers of their buffers
 abbrev pub stands_for : {S : Type 0} → ClockEngine S → ℕ → (ℕ → List Answer) → Type 0
 stands_for e t answers = EngineStands e.parts t answers
 
--- an engine stopped in tick t, after these answers and these calls
+-- an engine stopped at a fault in tick t: before that tick its readers took these answers, and in it the calls `made`
+-- were made
 abbrev pub stopped_for : {S : Type 0} → ClockEngine S → ℕ → (ℕ → List Answer) → List Call → Type 0
 stopped_for e t answers made = EngineStopped e.parts t answers made
 
@@ -33,13 +34,14 @@ pub record IsWriteOf {S : Type 0} (told : S → SinkTold) (sink : ℕ) (old new 
   pub there : slice_get (outputs_of (setting_of old.parts) old.parts.clock) place ≡ Some (sink, node)
   pub rose : RoseAt told place old.outs new.outs
 
--- the engine stands for some ticks and answers
+-- an engine has no fault: it stands for some number of ticks, and for the answers that its readers took in them
 pub record DoesStand {S : Type 0} (e : ClockEngine S) : Type 0 where
   pub ticks : ℕ
   pub answers : ℕ → List Answer
   pub stand : EngineStands e.parts ticks answers
 
--- a task may make `count` ticks more
+-- a task may make `count` ticks more: its engine has no fault, its taps have the plan's buffers, the ticks are at most
+-- 10^9 in all, and its sinks have room
 pub record CanRun {S T : Type 0} (told : S → SinkTold) (buffers : T → ℕ) (count : ℕ) (x : Task S T) : Type 0 where
   pub many : buffers x.taps ≡ length x.engine.parts.scene.plan.now.buffers
   pub stands : DoesStand x.engine

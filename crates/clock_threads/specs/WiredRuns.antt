@@ -18,7 +18,8 @@ use Rattle.clock_threads.specs.Listed.{listed}
 use Rattle.clock_threads.specs.ThreadRuns.{AreEngines, HasRun}
 use Rattle.clock_threads.specs.EngineTasks.{engine_of}
 
--- the wires are those of a plan's buffers, between `clocks` clocks
+-- the wires are those of a plan's buffers: one for each, of its capacity, which is not 0, and between two of `clocks`
+-- clocks
 pub record AreLaid (plan : Plan) (clocks : ℕ) (wires : List Wire) : Type 0 where
   pub many : length wires ≡ length plan.buffers
   pub few : length wires < 4294967296

@@ -59,7 +59,7 @@ abbrev pub rest_at : ClockStates → ℕ → ℕ
 rest_at all k = slice_index_or all.room.rests.items k 0
 
 -- The counts of instants that are kept of sub-clocks hold good: for so many instants all nodes of the sub-clock can go
--- on as at its latest one, and all its crossfades can pass their child's cells on.
+-- on as at its latest one, and so can the sub-clocks of its crossfades through which cells pass.
 pub record AreResting (scene : Scene) (all : ClockStates) : Type 0 where
   pub ahead : (k : ℕ) → 0 < rest_at all k
       → AllLieAhead scene (Sub k) all.room.held.items all.states.items (rest_at all k)

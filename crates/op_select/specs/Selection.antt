@@ -13,7 +13,7 @@ pub record Selection : Type 0 where
   pub children : ℕ
   pub last : Option ℕ
 
--- the child used at the last of these instants, the latest first
+-- the child used last, by the children used at the instants so far, the latest first; none where there was none
 abbrev pub last_used : List ℕ → Option ℕ
 last_used [] = None
 last_used (child ∷ used) = Some child

@@ -19,13 +19,14 @@ use Rattle.clock_forcings.specs.Forcings.{id_or}
 use Rattle.plan_blames.specs.Needs.{needs}
 use Rattle.plan_blames.specs.Texts.{escaped}
 
--- whether source n is red for a silence: it is the one that was refused, or it may offer nothing (`mark` is false) and
--- a red source after it needs it; `reds` has of each of these whether it is red
+-- Whether source n is red for a silence: it is the one `refused`, or it may offer nothing (`mark` is false) and a red
+-- source needs it. `behind` are the sources after it, and `reds` says of each whether it is red.
 abbrev pub is_to_blame : (mark : ℕ → Bool) → (refused n : ℕ) → (behind : List Node) → (reds : List Bool) → Bool
 is_to_blame mark refused n behind reds = nat_eq n refused
     || (not (mark n) && list_any (λ pair. pair.1 && needs (pair.0).op (pair.0).children n) (zip behind reds))
 
--- of each of these sources whether it is red for the silence of source `refused`; the first one has number n
+-- of each of these sources, the first of which has number n, whether it is red for the silence of source `refused`;
+-- `mark` says whether a source always offers something
 abbrev pub reds_from : (mark : ℕ → Bool) → (refused n : ℕ) → List Node → List Bool
 reds_from mark refused n [] = []
 reds_from mark refused n (node ∷ nodes) = is_to_blame mark refused n nodes (reds_from mark refused (suc n) nodes)
@@ -36,7 +37,8 @@ abbrev pub childless_words : (children : List ℕ) → List ℕ
 childless_words [] = codes "\\nhas nothing to play"
 childless_words (child ∷ children) = []
 
--- why a red source may offer nothing, if that lies in itself: a line of its label
+-- why a red source of this operator may offer nothing, if the cause lies in itself and not in a child: a line of its
+-- label in the picture
 abbrev pub reason : Op → (children : List ℕ) → List ℕ
 reason (Playlist file again) children = codes "\\nmay have no file to play"
 reason (Buffer number) children = codes "\\nmay run dry"
@@ -128,6 +130,6 @@ edge_red true reds clocks k child = mark_at reds k && mark_at reds child
 edge_red false reds (Err (Nested node)) k child = nat_eq node k
 edge_red false reds _ k child = false
 
--- the number of the source of the sink that was refused
+-- the number of the source that plays into sink number `sink`, which was refused; 0 where there is no such sink
 abbrev pub refused_node : List SinkPlan → (sink : ℕ) → ℕ
 refused_node sinks sink = option_map_or (λ s. sink_node s) (slice_get sinks sink) 0

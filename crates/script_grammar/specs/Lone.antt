@@ -5,7 +5,7 @@ use Rattle.script_grammar.specs.View.{view_expr, view_operand}
 use Rattle.script_grammar.specs.declared.tree.Expr as expr
 use Rattle.script_grammar.specs.declared.tree.Operand as operand
 
--- an expression that is one operand, behind `not` if it is negated
+-- the expression of one operand alone, behind `not` if `negated`: all levels of operators around it join nothing
 abbrev pub lone : Bool → Tree AnOperand → Tree AnExpr
 lone negated p = Expr (And (Not negated (Alone (Sum (Product p none) none))) none) none
 

@@ -13,7 +13,7 @@ use Rattle.script_grammar.specs.Spelling.{spell}
 abbrev pub each : {s : Sort} → List (Tree s) → List TokenKind
 each ts = flat_map spell ts
 
--- the spellings of these trees, each behind this token
+-- the spellings of these trees, each behind the token k, as `or` or a comma
 abbrev pub each_behind : {s : Sort} → TokenKind → List (Tree s) → List TokenKind
 each_behind k ts = flat_map (λ t. k ∷ spell t) ts
 

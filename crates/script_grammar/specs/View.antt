@@ -31,7 +31,7 @@ use Rattle.script_grammar.specs.declared.predicate.PAnd as pand
 use Rattle.script_grammar.specs.declared.predicate.PNot as pnot
 use Rattle.script_grammar.specs.declared.predicate.PAtom as patom
 
--- a list of trees as a tree
+-- a list of trees, as the one tree that the grammar has for a list
 abbrev pub listed : {s : Sort} → List (Tree s) → Tree (Many s)
 listed [] = none
 listed (t ∷ ts) = more t (listed ts)
@@ -52,6 +52,8 @@ tuple_of at none = Nothing at
 tuple_of at (more f none) = Paren f
 tuple_of at (more f (more g rest)) = Tuple at f g rest
 
+-- the tree of the grammar that a predicate of the program stands for, and those of its parts joined by `or` and by
+-- `and`, and of its atoms
 abbrev mutual
   pub view_por : por.POr → Tree APOr
   view_por (por.POr' shape parts) = por_of (view_pands parts)
@@ -78,6 +80,8 @@ abbrev mutual
 abbrev pub view_pnot : pnot.PNot → Tree APNot
 view_pnot n = PNot n.negated (view_patom n.atom)
 
+-- the tree of the grammar that a value of the program stands for, and that of each level below it: parts joined by
+-- `or` and `and`, comparisons, sums, products, operands, calls and arguments
 abbrev mutual
   pub view_full : Full → Tree AFull
   view_full (full.Minus at n) = Negative at n

@@ -42,6 +42,7 @@ abbrev pub HasTwo : {s : Sort} → Tree (Many s) → Type 0
 HasTwo none = ⊥
 HasTwo (more x xs) = HasPart xs
 
+-- each list of parts in a predicate, joined by `or` or by `and`, has at least one part, at all depths
 abbrev mutual
   pub IsWholePOr : por.POr → Type 0
   IsWholePOr (por.POr' shape parts) = HasPart (view_pands parts) × AreWholePAnds parts
@@ -61,10 +62,12 @@ abbrev mutual
   IsWholePAtom (patom.Paren' p inside) = IsWholePOr inside
   IsWholePAtom atom = Unit {0}
 
--- each list of parts in a predicate's atom has at least one part
+-- each list of parts in a predicate's atom, behind `not` or not, has at least one part
 abbrev pub IsWholePNot : pnot.PNot → Type 0
 IsWholePNot n = IsWholePAtom n.atom
 
+-- each list in a value is as long as the grammar wants, at all depths: a tuple has at least two parts, and each list
+-- of a predicate's parts at least one
 abbrev mutual
   pub IsWholeFull : Full → Type 0
   IsWholeFull (full.Minus at n) = Unit {0}
@@ -175,6 +178,6 @@ IsWholePart (part.If i) = IsWholeIf i
 abbrev pub IsWholeStmt : stmt.Stmt → Type 0
 IsWholeStmt s = IsWholePart s.part
 
--- a script of the grammar
+-- a script whose lists are all as long as the grammar wants, so its tree is one of the grammar
 abbrev pub IsWhole : script.Script → Type 0
 IsWhole s = All IsWholeStmt s.statements.items

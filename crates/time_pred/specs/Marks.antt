@@ -9,7 +9,7 @@ abbrev pub days_before : ℕ → ℕ
 days_before zero = 6
 days_before (suc d) = d
 
--- the value of a mark: the sum of its parts
+-- the time that a mark names, in seconds since its period began: the sum of its day, hour, minute and second
 abbrev pub value_of : TimeMark → ℕ
 value_of m = option_map_or days_before m.day 0 * 86400 + unwrap_or m.hour 0 * 3600 + unwrap_or m.minute 0 * 60
     + unwrap_or m.second 0
@@ -19,7 +19,8 @@ value_of m = option_map_or days_before m.day 0 * 86400 + unwrap_or m.hour 0 * 36
 abbrev pub period_of : TimeMark → ℕ
 period_of m = if is_some m.day then 604800 else if is_some m.hour then 86400 else if is_some m.minute then 3600 else 60
 
--- the length of a mark's finest part
+-- for how many seconds a mark alone holds: the length of the finest part that it names, a day, an hour, a minute or a
+-- second
 abbrev pub finest_of : TimeMark → ℕ
 finest_of m = if is_some m.second then 1 else if is_some m.minute then 60 else if is_some m.hour then 3600 else 86400
 

@@ -24,7 +24,7 @@ pub data PredicateTree : PredicateSort → Type 0 where
 abbrev pub Predicate : Type 0
 Predicate = PredicateTree OnePredicate
 
--- the parts of a predicate, from a list of them
+-- a list of predicates as the parts of one, which are joined by `and` or by `or`
 abbrev pub parts_of : List Predicate → PredicateTree PredicateParts
 parts_of [] = no_parts
 parts_of (p ∷ ps) = first_part p (parts_of ps)

@@ -21,13 +21,13 @@ pub part_same : (o : Option ℕ) → part_back (part_code o) ≡ o
 part_same None = refl
 part_same (Some n) = refl
 
--- the first of a pair; of any other code nothing
+-- the first of a pair in a code; nothing (`gnil`) of any other code
 abbrev first : Gv → Gv
 first gnil = gnil
 first (gnum n) = gnil
 first (gcons a b) = a
 
--- the second of a pair; of any other code nothing
+-- the second of a pair in a code; nothing (`gnil`) of any other code
 abbrev rest : Gv → Gv
 rest gnil = gnil
 rest (gnum n) = gnil
@@ -55,6 +55,8 @@ mark_same m = λ i. record {
   second = part_same m.second i;
 }
 
+-- a predicate as a code, a pair of the number of its form and the codes of what it has; and a list of parts as the
+-- pairs of their codes
 abbrev mutual
   code : PredicateTree OnePredicate → Gv
   code Always = gcons (gnum 0) gnil

@@ -2,12 +2,12 @@
 use Rattle.std.specs.List.{list_all}
 use Rattle.std.specs.Prelude.{Bool, false, ◌==◌, ◌||◌, ◌≢◌, ℕ, List, [], ◌∷◌, map, if◌then◌else◌}
 
--- a text has no byte that is `stop`
+-- no byte of a text is `stop`: so a part of a line goes on up to the first such byte
 abbrev pub Lacks : ℕ → List ℕ → Type 0
 Lacks stop [] = Unit {0}
 Lacks stop (b ∷ more) = (b ≢ stop) × Lacks stop more
 
--- whether a byte is one of the two letters
+-- whether a byte is one of the two letters `one` and `other`, which tell the two answers of a put or a take
 abbrev pub is_letter : ℕ → ℕ → ℕ → Bool
 is_letter one other b = b == one || b == other
 

@@ -7,7 +7,7 @@ use Rattle.trace_log.specs.Values.{TraceValue}
 abbrev pub letter : ℕ → ℕ → Bool → ℕ
 letter one other answer = if answer then one else other
 
--- the letters of answers; a stroke where there is none
+-- the letters of a buffer's answers, `one` for true and `other` for false; a stroke where there is no answer
 unfoldable pub letters : ℕ → ℕ → List Bool → List ℕ
 letters one other [] = codes "-"
 letters one other (a ∷ more) = map (letter one other) (a ∷ more)
