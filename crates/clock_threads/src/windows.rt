@@ -17,7 +17,7 @@ use std::alloc::Global;
 use std::sync::Wait;
 use std::thread::Threads;
 
-// How the run ends at a fault of this clock.
+// How a run ends that this fault of main clock `clock` stopped.
 pub(crate) fn end_of(clock: u32, fault: TickFault) -> End
     ensures { result ≡ end_by clock fault }
 {
@@ -41,7 +41,7 @@ fn stopped_in<O, R>(tasks: &[Task<'_, O, ThreadTaps<'_, R>>]) -> Option<End>
     None
 }
 
-// Tells the gate which clocks a buffer joins.
+// Tells the gate, which each clock enters before a tick, which pairs of clocks a buffer joins.
 fn tell_joins<G: Gate>(wires: &[Wire], gate: &G) {
     for wire in wires {
         if wire.from != wire.to {

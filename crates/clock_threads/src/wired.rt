@@ -26,7 +26,8 @@ use std::alloc::Global;
 use std::sync::Wait;
 use std::thread::Threads;
 
-// Hands out the ends of the buffers, and makes all windows.
+// Runs the tasks of all clocks: hands each the ends of its buffers' queues, and makes all `ticks` ticks, window by
+// window.
 fn run_tasks<'q, O: Sink + Send, G: Gate + Sync, R: Threads + Wait + Sync>(
     rt: &R,
     alloc: Global,

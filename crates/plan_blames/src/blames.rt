@@ -16,7 +16,7 @@ use plan_core::{Node, Op, SinkPlan};
 use std::alloc::Global;
 use time_pred::SharedPred;
 
-/// The mark of a source, or `false` where there is none.
+/// Whether source `number` is marked in a list that has a mark for each source; `false` where there is no such source.
 pub fn mark(marks: &[bool], number: usize) -> bool
     ensures { result ≡ mark_at marks.now number }
 {
@@ -105,7 +105,8 @@ fn clock_asks(alloc: Global, id: &str, k: u64, op: &Op) -> Result<bool, Memory>
     }
 }
 
-/// Whether the edge from a child to source k is red; `silent` says that the plan is refused for a silence.
+/// Whether a picture of the plan draws the edge from a child to source k red; `silent` says that the plan is refused
+/// for a silence.
 pub fn is_edge_red(
     silent: bool,
     reds: &[bool],
@@ -144,7 +145,7 @@ pub fn push_red_words(
     }
 }
 
-// Appends why a source may offer nothing, if it is red.
+// Appends to a source's label in a picture why it may offer nothing, if it is red.
 fn push_reason_words(into: &mut Vec<u8>, red: bool, node: &Node) -> Result<(), Memory>
     ensures { OnOk result (into.new.items ≡ into.old.items ++ reason_words red node.now) }
 {
@@ -203,7 +204,7 @@ fn push_childless(into: &mut Vec<u8>, children: &[u32]) -> Result<(), Memory>
     }
 }
 
-// Appends the lines of source k for a fault of clocks.
+// Appends to the label of source k in a picture its part in a fault of clocks, if it has one.
 fn push_clock_words(
     alloc: Global,
     into: &mut Vec<u8>,
@@ -228,7 +229,7 @@ fn push_clock_words(
     }
 }
 
-// Appends that a crossfade lies in its own clock, if this is the one.
+// Appends to a source's label that it lies in its own clock, if it is the crossfade with that fault (`is_it`).
 fn push_nested(into: &mut Vec<u8>, is_it: bool) -> Result<(), Memory>
     ensures { OnOk result (into.new.items ≡ into.old.items ++ nested_words is_it) }
 {
@@ -258,7 +259,7 @@ fn push_two_clocks(
     push_asking_words(alloc, into, asks, k, op)
 }
 
-// Appends under which two clocks a source would be, if this is the one.
+// Appends to a source's label which two clocks would drive it, if it is the source with that fault (`is_it`).
 fn push_shared(
     into: &mut Vec<u8>,
     is_it: bool,
@@ -274,7 +275,7 @@ fn push_shared(
     }
 }
 
-// Appends under which two clocks a source would be.
+// Appends to the label of a source, which has that fault, which two clocks would drive it.
 fn push_both(into: &mut Vec<u8>, first: &ClockName, second: &ClockName) -> Result<(), Memory>
     ensures { OnOk result (into.new.items ≡ into.old.items
         ++ (codes "\\nE26 under clocks " ++ both_names first.now second.now)) }
@@ -283,7 +284,7 @@ fn push_both(into: &mut Vec<u8>, first: &ClockName, second: &ClockName) -> Resul
     push_names(into, first, second)
 }
 
-/// Appends the names of two clocks.
+/// Appends the names of two clocks that were asked for, with `and` between.
 pub fn push_names(into: &mut Vec<u8>, first: &ClockName, second: &ClockName) -> Result<(), Memory>
     ensures { OnOk result (into.new.items ≡ into.old.items ++ both_names first.now second.now) }
 {
@@ -303,7 +304,7 @@ fn push_name(into: &mut Vec<u8>, name: &ClockName) -> Result<(), Memory>
     }
 }
 
-// Appends which clock source k wants, if it asks for one.
+// Appends to the label of source k which clock it wants for what it plays, if it asks for one (`asks`).
 fn push_asking_words(
     alloc: Global,
     into: &mut Vec<u8>,
@@ -333,7 +334,8 @@ fn push_asking(alloc: Global, into: &mut Vec<u8>, k: u64, op: &Op) -> Result<(),
     }
 }
 
-/// The number of the source of this sink; 0 where there is no such sink.
+/// The number of the source that plays into a refused sink, an output or the feed of a buffer; 0 where there is no
+/// such sink.
 pub fn refused_node(sinks: &[SinkPlan], sink: u32) -> u32
     ensures { result ≡ refused_node sinks.now sink }
 {

@@ -189,7 +189,7 @@ fn push_red_member(into: &mut Vec<u8>, is_in: bool, k: u64) -> Result<(), Memory
     }
 }
 
-// Whether source k is in the group of one of `these`.
+// Whether source k must share a clock with one of `these`: it is in the same group.
 fn shares(groups: &[u32], these: &[u32], k: u64) -> bool
     ensures { result ≡ shares (λ source. slice_index groups.now source) these.now k }
 {
@@ -202,7 +202,7 @@ fn shares(groups: &[u32], these: &[u32], k: u64) -> bool
     false
 }
 
-// The group of a source.
+// The number of a source's group, which has the sources that must share a clock; 0 where there is no such source.
 fn group_of(groups: &[u32], source: u64) -> u32
     ensures { result ≡ slice_index groups.now source }
 {

@@ -5,7 +5,7 @@ ghost use Rattle.plan_blames.specs.Texts.{escaped, escaped_byte};
 use fixed_text::write_u64;
 use liq_base::Memory;
 
-/// Appends a text and a number.
+/// Appends a text and then a number in decimal.
 pub fn push_number(into: &mut Vec<u8>, text: &[u8], number: u64) -> Result<(), Memory>
     ensures { OnOk result (into.new.items ≡ into.old.items ++ text.now ++ decimal number) }
 {
@@ -64,7 +64,7 @@ fn push_byte(into: &mut Vec<u8>, byte: u8) -> Result<(), Memory>
     Ok(())
 }
 
-/// Appends a text.
+/// Appends a text as it stands, without escaping.
 pub fn push_plain(into: &mut Vec<u8>, text: &[u8]) -> Result<(), Memory>
     ensures { OnOk result (into.new.items ≡ into.old.items ++ text.now) }
 {

@@ -65,7 +65,7 @@ pub fn eval_with_calls(alloc: Global, script: &Script, uses: &[Use]) -> Result<S
     answered(alloc, script, uses)
 }
 
-// Makes the tables of a script and of its uses, and evaluates the script by them.
+// Evaluates a script by its tables, which it makes: of the defs, and of what each name stands for.
 fn answered(alloc: Global, script: &Script, uses: &[Use]) -> Result<Sources, EvalFault>
     requires { IsNotStuck (evaluation (view_script script.now) uses.now) }
     ensures { Answers (λ s. (s.plan, s.calls)) result (sources (view_script script.now) uses.now) }
@@ -130,7 +130,7 @@ fn run(
     settle(machine, false)
 }
 
-// Evaluates statement `number`, counted from 1, and ends the settings before it if it is none.
+// Evaluates statement `number` of a script, counted from 1. If it is no `setting`, the settings before it end first.
 #[tactic(auto, unfolding(eval_meaning::specs::Scripts::turned), using(crate::proofs::Statements::fault_is_told))]
 fn turn(
     alloc: Global,
@@ -155,7 +155,8 @@ fn turn(
     }
 }
 
-// The fault of the script, for a fault of its statement `stmt`, which is no value of a wrong type.
+// Makes the fault of statement `stmt` the script's, with its number. It is no value of a wrong type: typing has ruled
+// that out.
 #[tactic(auto, using(crate::proofs::Statements::is_told))]
 fn told(stmt: u32, fault: Stop) -> EvalFault
     requires { fault ≢ Stuck }
@@ -167,7 +168,7 @@ fn told(stmt: u32, fault: Stop) -> EvalFault
     }
 }
 
-// Ends the settings, if they have not ended, where the statement to come is no `setting`.
+// Ends the script's settings before a statement, unless that is itself a `setting` (`setting`) or they have ended.
 fn settle(machine: &mut Machine, setting: bool) -> Result<(), EvalFault>
     ensures { Answers (λ _. machine.new) result (settings_settled setting machine.old) }
 {
