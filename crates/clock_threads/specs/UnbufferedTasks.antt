@@ -7,7 +7,7 @@ use Rattle.clock_ticks.specs.declared.engine.ClockEngine.{ClockEngine}
 use Rattle.clock_threads.specs.declared.task.Task.{Task}
 use Rattle.clock_threads.specs.UnbufferedTicks.{with_taps}
 
--- taps without ends and without lists
+-- the taps of a task on a plan without buffers: no end of a buffer and no list
 abbrev pub no_taps : ThreadTaps ⊤
 no_taps = record {
   rt = record { ref_ptr = (0, 0); now = tt };

@@ -103,7 +103,7 @@ abbrev pub RunPart : {S R : Type 0} → (told : S → SinkTold) → List Wire �
     → (first now : List (Task S (ThreadTaps R))) → Type 0
 RunPart {S} {R} told wires W N first now = (d : Task S (ThreadTaps R)) → PartAt told wires W N first now d
 
--- how a run ends, where this fault stopped a clock
+-- how a run ends that a fault of this clock stopped: at the sink that refused bytes, or for want of memory
 abbrev pub end_by : (clock : ℕ) → TickFault → End
 end_by clock (Refused sink) = Write clock sink
 end_by clock OutOfMemory = NoMemory

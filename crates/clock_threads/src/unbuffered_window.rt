@@ -61,7 +61,8 @@ fn run_unbuffered_ticks<O: Sink, G: Gate>(
     );
 }
 
-/// Each engine makes `count` ticks, over a plan without buffers, at the same time as the others.
+/// Makes one window of a run over a plan without buffers: each engine makes `count` ticks on a thread of its own, at
+/// the same time as the others.
 pub fn run_unbuffered_window<O: Sink + Send, G: Gate + Sync, R: Threads + Sync>(
     rt: &R,
     alloc: Global,

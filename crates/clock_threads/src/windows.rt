@@ -27,7 +27,8 @@ pub(crate) fn end_of(clock: u32, fault: TickFault) -> End
     }
 }
 
-// How the run ends, if a clock stopped: at the fault of the lowest clock that did; `None` if none did.
+// How the run ends, if the engine of a task stopped: by the fault of the clock with the lowest number that did; `None`
+// if none did.
 fn stopped_in<O, R>(tasks: &[Task<'_, O, ThreadTaps<'_, R>>]) -> Option<End>
     ensures none { IfNone result ((k : ℕ) (d : _) → k < length tasks.now
         → (slice_index_or tasks.now k d).engine.parts.stopped ≡ None) }

@@ -75,7 +75,7 @@ pub(crate) fn ended(alloc: Global, end: End) -> RunEnd
     }
 }
 
-// The result of a run: with these logs and their counts if it is done, and otherwise without.
+// What a run answers: if it is done, its logs and the counts of their answers, and otherwise only its end.
 fn told(alloc: Global, logs: Vec<BufferLog>, end: End) -> RunEnd
     ensures done { result.end ≡ Done → (end ≡ Done) × (result.logs.items ≡ logs.items)
         × (result.counts.items ≡ map counts_in logs.items) }

@@ -176,7 +176,7 @@ fn is_driven(clocks: &[NodeClock], clock: u32, i: u32) -> bool
     true
 }
 
-// The clock of node i; main clock 0 if there is no such node.
+// The clock that drives node i; main clock 0 if there is no such node.
 fn clock_at(clocks: &[NodeClock], i: u32) -> NodeClock
     ensures { result ≡ slice_index_or clocks.now i (NodeClock.Main 0) }
 {

@@ -44,7 +44,8 @@ clock_at clocks i = slice_index_or clocks i (Main 0)
 pub record HasRanks (clocks : List NodeClock) (rank : NodeClock → ℕ) : Type 0 where
   pub deeper : (k : ℕ) → k < length clocks → rank (Sub k) ≡ suc (rank (clock_at clocks k))
 
--- sub-clocks nest no deeper below a clock than `levels`
+-- sub-clocks, each the clock of a crossfade's child, nest no deeper below this clock than `levels`: by ranks, which
+-- say how deep a clock nests
 pub record HasLevels (clocks : List NodeClock) (clock : NodeClock) (levels : ℕ) : Type 0 where
   pub rank : NodeClock → ℕ
   pub ranks : HasRanks clocks rank
@@ -54,7 +55,8 @@ pub record HasLevels (clocks : List NodeClock) (clock : NodeClock) (levels : ℕ
 abbrev pub laned_at : ClockStates → ℕ → Type 0
 laned_at all i = HasLanes all.room.left.items all.room.right.items i
 
--- how many instants of the sub-clock of crossfade k are known to go on as its latest one did
+-- how many instants of the sub-clock of crossfade k are known to go on as its latest one did, so that they can be made
+-- at once
 abbrev pub rest_at : ClockStates → ℕ → ℕ
 rest_at all k = slice_index_or all.room.rests.items k 0
 
@@ -92,8 +94,8 @@ pub record AreStatesAt (over : Scene) (time : WeekTime) (all : ClockStates) : Ty
   pub rate : time.rate ≡ over.plan.now.rate
   pub frame : time.frame ≡ over.plan.now.frame
 
--- a clock and the sub-clocks below it can make instants: there are states for the nodes of a plan, `own` has an entry
--- for each node, sub-clocks nest at most `most` deep, and readers read some of `buffers` buffers
+-- A clock and the sub-clocks below it can make instants: their states fit the scene, `own` has an entry for each node,
+-- sub-clocks nest at most `most` deep, and readers read some of `buffers` buffers.
 pub record CanMakeInstants (over : Scene) (own : List Bool) (clock : NodeClock) (most buffers : ℕ) (all : ClockStates)
     : Type 0 where
   pub scene : IsScene over
@@ -168,9 +170,8 @@ fade_in setting k (Some node) = is_fade (work_at setting k node)
 abbrev pub fade_at : Setting → ℕ → Bool
 fade_at setting k = fade_in setting k (slice_get setting.plan.nodes k)
 
--- each sub-clock of a crossfade whose clock has this rank or a deeper one has made exactly as many instants as settle
--- the crossfade's latest item, and no instant more; and each reader in such a clock has begun the instants that its
--- clock has made, and no instant more
+-- No clock ran further than needed: in clocks that nest at least `level` deep, a crossfade's sub-clock made just the
+-- instants that settle what it plays at its latest instant, and a reader began just the instants of its clock.
 pub record RanAsNeeded (setting : Setting) (sub : ℕ → ℕ → List Slot) (rank : NodeClock → ℕ) (level : ℕ)
     (progress : Progress) : Type 0 where
   pub each : (k overlap : ℕ) (node : Node) → slice_get setting.plan.nodes k ≡ Some node → node.op ≡ Crossfade overlap
@@ -230,8 +231,8 @@ pub record HasItem (setting : Setting) (sub : ℕ → ℕ → List Slot) (progre
   pub run : (overlap : ℕ) → work_at setting k node ≡ Fades overlap
       → run_of overlap (sub k) (position (past_of setting sub progress.ran k) k) ≡ progress.filled k
 
--- of the nodes that may have changed, `touched`, those `done` can make their next instant; the calls `more` were made,
--- and no clock of rank `level` or a lower one has made an instant
+-- Some crossfades that nest `level` deep, among the nodes `touched`, were fed by the calls `more`, and those `done`
+-- can make their next instant. No clock that nests so deep or less made an instant.
 pub record IsReached (setting : Setting) (sub : ℕ → ℕ → List Slot) (rank : NodeClock → ℕ) (level : ℕ)
     (touched done : ℕ → Type 0) (progress : Progress) (more : List Call) (all : ClockStates) : Type 0 where
   pub now : Progress
@@ -248,7 +249,8 @@ pub record IsReached (setting : Setting) (sub : ℕ → ℕ → List Slot) (rank
 abbrev pub calls_below : Setting → (sub : ℕ → ℕ → List Slot) → (k m : ℕ) → List Call
 calls_below setting sub k m = calls_of setting sub (Sub k) (first_instants setting sub (Sub k) m)
 
--- node k was given slots of its child, with the calls `more` of the instants that its sub-clock made for them
+-- Crossfade k was given further slots of its child since this `progress`, for which its sub-clock made instants, with
+-- the calls `more`. Of the node k, if it is in `done`, the next instant can be made.
 pub record IsFilling (setting : Setting) (sub : ℕ → ℕ → List Slot) (rank : NodeClock → ℕ) (k : ℕ) (done : ℕ → Type 0)
     (progress : Progress) (more : List Call) (all : ClockStates) : Type 0 where
   pub reached : IsReached setting sub rank (rank (clock_of setting k)) (is_node k) done progress more all
@@ -262,8 +264,8 @@ calls_upto setting sub clock past n =
     joined_upto (λ k. fades_in setting sub (calls_below setting sub) (lies_in setting clock k) past k
     (slice_get setting.plan.nodes k)) n
 
--- a clock has made one instant more, with the calls `more`, and no other clock of its rank or a lower one has; below it
--- no clock has made more than its crossfade asks for
+-- A clock has made one instant more, with the calls `more`, and no other clock that nests as deep or less has. Below
+-- it, no clock has made more instants than its crossfade asks for.
 pub record HasMadeInstant (setting : Setting) (sub : ℕ → ℕ → List Slot) (rank : NodeClock → ℕ) (clock : NodeClock)
     (progress : Progress) (more : List Call) (all : ClockStates) : Type 0 where
   pub now : Progress
@@ -390,16 +392,16 @@ pub record NodeStopped {T : Type 0} (stands : T → List Call → Type 0) (scene
       → Stand setting sub rank (rank (clock_at scene.clocks.now k)) progress old
       → IsFillingStopped setting sub progress k made
 
--- the crossfades of a clock below node `below` have their items, with the calls `more` of the instants that their
--- sub-clocks made for them
+-- The crossfades of a clock with numbers below `below` know their items, which is what they play next. The calls
+-- `more` are those of the instants that their sub-clocks made for it.
 pub record AreFilled (setting : Setting) (sub : ℕ → ℕ → List Slot) (rank : NodeClock → ℕ) (clock : NodeClock)
     (below : ℕ) (progress : Progress) (more : List Call) (all : ClockStates) : Type 0 where
   pub reached : IsReached setting sub rank (rank clock) (is_upto setting.clocks clock below)
       (is_upto setting.clocks clock below) progress more all
   pub calls : more ≡ calls_upto setting sub clock (first_instants setting sub clock (progress.ran clock)) below
 
--- before the crossfades of a clock are settled for its next instant: each was given the slots that the instants before
--- took, and the readers have begun it
+-- A clock's next instant has begun, and its crossfades are still to be fed: each was given just the slots of its child
+-- that the instants before took, and the readers have begun the instant.
 pub record AreReady (setting : Setting) (sub : ℕ → ℕ → List Slot) (clock : NodeClock) (progress : Progress)
     : Type 0 where
   pub each : (k overlap : ℕ) (node : Node) → slice_get setting.plan.nodes k ≡ Some node
@@ -409,8 +411,8 @@ pub record AreReady (setting : Setting) (sub : ℕ → ℕ → List Slot) (clock
   pub begun : (i : ℕ) → reads_at setting i ≡ true → clock_of setting i ≡ clock
       → progress.filled i ≡ suc (progress.ran clock)
 
--- the crossfades of a clock below node `below` have their items, by these calls: whatever instants the states stood
--- for, and whatever answers follow
+-- The crossfades of a clock with numbers below `below` know their items, which is what they play next, and these calls
+-- were made for it. This holds whatever instants the old states stood for, and whatever answers follow.
 pub record AllSettled {T : Type 0} (stands : T → List Call → Type 0) (scene : Scene) (own : List Bool)
     (clock : NodeClock) (below : ℕ) (old new : ClockStates) (taps_old taps_new : T) : Type 0 where
   pub more : List Call
@@ -421,8 +423,8 @@ pub record AllSettled {T : Type 0} (stands : T → List Call → Type 0) (scene 
       → Stand setting sub rank (rank clock) progress old → AreReady setting sub clock progress
       → AreFilled setting sub rank clock below progress more new
 
--- memory was refused: these are the first calls for the items of a clock's crossfades, whatever instants the states
--- stood for
+-- Memory was refused while a clock's crossfades were fed: the calls `made` are the first of those for their items,
+-- which is what they play next. This holds whatever instants the states stood for.
 pub record SettlingStopped {T : Type 0} (stands : T → List Call → Type 0) (scene : Scene) (own : List Bool)
     (clock : NodeClock) (old : ClockStates) (taps_old taps_new : T) : Type 0 where
   pub made : List Call

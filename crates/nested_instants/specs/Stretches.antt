@@ -24,8 +24,8 @@ pub record IsStretchOf (slots : ℕ → Slot) (many : ℕ) (first : Slot) (left 
   pub titled : is_some first ≡ true → AreTitled slots many (title_of first)
   pub silent : is_some first ≡ false → (j : ℕ) → j < many → slots j ≡ None
 
--- a clock has made `many` instants more after instant n, without a call, and no other clock of its rank or a lower one
--- has; the nodes that it demands of themselves have left their samples
+-- A clock has made `many` instants at once after its latest one, number n, without a call. No other clock that nests
+-- as deep or less has made one. The nodes that the clock asks for have left their samples.
 pub record HasMadeOn (setting : Setting) (sub : ℕ → ℕ → List Slot) (rank : NodeClock → ℕ) (own : List Bool)
     (clock : NodeClock) (n many : ℕ) (progress : Progress) (all : ClockStates) : Type 0 where
   pub now : Progress
@@ -89,7 +89,8 @@ pub record StretchMade (scene : Scene) (clock : NodeClock) (time : WeekTime) (ma
       → TimeStands setting.start n time
       → HasMadeOn setting sub rank own clock n many progress new
 
--- crossfade k has room for the slots of a stretch of `many` instants of its sub-clock
+-- crossfade k can be given the slots of `many` instants of its sub-clock that are made at once: its clock can run so
+-- many, and it has room for as many cells
 pub record CanFillLane (scene : Scene) (k many : ℕ) (all : ClockStates) : Type 0 where
   pub ready : CanRunClock scene (clock_at scene.clocks.now k) many all
   pub within : k < length scene.plan.now.nodes
@@ -161,7 +162,8 @@ pub record SubClockMade (scene : Scene) (i many : ℕ) (old new : ClockStates) :
       → SubsMade setting sub rank (clock_at scene.clocks.now i) many through i progress old
       → SubsMade setting sub rank (clock_at scene.clocks.now i) many through (suc i) progress new
 
--- nodes in clocks of rank `level` or a lower one, but for those `touched`, keep their first `many` samples
+-- a step leaves these alone: in clocks that nest no deeper than `level`, nodes but for those `touched` keep the first
+-- `many` samples that they left
 pub record AreSamplesLeft (clocks : List NodeClock) (rank : NodeClock → ℕ) (level : ℕ) (touched : ℕ → Type 0) (many : ℕ)
     (old new : ClockStates) : Type 0 where
   pub left : (i : ℕ) → (touched i → ⊥) → rank (clock_at clocks i) ≤ level
@@ -169,8 +171,8 @@ pub record AreSamplesLeft (clocks : List NodeClock) (rank : NodeClock → ℕ) (
   pub right : (i : ℕ) → (touched i → ⊥) → rank (clock_at clocks i) ≤ level
       → samples_of new.room.right.items i many ≡ samples_of old.room.right.items i many
 
--- nodes in clocks of rank `level` or a lower one keep their states and what they gave; but for those `touched`, their
--- sub-clocks keep the times and the instants that are kept; and each node keeps its lanes
+-- A step leaves these alone: in clocks that nest no deeper than `level`, nodes keep their states and what they gave;
+-- but for those `touched`, their sub-clocks keep their times and counts. Each node keeps its lanes.
 pub record AreAbove (clocks : List NodeClock) (rank : NodeClock → ℕ) (level : ℕ) (touched : ℕ → Type 0)
     (old new : ClockStates) : Type 0 where
   pub states : (i : ℕ) → rank (clock_at clocks i) ≤ level → slice_get new.states.items i ≡ slice_get old.states.items i

@@ -168,7 +168,8 @@ fn told(stmt: u32, fault: Stop) -> EvalFault
     }
 }
 
-// Ends the script's settings before a statement, unless that is itself a `setting` (`setting`) or they have ended.
+// Ends the script's settings before a statement that is no `setting`, and at the end of the script, unless they have
+// ended. `setting` says that a `setting` comes next.
 fn settle(machine: &mut Machine, setting: bool) -> Result<(), EvalFault>
     ensures { Answers (λ _. machine.new) result (settings_settled setting machine.old) }
 {
@@ -182,7 +183,8 @@ fn settle(machine: &mut Machine, setting: bool) -> Result<(), EvalFault>
     }
 }
 
-/// Ends the settings: the plan gets its tick, or the last setting was bad.
+/// Ends the settings of a script: its plan gets the length of a tick in samples, by the duration that was set. If that
+/// is out of bounds, the last setting was bad.
 #[tactic(auto, unfolding(eval_meaning::specs::Scripts::settings_ended))]
 fn end_settings(machine: &mut Machine) -> Result<(), EvalFault>
     ensures { Answers (λ _. machine.new) result (settings_ended machine.old) }
@@ -265,7 +267,8 @@ fn binding(
     Ok(())
 }
 
-/// The value of an expression in a statement outside of defs.
+/// The value of an expression in a statement outside of defs: it sees the bindings of the statements before it, and no
+/// parameters.
 fn top_full(
     alloc: Global,
     defs: &Defs<'_>,
@@ -289,7 +292,7 @@ fn top_full(
     full(alloc, &scope, LEVELS, machine, node)
 }
 
-/// The value of a call that is a statement.
+/// The value of a call that is a statement: it sees the bindings of the statements before it, and no parameters.
 fn top_call(
     alloc: Global,
     defs: &Defs<'_>,
@@ -313,7 +316,7 @@ fn top_call(
     call(alloc, &scope, LEVELS, machine, node)
 }
 
-/// The value of an `if` that is a statement.
+/// The value of an `if` that is a statement: it sees the bindings of the statements before it, and no parameters.
 fn top_choice(
     alloc: Global,
     defs: &Defs<'_>,

@@ -9,7 +9,7 @@ use Rattle.script_grammar.specs.declared.tree.Operand as operand
 abbrev pub lone : Bool → Tree AnOperand → Tree AnExpr
 lone negated p = Expr (And (Not negated (Alone (Sum (Product p none) none))) none) none
 
--- the expression is no more than the operand, which lies inside it
+-- the expression e is no more than its operand p, without any operator, and p is a smaller part of e
 pub record IsLone (e : expr.Expr) (p : operand.Operand) : Type 0 where
   pub seen : view_expr e ≡ lone false (view_operand p)
   pub below : operand.size-Operand p < expr.size-Expr e

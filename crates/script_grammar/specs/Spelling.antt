@@ -29,12 +29,12 @@ op_token op.AtMost = Symbol sign.AtMost
 op_token op.Greater = Symbol sign.Greater
 op_token op.AtLeast = Symbol sign.AtLeast
 
--- the token of a sum, or of a difference
+-- the operator of a sum as a token: `-` for true, and `+` for false
 abbrev pub added_token : Bool → TokenKind
 added_token true = Symbol sign.Minus
 added_token false = Symbol sign.Plus
 
--- the token of a product, or of a quotient
+-- the operator of a product as a token: `/` for true, and `*` for false
 abbrev pub multiplied_token : Bool → TokenKind
 multiplied_token true = Symbol sign.Slash
 multiplied_token false = Symbol sign.Star
@@ -44,7 +44,7 @@ abbrev pub token_if : TokenKind → Bool → List TokenKind
 token_if k true = k ∷ []
 token_if k false = []
 
--- the tokens of a label, if there is one
+-- the tokens of an argument's label, a name and `=`, if it has one
 abbrev pub label : Option (List ℕ) → List TokenKind
 label (Some name) = Name name ∷ Symbol sign.Assign ∷ []
 label None = []
@@ -53,13 +53,14 @@ label None = []
 abbrev pub option_name : List ℕ
 option_name = 115 ∷ 97 ∷ 109 ∷ 112 ∷ 108 ∷ 101 ∷ 115 ∷ 105 ∷ 122 ∷ 101 ∷ []
 
--- the tokens of a format
+-- the tokens of the format `%wav`, with its option `(samplesize = size)` if it has one
 abbrev pub wav_tokens : Option ℤ → List TokenKind
 wav_tokens None = Wav ∷ []
 wav_tokens (Some size) = Wav ∷ Symbol sign.OpenRound ∷ Name option_name ∷ Symbol sign.Assign ∷ Int size
     ∷ Symbol sign.CloseRound ∷ []
 
--- the spelling of a tree; of a list, one after another; of a list, each behind a token; and with commas between
+-- The tokens that spell a tree, or a list of trees one after another; those of a list with the token k before each
+-- tree (each_after), and with commas between (with_commas).
 abbrev mutual
   pub spell : {s : Sort} → Tree s → List TokenKind
   spell none = []

@@ -110,7 +110,8 @@ fn read_line(
     Ok((WindowLog { puts, takes }, rest))
 }
 
-// The answers that letters tell; the letter `one` stands for true.
+// The answers that the letters of a trace's line tell: true for the letter `one` and false for another; none for a
+// stroke alone.
 fn answers_of(alloc: Global, letters: &[u8], one: u8) -> Result<Vec<bool>, Memory>
     ensures { IfOk result (λ answers. answers.items ≡ told_by one letters.now) }
 {
