@@ -14,7 +14,7 @@ use Rattle.clock_threads.specs.declared.wires.Wire.{Wire}
 use Rattle.clock_threads.specs.Wires.{wire_at}
 use Rattle.clock_threads.specs.Records.{windows_upto}
 
--- by a buffer's number, what its takes got: chunks, or nothing
+-- what the takes of each buffer got, in order, by its number: each a chunk, or nothing where it was empty
 abbrev pub Answers : Type 0
 Answers = ℕ → List (Option (List Cell))
 
@@ -23,7 +23,7 @@ Answers = ℕ → List (Option (List Cell))
 abbrev pub Meaning : Type 0
 Meaning = Answers → (ℕ → Bool) → ℕ → ℕ → List Call
 
--- the calls of tick t of clock m in a setting, with these answers
+-- the meaning of a setting: which calls tick t of clock m makes, if the takes of all buffers get these answers
 abbrev pub meant : Setting → Meaning
 meant setting answers accepted m t = calls_of_tick (answered setting answers) accepted m t
 
@@ -31,7 +31,7 @@ meant setting answers accepted m t = calls_of_tick (answered setting answers) ac
 abbrev pub and_rest : Answers → Answers → Answers
 and_rest answers rest b = answers b ++ rest b
 
--- what the takes of each buffer got in a clock's first t ticks
+-- what the takes of each buffer got in the first t ticks of a clock that made these calls
 abbrev pub got_by : TickCalls → ℕ → Answers
 got_by tick_calls t b = takes_of b (joined_upto tick_calls.calls t)
 

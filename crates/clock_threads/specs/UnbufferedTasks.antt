@@ -36,10 +36,10 @@ no_taps = record {
   );
 }
 
--- an engine as a task whose taps have no ends and no lists
+-- an engine over a plan without buffers, as a task whose taps reach no buffer
 abbrev pub unbuffered_task : {S : Type 0} → ClockEngine S → Task S (ThreadTaps ⊤)
 unbuffered_task engine = with_taps no_taps engine
 
--- engines as tasks whose taps have no ends and no lists
+-- engines over a plan without buffers, as tasks whose taps reach no buffer
 abbrev pub unbuffered_tasks : {S : Type 0} → List (ClockEngine S) → List (Task S (ThreadTaps ⊤))
 unbuffered_tasks engines = map unbuffered_task engines

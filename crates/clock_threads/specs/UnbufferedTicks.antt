@@ -6,7 +6,7 @@ use Rattle.clock_ticks.specs.declared.engine.ClockEngine.{ClockEngine}
 use Rattle.clock_threads.specs.declared.task.Task.{Task}
 use Rattle.clock_threads.specs.TaskRuns.{CanRun, WasRun}
 
--- the task of an engine with these taps
+-- the task of an engine, with these taps as its way to the buffers
 abbrev pub with_taps : {S T : Type 0} → T → ClockEngine S → Task S T
 with_taps taps engine = record { engine = engine; taps = taps }
 

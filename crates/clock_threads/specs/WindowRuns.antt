@@ -108,7 +108,7 @@ abbrev pub end_by : (clock : ℕ) → TickFault → End
 end_by clock (Refused sink) = Write clock sink
 end_by clock OutOfMemory = NoMemory
 
--- the end is that of the lowest clock that stopped, by its fault
+-- a run that faults stopped ends by one of them: that of the first task in the list whose engine stopped
 pub record IsToldByLowest {S R : Type 0} (tasks : List (Task S (ThreadTaps R))) (end : End) : Type 0 where
   pub place : ℕ
   pub within : place < length tasks

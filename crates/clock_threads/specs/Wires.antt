@@ -20,7 +20,8 @@ ends_at wire k = if wire.from == wire.to then false else wire.from == k || wire.
 abbrev pub ended : List Wire → (k b : ℕ) → Bool
 ended wires k b = ends_at (wire_at wires b) k
 
--- the calls of clock k on the buffers that are its own alone
+-- of a clock's calls, those that it makes on its own buffers: without those on buffers that join clock k to another
+-- one
 abbrev pub kept : List Wire → ℕ → List Call → List Call
 kept wires k [] = []
 kept wires k (call ∷ calls) = if ended wires k (buffer_of call) then kept wires k calls else call ∷ kept wires k calls

@@ -23,7 +23,7 @@ pub record IsNewState (plan : Plan) (clocks : List NodeClock) (m i : ℕ) (node 
       → setting.plan ≡ plan → sub i 0 ≡ []
       → StateStands setting sub [] 0 i (work_at setting i node) state
 
--- the states of the first n nodes before the first instant
+-- the states of the first n nodes of a plan in a new engine of main clock m: they stand for no instant made
 pub record AreNewStates (plan : Plan) (clocks : List NodeClock) (m n : ℕ) (states : List NodeState) : Type 0 where
   pub size : length states ≡ n
   pub each : (i : ℕ) (node : Node) (state : NodeState) → slice_get plan.nodes i ≡ Some node

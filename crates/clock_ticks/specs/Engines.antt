@@ -42,7 +42,7 @@ outputs_from setting m i (Output name node fallible wide ∷ sinks) =
     else outputs_from setting m (suc i) sinks
 outputs_from setting m i (Feed buffer node ∷ sinks) = outputs_from setting m (suc i) sinks
 
--- the outputs of main clock m, in sink order
+-- the outputs of main clock m in a plan, in the order of its sinks, by their numbers among the sinks and their nodes
 abbrev pub outputs_of : Setting → ℕ → List (ℕ × ℕ)
 outputs_of setting m = outputs_from setting m 0 setting.plan.sinks
 
@@ -50,14 +50,15 @@ outputs_of setting m = outputs_from setting m 0 setting.plan.sinks
 abbrev pub output_of : Port → ℕ × ℕ
 output_of port = (port.sink, port.node)
 
--- the feeds of main clock m among these sinks: their buffers and nodes
+-- the feeds of main clock m among these sinks, by the buffer that each fills and the node that it plays
 abbrev pub feeds_from : Setting → (m : ℕ) → List SinkPlan → List (ℕ × ℕ)
 feeds_from setting m [] = []
 feeds_from setting m (Output name node fallible wide ∷ sinks) = feeds_from setting m sinks
 feeds_from setting m (Feed buffer node ∷ sinks) =
     if lies_in setting (Main m) node then (buffer, node) ∷ feeds_from setting m sinks else feeds_from setting m sinks
 
--- the feeds of main clock m, in sink order
+-- the feeds of main clock m in a plan, in the order of its sinks, by the buffer that each fills and the node that it
+-- plays
 abbrev pub feeds_of : Setting → ℕ → List (ℕ × ℕ)
 feeds_of setting m = feeds_from setting m setting.plan.sinks
 

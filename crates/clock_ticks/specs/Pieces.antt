@@ -16,7 +16,7 @@ pub record GotSomePieces {S : Type 0} (told : S → SinkTold) (old new : List S)
   pub count : ℕ
   pub got : GotOnePiece told count old new
 
--- the count of faults of the sink at this place rose
+-- the sink at this place refused bytes: its count of faults rose; `told` is what a sink tells of itself
 pub record RoseAt {S : Type 0} (told : S → SinkTold) (place : ℕ) (old new : List S) : Type 0 where
   pub before : S
   pub after : S
@@ -36,12 +36,12 @@ pub record HasGot (pieces : ℕ) (old new : SinkTold) : Type 0 where
   pub faults_grew : old.faults ≤ new.faults
   pub appends_are : new.appends ≡ iterate one_more_append pieces old.appends
 
--- each sink got so many pieces
+-- each sink got so many pieces of bytes, one for each tick; `told` is what a sink tells of itself
 pub record GotPieces {S : Type 0} (told : S → SinkTold) (pieces : ℕ) (old new : List S) : Type 0 where
   pub each : (k : ℕ) (before after : S) → slice_get old k ≡ Some before → slice_get new k ≡ Some after
       → HasGot pieces (told before) (told after)
 
--- each sink got at least `least` and at most `most` pieces
+-- each sink got at least `least` and at most `most` pieces of bytes; `told` is what a sink tells of itself
 pub record GotBetween {S : Type 0} (told : S → SinkTold) (least most : ℕ) (old new : List S) : Type 0 where
   pub each : (k : ℕ) (before after : S) → slice_get old k ≡ Some before → slice_get new k ≡ Some after
       → (pieces : ℕ) × (least ≤ pieces) × (pieces ≤ most) × HasGot pieces (told before) (told after)

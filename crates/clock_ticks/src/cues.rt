@@ -161,7 +161,7 @@ pub fn whole_marks(list: &CueList, stopped: Option<TickFault>) -> &[CueMark]
     }
 }
 
-// The first `count` marks, or all if there are fewer.
+// The first `count` marks of an output's track beginnings, or all if there are fewer.
 fn first_marks(marks: &[CueMark], count: usize) -> &[CueMark]
     ensures { result.now ≡ take count marks.now }
 {

@@ -399,7 +399,7 @@ impl<'a, O: Sink> ClockEngine<'a, O> {
         &[]
     }
 
-    /// The sinks of its outputs, in sink order.
+    /// Takes the engine apart and gives back the sinks of its outputs, in sink order.
     pub fn into_outs(self) -> Vec<O>
         ensures { result.items ≡ self.entry.outs }
     {

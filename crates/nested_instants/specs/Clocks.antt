@@ -250,7 +250,7 @@ abbrev pub calls_below : Setting → (sub : ℕ → ℕ → List Slot) → (k m 
 calls_below setting sub k m = calls_of setting sub (Sub k) (first_instants setting sub (Sub k) m)
 
 -- Crossfade k was given further slots of its child since this `progress`, for which its sub-clock made instants, with
--- the calls `more`. Of the node k, if it is in `done`, the next instant can be made.
+-- the calls `more`. If it is in `done`, it can make its next instant.
 pub record IsFilling (setting : Setting) (sub : ℕ → ℕ → List Slot) (rank : NodeClock → ℕ) (k : ℕ) (done : ℕ → Type 0)
     (progress : Progress) (more : List Call) (all : ClockStates) : Type 0 where
   pub reached : IsReached setting sub rank (rank (clock_of setting k)) (is_node k) done progress more all

@@ -18,11 +18,11 @@ abbrev pub last_used : List ℕ → Option ℕ
 last_used [] = None
 last_used (child ∷ used) = Some child
 
--- whether the child offers a cell
+-- whether this child, a place in the list of children, offers a cell, by the slots of all children
 abbrev pub offers : List Slot → ℕ → Bool
 offers slots child = is_some (slot_at slots child)
 
--- whether the child offers a cell that does not begin a track
+-- whether this child, a place in the list of children, offers a cell in the middle of a track
 abbrev pub goes_on : List Slot → ℕ → Bool
 goes_on slots child = is_inner (slot_at slots child)
 

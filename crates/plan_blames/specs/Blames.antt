@@ -46,7 +46,7 @@ reason Fail children = codes "\\nnever plays"
 reason (Switch sensitive preds) children = if list_any is_always preds then [] else codes "\\nno case is always true"
 reason _ children = childless_words children
 
--- how a picture calls a clock that was asked for
+-- how a picture calls a clock that was asked for: its id, the crossfade whose own clock it is, or an output
 abbrev pub name_text : ClockName → List ℕ
 name_text (Named id) = escaped id
 name_text (ClockName.Sub k) = codes "crossfade " ++ decimal k
@@ -67,7 +67,7 @@ asks (Named id) k op = clock_asks id k op
 asks (ClockName.Sub j) k op = nat_eq j k
 asks AnyMain k op = false
 
--- whether source k asks for one of these two clocks
+-- whether source k asks for one of these two clocks, which would both drive one source
 abbrev pub either_asks : (first second : ClockName) → (k : ℕ) → Op → Bool
 either_asks first second k op = asks first k op || asks second k op
 
@@ -76,7 +76,8 @@ abbrev pub asking : (k : ℕ) → Op → List ℕ
 asking k (Clock id) = codes "\\nwants clock " ++ (escaped (id_or k id) ++ codes " for what it plays")
 asking k _ = codes "\\nwants its own clock for what it plays"
 
--- whether source k is red for a fault of clocks
+-- whether a picture shows source k red for a fault of clocks: it has that fault, or asks for one of the two clocks in
+-- it
 abbrev pub clock_red : Result ClockMap ClockFault → (k : ℕ) → Op → Bool
 clock_red (Ok map) k op = false
 clock_red (Err (TwoClocks node first second)) k op = either_asks first second k op || nat_eq node k
@@ -99,7 +100,7 @@ abbrev pub nested_words : (is_it : Bool) → List ℕ
 nested_words true = codes "\\nE27 lies in its own clock"
 nested_words false = []
 
--- the lines of source k for a fault of clocks
+-- the lines in the label of source k that tell its part in a fault of clocks; none if it has no part in it
 abbrev pub clock_words : Result ClockMap ClockFault → (k : ℕ) → Op → List ℕ
 clock_words (Ok map) k op = []
 clock_words (Err (TwoClocks node first second)) k op = shared_words (nat_eq node k) first second

@@ -41,11 +41,11 @@ needs_on _ children child = some_child children child
 abbrev pub needs : Op → (children : List ℕ) → (child : ℕ) → Bool
 needs op children child = needs_on (rests_of op) children child
 
--- no number but `one` passes the test, of children for instance
+-- no number but `one` passes the test: of the children of a source, no other one is needed
 abbrev pub IsAlone : (ℕ → Bool) → ℕ → Type 0
 IsAlone test one = (other : ℕ) → test other ≡ true → other ≡ one
 
--- some number other than `one` passes the test, of children for instance
+-- some number other than `one` passes the test: of the children of a source, another one is needed too
 abbrev pub HasOther : (ℕ → Bool) → ℕ → Type 0
 HasOther test one = (other : ℕ) × (test other ≡ true) × (other ≢ one)
 
@@ -60,7 +60,7 @@ pub record IsOnlyNeeded (nodes : List Node) (n : ℕ) (needed : Option ℕ) : Ty
   pub there : slice_get nodes n ≡ Some node
   pub only : IsOnly (needs node.op node.children) needed
 
--- from one source down to another, from each to the only one that it needs
+-- a way down from source `from` to a source, on which each source needs the next one alone
 pub data Leads (nodes : List Node) (from : ℕ) : ℕ → Type 0 where
   here : Leads nodes from from
   below : (n child : ℕ) → Leads nodes from n → IsOnlyNeeded nodes n (Some child) → Leads nodes from child

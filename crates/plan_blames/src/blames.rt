@@ -42,7 +42,8 @@ pub fn is_red(
     }
 }
 
-// Whether source k is red for a fault of clocks.
+// Whether a picture shows source k red for a fault of clocks: it has that fault, or asks for one of the two clocks in
+// it.
 fn is_clock_red(
     alloc: Global,
     clocks: &Result<ClockMap, ClockFault>,
@@ -66,7 +67,7 @@ fn is_clock_red(
     }
 }
 
-// Whether source k asks for one of these two clocks.
+// Whether source k asks for one of these two clocks, which would both drive one source.
 fn either_asks(
     alloc: Global,
     first: &ClockName,
@@ -81,7 +82,7 @@ fn either_asks(
     Ok(one || other)
 }
 
-// Whether source k is one that asks for this clock.
+// Whether source k asks for this clock: it is a `clock(..)` of that id, or the crossfade whose own clock it is.
 fn asks(alloc: Global, name: &ClockName, k: u64, op: &Op) -> Result<bool, Memory>
     ensures { IfOk result (λ yes. yes ≡ asks name.now k op.now) }
 {
@@ -92,7 +93,7 @@ fn asks(alloc: Global, name: &ClockName, k: u64, op: &Op) -> Result<bool, Memory
     }
 }
 
-// Whether source k is a clock node of this id.
+// Whether source k is a `clock(..)` whose clock has this id.
 fn clock_asks(alloc: Global, id: &str, k: u64, op: &Op) -> Result<bool, Memory>
     ensures { IfOk result (λ yes. yes ≡ clock_asks id.now k op.now) }
 {
@@ -156,7 +157,7 @@ fn push_reason_words(into: &mut Vec<u8>, red: bool, node: &Node) -> Result<(), M
     }
 }
 
-// Appends why a red source may offer nothing, if that lies in itself.
+// Appends to a red source's label why it may offer nothing, if the cause lies in itself and not in a child.
 fn push_reason(into: &mut Vec<u8>, op: &Op, children: &[u32]) -> Result<(), Memory>
     ensures { OnOk result (into.new.items ≡ into.old.items ++ reason op.now children.now) }
 {
@@ -169,7 +170,7 @@ fn push_reason(into: &mut Vec<u8>, op: &Op, children: &[u32]) -> Result<(), Memo
     }
 }
 
-// Appends that no case of a switch is always true, if none is.
+// Appends to a switch's label that no case of it is always true, if none is by its form.
 fn push_switch_reason(into: &mut Vec<u8>, preds: &[SharedPred]) -> Result<(), Memory>
     ensures { OnOk result (into.new.items ≡ into.old.items
         ++ (if list_any is_always (map view_shared preds.now) then [] else codes "\\nno case is always true")) }
@@ -181,7 +182,7 @@ fn push_switch_reason(into: &mut Vec<u8>, preds: &[SharedPred]) -> Result<(), Me
     }
 }
 
-// Whether some predicate is always true by its form.
+// Whether a case of a switch has a predicate that is always true by its form.
 fn some_always(preds: &[SharedPred]) -> bool
     ensures { result ≡ list_any is_always (map view_shared preds.now) }
 {
@@ -193,7 +194,7 @@ fn some_always(preds: &[SharedPred]) -> bool
     false
 }
 
-// Appends that a source has nothing to play, if it has no children.
+// Appends to a source's label that it has nothing to play, if it has no children.
 fn push_childless(into: &mut Vec<u8>, children: &[u32]) -> Result<(), Memory>
     ensures { OnOk result (into.new.items ≡ into.old.items ++ childless_words children.now) }
 {
@@ -293,7 +294,7 @@ pub fn push_names(into: &mut Vec<u8>, first: &ClockName, second: &ClockName) -> 
     push_name(into, second)
 }
 
-// Appends how a picture calls a clock that was asked for.
+// Appends how a picture calls a clock that was asked for: its id, the crossfade whose own clock it is, or an output.
 fn push_name(into: &mut Vec<u8>, name: &ClockName) -> Result<(), Memory>
     ensures { OnOk result (into.new.items ≡ into.old.items ++ name_text name.now) }
 {
@@ -321,7 +322,7 @@ fn push_asking_words(
     }
 }
 
-// Appends which clock source k wants for what it plays.
+// Appends to the label of source k, which asks for a clock, the clock that it wants for what it plays.
 fn push_asking(alloc: Global, into: &mut Vec<u8>, k: u64, op: &Op) -> Result<(), Memory>
     ensures { OnOk result (into.new.items ≡ into.old.items ++ asking k op.now) }
 {

@@ -133,7 +133,7 @@ fn only_last(children: &[u32]) -> Option<u32>
     last_of(children)
 }
 
-// The last child; nothing where there is none.
+// The last of a source's children; `None` where it has none.
 fn last_of(children: &[u32]) -> Option<u32>
     ensures { result ≡ last_of children.now }
 {
@@ -150,14 +150,14 @@ fn only_child(children: &[u32]) -> Option<u32>
     }
 }
 
-// The first child; nothing where there is none.
+// The first of a source's children; `None` where it has none.
 fn first_of(children: &[u32]) -> Option<u32>
     ensures { result ≡ slice_get children.now 0 }
 {
     children.first().copied()
 }
 
-// `first`, if there is no other child, and otherwise nothing.
+// `first`, if all children of a source are that one; otherwise `None`.
 fn lone_child(children: &[u32], first: u32) -> Option<u32>
     requires { some_child children.now first ≡ true }
     ensures { IsOnly (some_child children.now) result }
@@ -168,7 +168,7 @@ fn lone_child(children: &[u32], first: u32) -> Option<u32>
     Some(first)
 }
 
-// Whether there is another child than `first`.
+// Whether a source has another child than `first`.
 fn other_child(children: &[u32], first: u32) -> bool
     ensures yes { result ≡ true → HasOther (some_child children.now) first }
     ensures no { result ≡ false → IsAlone (some_child children.now) first }

@@ -8,7 +8,7 @@ use Rattle.script_grammar.specs.Tree.{Sort, Tree, Many, none, more}
 abbrev pub Read : Type 0 → Type 0
 Read T = Result (T × List TokenKind) ℕ
 
--- a rule that reads the front of a list of tokens
+-- a rule of reading: from the tokens left it gives a value and the tokens behind it, or stops at a fault
 abbrev pub Reader : Type 0 → Type 0
 Reader T = List TokenKind → Read T
 
@@ -26,7 +26,7 @@ made f x = Ok (f x.0, x.1)
 abbrev pub both : {A B : Type 0} → Reader A → Reader B → Reader (A × B)
 both f g w = f w >>= λ x. g x.1 >>= λ y. Ok ((x.0, y.0), y.1)
 
--- whether a token stands next, and is of this kind
+-- whether a token is left and the next one is of this kind; nothing is read
 abbrev pub next : (TokenKind → Bool) → List TokenKind → Bool
 next is [] = false
 next is (k ∷ w) = is k

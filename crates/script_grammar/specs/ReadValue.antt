@@ -15,17 +15,17 @@ use Rattle.script_grammar.specs.Read.{Reader, ◌>>=◌, made, both, next, expec
 use Rattle.script_grammar.specs.Kinds.{is_or, is_and, is_not, is_assign, is_comma, is_close_round, is_close_square, is_close_curly, is_open_round, is_then, is_else, is_end, is_added, is_multiplied, op_of}
 use Rattle.script_grammar.specs.ReadPredicate.{por}
 
--- whether a name and "=" stand first
+-- whether the next tokens are a name and `=`, with which a binding begins
 abbrev pub binds : List TokenKind → Bool
 binds (Name x ∷ r) = next is_assign r
 binds w = false
 
--- whether the name of the option of %wav stands first
+-- whether the next token is the name `samplesize`, of the one option of %wav
 abbrev pub opens_name : List TokenKind → Bool
 opens_name (Name x ∷ r) = bytes_eq x option_name
 opens_name w = false
 
--- whether the option of %wav stands first, as far as its "="
+-- whether the next tokens are `(samplesize =`, with which the option of %wav begins
 abbrev pub optional : List TokenKind → Bool
 optional (Symbol sign.OpenRound ∷ r) =
     elim (opens_name r) [
@@ -150,7 +150,7 @@ unfoldable pub sum : Bool → (ℕ → ℕ) → Reader (Tree AFull) → Reader (
 sum loose stamp full w = both (product loose stamp full) (many (next is_added) (added loose stamp full)) w >>= made
     (λ x. Sum x.0 x.1)
 
--- the comparing operator that stands first, if one does
+-- the comparing operator that the next token is, if it is one; nothing is read
 abbrev pub next_op : List TokenKind → Option CompareOp
 next_op [] = None
 next_op (k ∷ r) = op_of k

@@ -10,17 +10,17 @@ use Rattle.script_grammar.specs.declared.tree.CompareOp.{CompareOp}
 use Rattle.script_grammar.specs.declared.tree.CompareOp.TheVariants as op
 use Rattle.script_grammar.specs.Tree.{Sort, Tree, Many, none, more, Stmt, BindPart, DefPart, CallPart, IfPart, Bind, Def, Inner, Param, Labelled, Optional, Negative, Plain, Expr, And, Not, Alone, Compared, Sum, Added, Product, Multiplied, Constant, Quoted, Truth, Named, Called, Chosen, Nothing, Paren, Tuple, Listed, Braces, PlaceFormat, NamedCall, Arg, If, POr, PAnd, PNot, TrueAtom, FalseAtom, Mark, IntervalAtom, Grouped, Script}
 
--- the token of a number
+-- the token that spells a number, with a point or without
 abbrev pub literal_token : Literal → TokenKind
 literal_token (literal.Int n) = Int n
 literal_token (literal.Number d) = Number d
 
--- the token of a truth value
+-- the token that spells a truth value: the keyword `true` or `false`
 abbrev pub truth_token : Bool → TokenKind
 truth_token true = Keyword word.True
 truth_token false = Keyword word.False
 
--- the token of a comparison
+-- the symbol that spells a comparing operator, such as `==` or `<`
 abbrev pub op_token : CompareOp → TokenKind
 op_token op.Equal = Symbol sign.Equal
 op_token op.Differs = Symbol sign.Differs
@@ -39,7 +39,7 @@ abbrev pub multiplied_token : Bool → TokenKind
 multiplied_token true = Symbol sign.Slash
 multiplied_token false = Symbol sign.Star
 
--- a token that may be missing
+-- the tokens for a part that may be missing: the token k if it is there (true), and otherwise none
 abbrev pub token_if : TokenKind → Bool → List TokenKind
 token_if k true = k ∷ []
 token_if k false = []
@@ -49,7 +49,7 @@ abbrev pub label : Option (List ℕ) → List TokenKind
 label (Some name) = Name name ∷ Symbol sign.Assign ∷ []
 label None = []
 
--- the one name of an option of %wav: samplesize
+-- the name of the one option that %wav takes, as bytes: samplesize
 abbrev pub option_name : List ℕ
 option_name = 115 ∷ 97 ∷ 109 ∷ 112 ∷ 108 ∷ 101 ∷ 115 ∷ 105 ∷ 122 ∷ 101 ∷ []
 
@@ -124,6 +124,6 @@ abbrev mutual
   with_commas none = []
   with_commas (more x xs) = spell x ++ each_after (Symbol sign.Comma) xs
 
--- the tokens of a script
+-- the one list of tokens that spells a script
 abbrev pub spelling : Script → List TokenKind
 spelling s = spell s

@@ -105,6 +105,6 @@ pub data Tree : Sort → Type 0 where
   IntervalAtom : TimeMark → TimeMark → Tree APAtom
   Grouped : Tree APOr → Tree APAtom
 
--- Script = Stmt*
+-- A script is a list of statements: Script = Stmt*.
 abbrev pub Script : Type 0
 Script = Tree (Many AStmt)

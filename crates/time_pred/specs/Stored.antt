@@ -5,12 +5,12 @@ use Rattle.std.proofs.Common.{sym, ap, ◌∙◌}
 use Rattle.fixed_text.specs.declared.time_mark.TimeMark.{TimeMark}
 use Rattle.time_pred.specs.Predicates.{PredicateTree, OnePredicate, PredicateParts, Predicate, Always, Never, At, Between, Negated, All, Any, no_parts, first_part}
 
--- a part of a time mark as a code: nothing or a number
+-- a part of a time mark, as its hour, as a code: the number, or nothing if the mark does not name it
 abbrev part_code : Option ℕ → Gv
 part_code None = gnil
 part_code (Some n) = gnum n
 
--- the part of a time mark that has this code
+-- reads a part of a time mark, as its hour, back from its code
 abbrev part_back : Gv → Option ℕ
 part_back gnil = None
 part_back (gnum n) = Some n
@@ -37,7 +37,7 @@ rest (gcons a b) = b
 abbrev mark_code : TimeMark → Gv
 mark_code m = gcons (part_code m.day) (gcons (part_code m.hour) (gcons (part_code m.minute) (part_code m.second)))
 
--- the time mark that has this code
+-- reads a time mark back from its code, the pairs of its four parts
 abbrev mark_back : Gv → TimeMark
 mark_back g = record {
   day = part_back (first g);
@@ -81,7 +81,8 @@ by_tag (suc (suc (suc (suc zero)))) g p ps = Negated p
 by_tag (suc (suc (suc (suc (suc zero))))) g p ps = All ps
 by_tag (suc (suc (suc (suc (suc (suc n)))))) g p ps = Any ps
 
--- the predicate that has this code, and the parts that have it
+-- reads a predicate, and a list of predicate parts, back from a code: a code does not tell which of the two it is of,
+-- so both are given
 abbrev back : Gv → PredicateTree OnePredicate × PredicateTree PredicateParts
 back gnil = (Never, no_parts)
 back (gnum n) = (Never, no_parts)

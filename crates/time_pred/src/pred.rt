@@ -70,7 +70,7 @@ impl Pred {
         }
     }
 
-    /// A copy of the predicate.
+    /// A copy of the predicate with all its parts, which shares nothing with it.
     #[cycle(copy)]
     pub fn copy(&self, alloc: Global) -> Result<Pred, Memory>
         ensures { IfOk result (λ copy. view_pred copy ≡ view_pred self.now) }

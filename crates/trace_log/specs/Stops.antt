@@ -28,7 +28,8 @@ pub data StopsAt (text : List ℕ) : ℕ → Type 0 where
       → text ≡ header n w b ++ front ++ rest
       → (rest ≡ [] → ⊥) → StopsAt text (suc (window_count n w * b))
 
--- a text has the form of a trace within the bounds
+-- a text is the text of a trace: line 0 with numbers within the bounds, and then one line for each window of each
+-- buffer
 pub record IsText (text : List ℕ) : Type 0 where
   pub ticks : ℕ
   pub window : ℕ

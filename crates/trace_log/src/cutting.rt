@@ -106,7 +106,7 @@ fn are_letters(text: &[u8], one: u8, other: u8) -> bool
     }
 }
 
-// Whether each byte of a text is one of the two letters.
+// Whether each byte of a text is a letter of an answer in a trace, `one` for true or `other` for false.
 fn all_letters(text: &[u8], one: u8, other: u8) -> bool
     ensures { result ≡ list_all (is_letter one other) text.now }
 {

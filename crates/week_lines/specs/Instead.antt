@@ -33,12 +33,13 @@ child_behind number [] = None
 child_behind number (child ∷ children) =
     if nat_eq child number then first_other number children else child_behind number children
 
--- what plays, if a fallback goes on to a source with this operator
+-- what plays in a switch's place, if a fallback goes on to a source of this operator: silence for a blank, and
+-- otherwise its next source
 abbrev pub instead_by : Op → Instead
 instead_by (Blank track) = Silence
 instead_by _ = Next
 
--- what plays, if a fallback goes on to this node; not known without one
+-- what plays in a switch's place, if a fallback goes on to this node; not known where there is no node
 abbrev pub instead_found : Option Node → Instead
 instead_found None = Unknown
 instead_found (Some node) = instead_by node.op

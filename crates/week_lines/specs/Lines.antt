@@ -32,11 +32,12 @@ hole_line number spans daily instead sensitive below =
     switch_text number ++ (codes "nothing holds " ++ (when_text daily spans ++ (instead_text instead
     ++ (track_text sensitive ++ (below_text below ++ codes "\n")))))
 
--- a colon and two digits, unless what is counted is 0
+-- the part of a duration behind its hours: a colon and the two digits of n, unless `rest`, what is left to be told, is
+-- 0
 abbrev pub part_text : (rest n : ℕ) → List ℕ
 part_text rest n = if nat_eq rest 0 then [] else codes ":" ++ two_digits n
 
--- so many seconds as hours, with minutes and seconds where they are not 0
+-- the line for this many seconds of silence in a week, as hours, with minutes and seconds where they are not 0
 abbrev pub sum_text : (seconds : ℕ) → List ℕ
 sum_text seconds = (codes "in all up to " ++ decimal (seconds / 3600))
     ++ (part_text (seconds % 3600) (seconds / 60 % 60)

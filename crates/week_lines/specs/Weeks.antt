@@ -28,7 +28,7 @@ holes_text number (span ∷ spans) daily instead sensitive below =
 abbrev pub case_text : (number case : ℕ) → List ℕ
 case_text number case = switch_text number ++ (codes "case " ++ decimal (case + 1))
 
--- the line of a case that is never chosen
+-- the line about a case of a switch, if it is never chosen, and why; nothing for a case that is chosen at some time
 abbrev pub fate_text : (number case : ℕ) → Fate → List ℕ
 fate_text number case Chosen = []
 fate_text number case Hidden = case_text number case
@@ -58,13 +58,14 @@ IsOfSwitch plan mark number sensitive preds children text =
     (below : Bool) × ((below ≡ true) ↔ IsBelow plan.nodes number)
     × IsSwitchText number (instead_of plan number) sensitive below preds (map mark children) text
 
--- what is told of a source: nothing unless it is a switch
+-- this text is what is told of source `number`: nothing unless it is a switch
 abbrev pub IsOfSource : Plan → (mark : ℕ → Bool) → (number : ℕ) → Op → (children : List ℕ) → (text : List ℕ) → Type 0
 IsOfSource plan mark number (Switch sensitive preds) children text =
     IsOfSwitch plan mark number sensitive preds children text
 IsOfSource plan mark number _ children text = text ≡ []
 
--- what is told of each source, in their order
+-- this text is what is told of the switches of a plan, in the order of its sources; `mark` says whether a source never
+-- falls silent
 pub record AreLines (plan : Plan) (mark : ℕ → Bool) (text : List ℕ) : Type 0 where
   pub parts : List (List ℕ)
   pub size : length parts ≡ length plan.nodes

@@ -104,7 +104,7 @@ fn next_of(nodes: &[Node], children: &[u32], number: usize) -> Instead
     }
 }
 
-// The first other child behind source `number`; nothing if it is the last.
+// The child to which a fallback goes on from source `number`: the first other one behind it; `None` if it is the last.
 fn child_behind(children: &[u32], number: usize) -> Option<u32>
     ensures { result ≡ child_behind number children.now }
 {

@@ -51,7 +51,7 @@ pub fn push_hole(
     Ok(())
 }
 
-// What a line says of what plays in the place of a switch.
+// How a line tells what plays in the place of a switch while no case of it holds.
 fn words_of(instead: Instead) -> &'static [u8]
     ensures { result.now ≡ instead_text instead }
 {
@@ -73,7 +73,7 @@ fn push_track(into: &mut Vec<u8>, sensitive: bool) -> Result<(), Memory>
     }
 }
 
-// Appends, if a crossfade is above, that its clock counts.
+// Appends, if the switch lies below a crossfade, that its times are those of the crossfade's clock.
 fn push_clock(into: &mut Vec<u8>, below: bool) -> Result<(), Memory>
     ensures { OnOk result (into.new.items ≡ into.old.items ++ below_text below) }
 {
