@@ -134,8 +134,8 @@ Completes Usage status = status ≡ 2
 abbrev pub HasVerdict : List (List ℕ) → Files → Type 0
 HasVerdict words files = (verdict : Verdict) × IsVerdict words files verdict
 
--- Where no count rose, the status is 5 or there is a verdict; and each verdict is the status, unless that is 5. Status 5
--- has no cause here: a body that always ends with it meets this.
+-- Where no count of failures rose, the status is 5 or there is a verdict on the words; and each verdict is the status,
+-- unless that is 5. Status 5 has no cause here: a body that always ends with it meets this.
 abbrev pub IsComplete : List (List ℕ) → Outside → Outside → ℕ → Type 0
 IsComplete words old new status = Calm old new → ForSome old.shelf.files (λ files.
     ((status ≡ 5) ⊎ HasVerdict words files) × ForEachVerdict words files (λ verdict. Completes verdict status))
