@@ -6,19 +6,20 @@ use Rattle.frame_core.specs.declared.cell.Cell.{Cell}
 use Rattle.frame_core.specs.Order.{Move, puts_of, gots_of, Ordered, last_or, left_by}
 use Rattle.buffer_queue.specs.declared.rule.View.{View}
 
--- the cells of a chunk
+-- a chunk of a queue, as the list of its cells
 abbrev pub Cells : Type 0
 Cells = List Cell
 
--- what a pass knows that has neither role: nothing
+-- what a pass, the right to use a queue, knows if it may neither put nor take: nothing
 abbrev pub idle : View
 idle = record { capacity = 0; puts = false; takes = false; opening = []; put = []; since = []; got = [] }
 
--- what the first pass of a queue knows: it has both roles, and nothing was put or got
+-- what the first pass of a new queue knows: it may both put and take, and nothing was put or got
 abbrev pub newcomer : View
 newcomer = record { capacity = 0; puts = true; takes = true; opening = []; put = []; since = []; got = [] }
 
--- what the queue holds, as a pass with both roles knows it
+-- the chunks that a queue holds, as a pass that may both put and take knows them: those of the window's opening and
+-- the puts, without the ones got
 abbrev pub contents_of : View → List Cells
 contents_of v = left_by v.opening v.put v.got
 
@@ -38,7 +39,7 @@ putter n v = record {
 abbrev pub taker : ℕ → View → View
 taker n v = record { capacity = n; puts = false; takes = true; opening = []; put = []; since = contents_of v; got = [] }
 
--- what a pass knows into which the one that puts and the one that takes are joined
+-- what a pass knows that is joined from two: the puts of v, which puts, and the takes of w, which takes
 abbrev pub both : View → View → View
 both v w = record {
   capacity = v.capacity;
@@ -50,8 +51,8 @@ both v w = record {
   got = w.got;
 }
 
--- what the pass at this port knows is right: if it puts, it is the writer's, and knows the capacity, the opening and
--- the puts; if it takes, it is the reader's, and knows the capacity, the opening and the chunks got
+-- What the pass at this port knows is right for a queue of this capacity, whose window opened with `queue` and had
+-- these moves: if it puts, it is the writer's and knows the puts; if it takes, the reader's, and the chunks got.
 abbrev pub FitsView : ℕ → ℕ → ℕ → List Cells → List (Move Cells) → ℕ → View → Type 0
 FitsView capacity writer reader queue moves port v =
     (v.puts ≡ true → (port ≡ writer) × (v.capacity ≡ capacity) × (v.opening ≡ queue) × (v.put ≡ puts_of moves))

@@ -17,7 +17,7 @@ pub record Window : Type 0 where
   pub left : ℕ
   pub answers : List (Option (List Cell))
 
--- a window as nested pairs, which code to numbers
+-- a code of windows as numbers, by nested pairs: it shows that two windows with one code are equal
 abbrev pub window_coded : Coded Window
 window_coded =
     code_by (TableId × (List (List Cell) × (ℕ × List (Option (List Cell)))))

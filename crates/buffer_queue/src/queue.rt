@@ -13,7 +13,8 @@ use std::marker::{Brand, Model};
 use std::mem;
 use std::sync::Wait;
 
-// A queue of at most `capacity` chunks with the passes of its two ends, the one that puts first.
+// An empty queue of at most `capacity` chunks, with a pass for each of its two ends, which is the right to use that
+// end; the one that puts comes first.
 fn opened_at<K: Size>(
     alloc: Global,
     capacity: u32,
@@ -28,7 +29,8 @@ fn opened_at<K: Size>(
     Ok((queue, put, take))
 }
 
-// Takes both passes in, and hands both out again for the next window, which opens with what the queue holds.
+// Ends one window of a queue's use and opens the next: joins the passes of its two ends, learns that their puts and
+// takes were one order, and cuts them anew. The next window opens with what the queue holds.
 fn turn(queue: &Ruled, put: &mut Pass<Chunk, View>, take: &mut Pass<Chunk, View>)
     requires queue { IsPassOf queue.now put.old × IsPassOf queue.now take.old }
     requires roles { ((view put.old).puts ≡ true) × ((view take.old).takes ≡ true) }

@@ -13,20 +13,22 @@ use Rattle.clock_threads.specs.declared.task.Task.{Task}
 use Rattle.clock_threads.specs.declared.wires.Wire.{Wire}
 use Rattle.clock_threads.specs.Wires.{wire_at}
 
--- the ends of buffers at which a task puts
+-- the ends of buffers at which a task, a clock's engine with its taps, puts chunks
 abbrev pub puts_of : {S R : Type 0} → Task S (ThreadTaps R) → List Side
 puts_of task = task.taps.puts.items
 
--- the ends of buffers at which a task takes
+-- the ends of buffers at which a task, a clock's engine with its taps, takes chunks
 abbrev pub takes_of : {S R : Type 0} → Task S (ThreadTaps R) → List Side
 takes_of task = task.taps.takes.items
 
--- a task changed in nothing but its ends
+-- a task kept its engine and its lists of the buffers that are its clock's own; only its ends of buffers that join it
+-- to other clocks may have changed
 pub record SameButEnds {S R : Type 0} (old new : Task S (ThreadTaps R)) : Type 0 where
   pub engine : new.engine ≡ old.engine
   pub local : new.taps.local ≡ old.taps.local
 
--- the window of a buffer between the tasks of two clocks was closed, with this log
+-- Between two windows of ticks, one buffer that joins two clocks was closed: the end of the task that gives and that
+-- of the task that takes changed, with the answers `log`, and nothing else did.
 pub record TasksClosed {S R : Type 0} (buffer : ℕ) (giver taker next_giver next_taker : Task S (ThreadTaps R))
     (log : Answers) : Type 0 where
   pub giver_same : SameButEnds giver next_giver
@@ -35,14 +37,15 @@ pub record TasksClosed {S R : Type 0} (buffer : ℕ) (giver taker next_giver nex
   pub taker_puts : puts_of next_taker ≡ puts_of taker
   pub closed : WasClosed buffer (puts_of giver) (puts_of next_giver) (takes_of taker) (takes_of next_taker) log
 
--- a task's ends at which it takes were taken out of it
+-- the ends at which a task takes were moved out of it, as `takes`, so that both ends of a buffer are at hand when its
+-- window is closed
 pub record WasLent {S R : Type 0} (old new : Task S (ThreadTaps R)) (takes : List Side) : Type 0 where
   pub lent : takes ≡ takes_of old
   pub falling : Falling takes
   pub puts : puts_of new ≡ puts_of old
   pub same : SameButEnds old new
 
--- a task's ends at which it takes were put back into it
+-- the ends `takes`, moved out of a task while a buffer's window was closed, are the task's again, and it kept all else
 pub record WasPutBack {S R : Type 0} (old new : Task S (ThreadTaps R)) (takes : List Side) : Type 0 where
   pub back : takes_of new ≡ takes
   pub puts : puts_of new ≡ puts_of old
@@ -76,7 +79,8 @@ pub record JoinOpen {S R : Type 0} (wire : Wire) (b : ℕ) (chunks : List (List 
   pub put : (d : Task S (ThreadTaps R)) → HasEnd (puts_of (slice_index_or tasks wire.from d)) b (opened queue chunks)
   pub take : (d : Task S (ThreadTaps R)) → HasEnd (takes_of (slice_index_or tasks wire.to d)) b (opened queue chunks)
 
--- the ends of buffer b have the windows `put` and `take`, of one queue
+-- buffer b after its clocks ran: its ends, in the two tasks that its wire names, have come to the windows `put` and
+-- `take`, of one queue of the wire's capacity
 pub record JoinRan {S R : Type 0} (wire : Wire) (b : ℕ) (put take : Window)
     (tasks : List (Task S (ThreadTaps R))) : Type 0 where
   pub capacity : capacity_of put.queue ≡ wire.capacity
@@ -84,7 +88,8 @@ pub record JoinRan {S R : Type 0} (wire : Wire) (b : ℕ) (put take : Window)
   pub put_end : (d : Task S (ThreadTaps R)) → HasEnd (puts_of (slice_index_or tasks wire.from d)) b put
   pub take_end : (d : Task S (ThreadTaps R)) → HasEnd (takes_of (slice_index_or tasks wire.to d)) b take
 
--- each buffer that joins two clocks has both ends, of one queue
+-- The windows of all buffers may be closed: each wire, which names the two clocks of a buffer, leads between tasks,
+-- and each buffer that joins two clocks has both ends, of one queue.
 pub record MayClose {S R : Type 0} (wires : List Wire) (tasks : List (Task S (ThreadTaps R))) : Type 0 where
   pub few : length wires < 2 ^ 32
   pub places : (b : ℕ) → b < length wires → (wire_at wires b).from < length tasks
@@ -92,7 +97,8 @@ pub record MayClose {S R : Type 0} (wires : List Wire) (tasks : List (Task S (Th
   pub ran : (b : ℕ) → b < length wires → (wire_at wires b).from ≢ (wire_at wires b).to
       → (put : Window) × (take : Window) × JoinRan (wire_at wires b) b put take tasks
 
--- the tasks changed in nothing but the windows of their ends
+-- the tasks changed in nothing but the windows of their ends: each kept its engine and its lists, and as many ends, of
+-- the same buffers
 pub record SameTasks {S R : Type 0} (old new : List (Task S (ThreadTaps R))) : Type 0 where
   pub many : length new ≡ length old
   pub same : (k : ℕ) (d : Task S (ThreadTaps R)) → k < length old
@@ -108,7 +114,8 @@ pub record SameTasks {S R : Type 0} (old new : List (Task S (ThreadTaps R))) : T
       → (slice_index_or (takes_of (slice_index_or new k d)) p e).buffer
       ≡ (slice_index_or (takes_of (slice_index_or old k d)) p e).buffer
 
--- a window of buffer b was legal, and the next one opens with the chunks that it left
+-- The window of buffer b was closed and the next one opened: what its ends put and took in it is legal for a queue of
+-- its capacity, and the next window opens with the chunks that it left.
 pub record JoinTurned {S R : Type 0} (wire : Wire) (b : ℕ) (put take : Window)
     (tasks : List (Task S (ThreadTaps R))) : Type 0 where
   pub rest : List (List Cell)

@@ -14,31 +14,33 @@ use Rattle.clock_threads.specs.declared.wires.Wire.{Wire}
 use Rattle.clock_threads.specs.Wires.{wire_at}
 use Rattle.clock_threads.specs.Records.{windows_upto}
 
--- by a buffer's number, what its takes got: chunks, or nothing
+-- what the takes of each buffer got, in order, by its number: each a chunk, or nothing where it was empty
 abbrev pub Answers : Type 0
 Answers = ℕ → List (Option (List Cell))
 
--- what says which calls a clock makes in a tick, by all answers and by what is accepted in it
+-- A meaning gives the calls on buffers that a clock makes in a tick: by what the takes got, by which buffers accept a
+-- put in that tick, and by the numbers of the clock and of the tick.
 abbrev pub Meaning : Type 0
 Meaning = Answers → (ℕ → Bool) → ℕ → ℕ → List Call
 
--- the calls of tick t of clock m in a setting, with these answers
+-- the meaning of a setting: which calls tick t of clock m makes, if the takes of all buffers get these answers
 abbrev pub meant : Setting → Meaning
 meant setting answers accepted m t = calls_of_tick (answered setting answers) accepted m t
 
--- the answers of each buffer, and then its others
+-- for each buffer, what its takes got in the list `answers` and then in the list `rest`
 abbrev pub and_rest : Answers → Answers → Answers
 and_rest answers rest b = answers b ++ rest b
 
--- what the takes of each buffer got in a clock's first t ticks
+-- what the takes of each buffer got in the first t ticks of a clock that made these calls
 abbrev pub got_by : TickCalls → ℕ → Answers
 got_by tick_calls t b = takes_of b (joined_upto tick_calls.calls t)
 
--- what the takes of each buffer got in its windows
+-- what the takes of each buffer got, by its windows, which have the puts and the takes of some ticks each
 abbrev pub answers_of : (ℕ → List Window) → Answers
 answers_of windows b = flat_map (λ (w : Window). w.1) (windows b)
 
--- the calls of the ticks of each clock, where the takes get what the windows got
+-- for each clock, the calls that a meaning gives its ticks, if the takes get what these windows got and the puts of
+-- its ticks are accepted as `accepted` says
 abbrev pub clock_calls_of : Meaning → (ℕ → List Window) → (accepted : ℕ → ℕ → ℕ → Bool) → ℕ → TickCalls
 clock_calls_of meant windows accepted m = record {
   calls = λ t. meant (answers_of windows) (accepted m t) m t;
@@ -75,13 +77,15 @@ pub record TakeOwn (meant : Meaning) (wires : List Wire) (clocks : ℕ) : Type 0
 abbrev pub taker : Setting → (clocks b : ℕ) → ℕ
 taker setting clocks b = if nat_lt (reader setting b) clocks then reader setting b else feeder setting b
 
--- the wire of a buffer of a setting
+-- this is the wire of buffer b: it leads from the clock of its feed to the clock that takes, of `clocks` running ones,
+-- with the buffer's capacity
 pub record IsWireOf (setting : Setting) (clocks b : ℕ) (wire : Wire) : Type 0 where
   pub from_is : wire.from ≡ feeder setting b
   pub to_is : wire.to ≡ taker setting clocks b
   pub capacity_is : wire.capacity ≡ capacity_of setting b
 
--- the wires of a setting's buffers
+-- these are the wires of all buffers of a setting, by their numbers: each says from which clock to which a buffer
+-- leads, and its capacity
 pub record AreWires (setting : Setting) (clocks : ℕ) (wires : List Wire) : Type 0 where
   pub many : length wires ≡ length setting.plan.buffers
   pub each : (b : ℕ) → b < length wires → IsWireOf setting clocks b (wire_at wires b)

@@ -7,7 +7,8 @@ use Rattle.clock_threads.specs.declared.task.Task.{Task}
 use Rattle.clock_threads.specs.declared.wires.Wire.{Wire}
 use Rattle.clock_threads.specs.Wires.{wire_at}
 
--- the sum of two counts
+-- adds two counts of a buffer's answers, sort by sort: accepted puts, puts at a full buffer, takes that got a chunk,
+-- and takes that found none
 abbrev pub more_counts : Counts → Counts → Counts
 more_counts one other = record {
   accepted = one.accepted + other.accepted;
@@ -16,15 +17,15 @@ more_counts one other = record {
   empty = one.empty + other.empty;
 }
 
--- all answers of a log
+-- all answers of a buffer's log, which has them window by window, as one list of puts and one of takes
 abbrev pub answers_of_log : List Answers → Answers
 answers_of_log log = record { puts = flat_map puts_of log; takes = flat_map takes_of_window log }
 
--- how many answers of each sort a log has
+-- how many answers of each sort a buffer's log has: puts accepted or at a full buffer, takes with a chunk or without
 abbrev pub counts_in : List Answers → Counts
 counts_in log = counts_of (answers_of_log log)
 
--- `many` logs without a window
+-- there are `many` logs, one for each buffer, and none has the answers of any window yet
 pub record AreNoLogs (many : ℕ) (logs : List (List Answers)) : Type 0 where
   pub are_many : length logs ≡ many
   pub each : (b : ℕ) (d : List Answers) → b < length logs → slice_index_or logs b d ≡ []

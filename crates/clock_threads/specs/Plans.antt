@@ -19,13 +19,15 @@ over plan clocks other = record {
   answers = other.answers;
 }
 
--- a wire between the clocks of two nodes; where the second does not run, both its ends are at the first
+-- a buffer's wire: it leads from the main clock of the node `feed` to that of its reader `reads`, among `clocks`
+-- running ones; if the second does not run, both its ends are at the first
 pub record IsWireAt (setting : Setting) (clocks feed reads capacity : ℕ) (wire : Wire) : Type 0 where
   pub from_is : wire.from ≡ main_of setting feed
   pub to_is : wire.to ≡ (if nat_lt (main_of setting reads) clocks then main_of setting reads else main_of setting feed)
   pub capacity_is : wire.capacity ≡ capacity
 
--- the wires of the first n buffers
+-- these are the wires of the first n buffers of a plan, whatever its files and answers are: each says from which clock
+-- to which a buffer leads
 pub record AreFirstWires (plan : Plan) (clocks : ClockMap) (n : ℕ) (wires : List Wire) : Type 0 where
   pub many : length wires ≡ n
   pub each : (other : Setting) (b : ℕ) → b < n → IsWireOf (over plan clocks.of other) clocks.running b (wire_at wires b)

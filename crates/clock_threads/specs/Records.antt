@@ -21,7 +21,8 @@ use Rattle.clock_threads.specs.declared.wires.Wire.{Wire}
 use Rattle.clock_threads.specs.Wires.{wire_at, kept}
 use Rattle.clock_threads.specs.Ends.{puts_of as put_ends, takes_of as take_ends, JoinOpen}
 
--- what the puts and the takes of a buffer met in `count` ticks, from tick `from` on
+-- what the puts and the takes of buffer b met in `count` ticks, from tick `from` on, by the calls of the two clocks
+-- that its wire names
 abbrev pub window_of : Wire → (ℕ → TickCalls) → (b from count : ℕ) → Window
 window_of wire clock_calls b from count = (
   puts_to b (joined_from (clock_calls wire.from).calls from count),
@@ -29,14 +30,16 @@ window_of wire clock_calls b from count = (
       (joined_from (clock_calls wire.to).calls from count),
 )
 
--- the first windows of buffer b, in a run of N ticks in windows of W
+-- the first `count` windows of buffer b, each with what its puts and takes met, in a run of N ticks that is cut into
+-- windows of W ticks
 abbrev pub windows_upto : Wire → (ℕ → TickCalls) → (b W N count : ℕ) → List Window
 windows_upto wire clock_calls b W N zero = []
 windows_upto wire clock_calls b W N (suc j) =
     windows_upto wire clock_calls b W N j
     ++ window_of wire clock_calls b (start W N j) (start W N (suc j) - start W N j) ∷ []
 
--- each end of task k is that of a buffer which joins clock k to another one
+-- each end of a buffer that the task of clock k has belongs to a buffer that joins clock k to another one: it puts
+-- where the wire begins, and takes where it ends
 pub record IsWired {S R : Type 0} (wires : List Wire) (k : ℕ) (task : Task S (ThreadTaps R)) : Type 0 where
   pub puts : (p : ℕ) (d : Side) → p < length (put_ends task) → let b = (slice_index_or (put_ends task) p d).buffer in
       (b < length wires) × ((wire_at wires b).from ≡ k) × ((wire_at wires b).to ≢ k)
@@ -57,20 +60,22 @@ pub record ClockGoing {S R : Type 0} (told : S → SinkTold) (wires : List Wire)
   pub capacities : (b : ℕ) (d : LocalBuffer) → b < length wires
       → (slice_index_or now.taps.local b d).capacity ≡ (wire_at wires b).capacity
 
--- these windows of a buffer between clocks are one history, and both ends open the next window
+-- buffer b, which joins two clocks, after these windows: they are one history of a queue of its capacity, and both its
+-- ends open the next window with the chunks left
 pub record JoinGoing {S R : Type 0} (wire : Wire) (b : ℕ) (windows : List Window)
     (tasks : List (Task S (ThreadTaps R))) : Type 0 where
   pub chunks : List (List Cell)
   pub run : IsHistory wire.capacity [] windows chunks
   pub opens : JoinOpen wire b chunks tasks
 
--- a clock's list of a buffer has the answers of these windows, which are closed, and no others
+-- a clock's list of a buffer with both ends in it has logged the answers of these windows, which are closed, and of no
+-- others
 pub record IsLogged (windows : List Window) (list : LocalBuffer) : Type 0 where
   pub closed_are : list.closed ≡ map told_of windows
   pub opens : list.current ≡ no_answers
 
--- These windows are in the logs: those of a buffer between clocks in `logs`, and those of a buffer with both ends in
--- one clock in that clock's list.
+-- The answers of these windows are logged: of a buffer that joins two clocks, in `logs`; of a buffer with both ends in
+-- one clock, in that clock's list. `d` stands where there is no task.
 pub record LogsGoing {S R : Type 0} (wires : List Wire) (windows : ℕ
     → List Window) (now : List (Task S (ThreadTaps R))) (logs : List (List Answers)) (d : Task S (ThreadTaps R)) : Type
     0 where
@@ -80,7 +85,8 @@ pub record LogsGoing {S R : Type 0} (wires : List Wire) (windows : ℕ
   pub local : (b : ℕ) (e : LocalBuffer) → b < length wires → (wire_at wires b).from ≡ (wire_at wires b).to
       → IsLogged (windows b) (slice_index_or (slice_index_or now (wire_at wires b).from d).taps.local b e)
 
--- j windows of W ticks were made by all clocks, in a run of N ticks, and were closed
+-- A run of N ticks after j closed windows of W ticks: all clocks made the ticks of these windows, the buffers' windows
+-- are lawful, and their answers are logged. `d` stands where a list has no task.
 pub record Going {S R : Type 0} (told : S → SinkTold) (wires : List Wire) (W N j : ℕ)
     (first now : List (Task S (ThreadTaps R))) (logs : List (List Answers)) (d : Task S (ThreadTaps R)) : Type 0 where
   pub clock_calls : ℕ → TickCalls
@@ -91,7 +97,8 @@ pub record Going {S R : Type 0} (told : S → SinkTold) (wires : List Wire) (W N
       → JoinGoing (wire_at wires b) b (windows_upto (wire_at wires b) clock_calls b W N j) now
   pub logged : LogsGoing wires (λ b. windows_upto (wire_at wires b) clock_calls b W N j) now logs d
 
--- the window of a buffer was closed in a task's list
+-- the window of buffer b, with both ends in one clock, was closed: in the list of that clock's task, which kept all
+-- else
 pub record ListClosed {S R : Type 0} (b : ℕ) (old new : Task S (ThreadTaps R)) : Type 0 where
   pub engine : new.engine ≡ old.engine
   pub puts : put_ends new ≡ put_ends old
@@ -105,7 +112,8 @@ pub record ListClosed {S R : Type 0} (b : ℕ) (old new : Task S (ThreadTaps R))
 abbrev pub IsOwn : (wires : List Wire) → (k b : ℕ) → Type 0
 IsOwn wires k b = ((wire_at wires b).from ≡ k) × ((wire_at wires b).to ≡ k)
 
--- in task k the windows of its own buffers below `below` were closed, and of no others
+-- in the task of clock k the windows of its own buffers, which have both ends in it, with numbers below `below` were
+-- closed, and of no others
 pub record EndedTask {S R : Type 0} (wires : List Wire) (below k : ℕ) (old new : Task S (ThreadTaps R)) : Type 0 where
   pub engine : new.engine ≡ old.engine
   pub puts : put_ends new ≡ put_ends old
@@ -124,14 +132,15 @@ pub record AllEndedTasks {S R : Type 0} (wires : List Wire) (old new : List (Tas
   pub each : (k : ℕ) (d : Task S (ThreadTaps R)) → k < length old
       → EndedTask wires (length wires) k (slice_index_or old k d) (slice_index_or new k d)
 
--- each task has a list for each of these wires' buffers
+-- each task has a list for each of these wires' buffers, and each wire begins at a task: so the windows of a clock's
+-- own buffers can be closed in its lists
 pub record HaveLists {S R : Type 0} (wires : List Wire) (tasks : List (Task S (ThreadTaps R))) : Type 0 where
   pub few : length wires < 2 ^ 32
   pub places : (b : ℕ) → b < length wires → (wire_at wires b).from < length tasks
   pub lists : (k : ℕ) (d : Task S (ThreadTaps R)) → k < length tasks
       → length (slice_index_or tasks k d).taps.local ≡ length wires
 
--- the engines of the tasks did not change
+-- there are as many tasks as before, and each has the engine that it had
 pub record SameEngines {S R : Type 0} (old new : List (Task S (ThreadTaps R))) : Type 0 where
   pub many : length new ≡ length old
   pub each : (k : ℕ) (d : Task S (ThreadTaps R)) → k < length old

@@ -9,7 +9,8 @@ use Rattle.clock_threads.specs.declared.wires.Wire.{Wire}
 use Rattle.clock_threads.specs.Wires.{wire_at}
 use Rattle.clock_threads.specs.Ends.{puts_of as put_ends, takes_of as take_ends, SameButEnds, JoinOpen}
 
--- each of the first `many` buffers has a queue and both its ends, in a window that opens with nothing
+-- each of the first `many` buffers has a queue of its wire's capacity, and both its ends (`passes`), whose window
+-- opens with no chunk
 pub record AreQueues (wires : List Wire) (many : ℕ) (queues : List TableId) (passes : List (Window
     × Window)) : Type 0 where
   pub queues_many : length queues ≡ many
@@ -18,24 +19,25 @@ pub record AreQueues (wires : List Wire) (many : ℕ) (queues : List TableId) (p
   pub ends : (b : ℕ) (d : TableId) (e : Window × Window) → b < many
       → slice_index_or passes b e ≡ (opened (slice_index_or queues b d) [], opened (slice_index_or queues b d) [])
 
--- no task has an end
+-- before the run: no task has an end of a buffer that joins its clock to another one
 pub record AreBare {S R : Type 0} (tasks : List (Task S (ThreadTaps R))) : Type 0 where
   pub puts : (k : ℕ) (d : Task S (ThreadTaps R)) → k < length tasks → put_ends (slice_index_or tasks k d) ≡ []
   pub takes : (k : ℕ) (d : Task S (ThreadTaps R)) → k < length tasks → take_ends (slice_index_or tasks k d) ≡ []
 
--- a task got one more end at which it puts
+-- a task got one more end of a buffer, `side`, at which it puts, and kept all else
 pub record PutAdded {S R : Type 0} (old new : Task S (ThreadTaps R)) (side : Side) : Type 0 where
   pub puts : put_ends new ≡ put_ends old ++ side ∷ []
   pub takes : take_ends new ≡ take_ends old
   pub same : SameButEnds old new
 
--- a task got one more end at which it takes
+-- a task got one more end of a buffer, `side`, at which it takes, and kept all else
 pub record TakeAdded {S R : Type 0} (old new : Task S (ThreadTaps R)) (side : Side) : Type 0 where
   pub takes : take_ends new ≡ take_ends old ++ side ∷ []
   pub puts : put_ends new ≡ put_ends old
   pub same : SameButEnds old new
 
--- the ends of a buffer were added to two tasks of a list: `put` to number `from`, and `take` to number `to`
+-- the two ends of one buffer were handed to two tasks of a list: `put` to task number `from`, and `take` to task
+-- number `to`
 pub record BothAdded {S R : Type 0} (from to : ℕ) (put take : Side) (old new : List (Task S (ThreadTaps R))) : Type 0
   where
     pub giver : Task S (ThreadTaps R)
@@ -44,7 +46,8 @@ pub record BothAdded {S R : Type 0} (from to : ℕ) (put take : Side) (old new :
     pub put_added : (d : Task S (ThreadTaps R)) → PutAdded (slice_index_or old from d) giver put
     pub take_added : (d : Task S (ThreadTaps R)) → TakeAdded (slice_index_or old to d) taker take
 
--- the ends of the buffers from `from` on that join two clocks are handed out, and no others
+-- of the buffers with numbers from `from` on, both ends of each that joins two clocks were handed to the tasks of
+-- these clocks, and no other ends; their windows have no answer yet
 pub record AreJoined {S R : Type 0} (wires : List Wire) (from : ℕ) (old new : List (Task S (ThreadTaps R))) : Type 0
   where
     pub many : length new ≡ length old

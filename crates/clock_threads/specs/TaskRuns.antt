@@ -10,15 +10,17 @@ use Rattle.clock_ticks.specs.Pieces.{AreKept, GotBetween, GotPieces, RoseAt}
 use Rattle.clock_threads.specs.declared.task.Task.{Task}
 use Rattle.clock_threads.specs.TickCalls.{TickCalls, joined_from, Agree, HasGone, HasGonePart}
 
--- an engine stands for t ticks and these answers
+-- an engine made t ticks without a fault, in which its readers took these answers of their buffers
 abbrev pub stands_for : {S : Type 0} → ClockEngine S → ℕ → (ℕ → List Answer) → Type 0
 stands_for e t answers = EngineStands e.parts t answers
 
--- an engine stopped in tick t, after these answers and these calls
+-- an engine stopped at a fault in tick t: before that tick its readers took these answers, and in it the calls `made`
+-- were made
 abbrev pub stopped_for : {S : Type 0} → ClockEngine S → ℕ → (ℕ → List Answer) → List Call → Type 0
 stopped_for e t answers made = EngineStopped e.parts t answers made
 
--- an engine stayed that of its clock and plan, with the same sinks
+-- an engine after some ticks is still that of its clock, plan and start, with as many sinks, of the same names, and it
+-- keeps marks if it did
 pub record IsSameClock {S : Type 0} (told : S → SinkTold) (old new : ClockEngine S) : Type 0 where
   pub setting : setting_of new.parts ≡ setting_of old.parts
   pub clock : new.parts.clock ≡ old.parts.clock
@@ -26,33 +28,37 @@ pub record IsSameClock {S : Type 0} (told : S → SinkTold) (old new : ClockEngi
   pub kept : AreKept told old.outs new.outs
   pub keeping : new.parts.cues.keeping ≡ old.parts.cues.keeping
 
--- this is the sink of an output of the clock, and its count of faults rose
+-- sink number `sink` of the plan is that of an output of the engine's clock, and its count of faults rose: it refused
+-- bytes
 pub record IsWriteOf {S : Type 0} (told : S → SinkTold) (sink : ℕ) (old new : ClockEngine S) : Type 0 where
   pub place : ℕ
   pub node : ℕ
   pub there : slice_get (outputs_of (setting_of old.parts) old.parts.clock) place ≡ Some (sink, node)
   pub rose : RoseAt told place old.outs new.outs
 
--- the engine stands for some ticks and answers
+-- an engine has no fault: it stands for some number of ticks, and for the answers that its readers took in them
 pub record DoesStand {S : Type 0} (e : ClockEngine S) : Type 0 where
   pub ticks : ℕ
   pub answers : ℕ → List Answer
   pub stand : EngineStands e.parts ticks answers
 
--- a task may make `count` ticks more
+-- a task may make `count` ticks more: its engine has no fault, its taps have the plan's buffers, the ticks are at most
+-- 10^9 in all, and its sinks have room
 pub record CanRun {S T : Type 0} (told : S → SinkTold) (buffers : T → ℕ) (count : ℕ) (x : Task S T) : Type 0 where
   pub many : buffers x.taps ≡ length x.engine.parts.scene.plan.now.buffers
   pub stands : DoesStand x.engine
   pub few : x.engine.parts.ticks + count ≤ 1000000000
   pub rooms : HaveTicksRoom told x.engine.parts x.engine.outs count
 
--- an engine has made t ticks with these calls, since its outputs held `first`
+-- an engine has made t ticks with these calls, and each output has grown by its bytes of them since it held `first`,
+-- by its number; `told` is what a sink tells
 abbrev pub EngineGone : {S : Type 0} → (S → SinkTold) → (t : ℕ) → TickCalls → (ℕ → Option (List ℕ)) → ClockEngine S
     → Type 0
 EngineGone told t tick_calls first e = HasGone (setting_of e.parts) stands_for (held_of told) e.parts.clock t tick_calls
     first e
 
--- an engine has made t ticks with these calls, since its outputs held `first`, and stopped in the next one
+-- an engine has made t ticks with these calls and stopped in the next one; each output has grown by its bytes of them,
+-- and by a part of the last tick's, since it held `first`
 abbrev pub EngineGonePart : {S : Type 0} → (S → SinkTold) → (t : ℕ) → TickCalls → (ℕ → Option (List ℕ)) → ClockEngine S
     → Type 0
 EngineGonePart told t tick_calls first e = HasGonePart (setting_of e.parts) stopped_for (held_of told) e.parts.clock t
@@ -92,8 +98,8 @@ pub record RanTask {S T : Type 0} (told : S → SinkTold) (stands : T → List C
       → EngineGone told t tick_calls first old.engine → (new.engine.parts.stopped ≡ None → ⊥)
       → Halted told stands count t tick_calls first old new
 
--- what is known of a task that was run for `count` ticks: its clock and its taps stayed, it made these ticks or stopped
--- in one of them, and what stopped it
+-- What is known of a task that was run for `count` ticks: its clock and taps stayed, it made them all or stopped in
+-- one, a sink named by its fault refused bytes, and want of memory needs buffers or marks.
 pub record WasRun {S T : Type 0} (told : S → SinkTold) (stands : T → List Call → Type 0) (buffers : T → ℕ) (same : T → T
     → Type 0)
     (count : ℕ) (old new : Task S T) : Type 0 where

@@ -6,12 +6,13 @@ use Rattle.stream_meaning.specs.Instants.{Setting, with_rest}
 use Rattle.stream_meaning.specs.Sinks.{ticks_bytes, IsOutput}
 use Rattle.stream_meaning.specs.Calls.{joined_upto, calls_of_tick, answers_in, after_calls, IsBegin}
 
--- the calls of each tick of a clock, and what the buffers that it feeds accepted in each
+-- what a clock did, by tick: the calls on buffers that it made in each, and which of the buffers that it feeds
+-- accepted its chunk in each
 pub record TickCalls : Type 0 where
   pub calls : ℕ → List Call
   pub accepted : ℕ → ℕ → Bool
 
--- the calls of `count` ticks, from tick `from` on
+-- the calls on buffers of `count` ticks, one after the other, from tick `from` on
 abbrev pub joined_from : (ℕ → List Call) → (from count : ℕ) → List Call
 joined_from calls from count = joined_upto (λ j. calls (from + j)) count
 
@@ -19,7 +20,8 @@ joined_from calls from count = joined_upto (λ j. calls (from + j)) count
 abbrev pub answers_by : TickCalls → ℕ → ℕ → List Answer
 answers_by tick_calls t buffer = answers_in buffer (joined_upto tick_calls.calls t)
 
--- in the first t ticks the calls did not change, nor what the buffers accepted
+-- two records of what a clock did, by tick, agree in the first t ticks: on its calls and on which buffers accepted its
+-- chunks
 pub record Agree (t : ℕ) (old new : TickCalls) : Type 0 where
   pub calls : (i : ℕ) → i < t → new.calls i ≡ old.calls i
   pub accepted : (i : ℕ) → i < t → new.accepted i ≡ old.accepted i

@@ -7,7 +7,7 @@ use Rattle.clock_ticks.specs.declared.engine.ClockEngine.{ClockEngine}
 use Rattle.clock_threads.specs.declared.task.Task.{Task}
 use Rattle.clock_threads.specs.UnbufferedTicks.{with_taps}
 
--- taps without ends and without lists
+-- the taps of a task on a plan without buffers: no end of a buffer and no list
 abbrev pub no_taps : ThreadTaps ⊤
 no_taps = record {
   rt = record { ref_ptr = (0, 0); now = tt };
@@ -36,10 +36,10 @@ no_taps = record {
   );
 }
 
--- an engine as a task whose taps have no ends and no lists
+-- an engine over a plan without buffers, as a task whose taps reach no buffer
 abbrev pub unbuffered_task : {S : Type 0} → ClockEngine S → Task S (ThreadTaps ⊤)
 unbuffered_task engine = with_taps no_taps engine
 
--- engines as tasks whose taps have no ends and no lists
+-- engines over a plan without buffers, as tasks whose taps reach no buffer
 abbrev pub unbuffered_tasks : {S : Type 0} → List (ClockEngine S) → List (Task S (ThreadTaps ⊤))
 unbuffered_tasks engines = map unbuffered_task engines

@@ -6,17 +6,19 @@ use Rattle.clock_ticks.specs.declared.engine.ClockEngine.{ClockEngine}
 use Rattle.clock_threads.specs.declared.task.Task.{Task}
 use Rattle.clock_threads.specs.TaskRuns.{CanRun, WasRun}
 
--- the task of an engine with these taps
+-- the task of an engine, with these taps as its way to the buffers
 abbrev pub with_taps : {S T : Type 0} → T → ClockEngine S → Task S T
 with_taps taps engine = record { engine = engine; taps = taps }
 
--- taps of no buffer: how many buffers they have, for which calls they stand, and which of them are the same
+-- how many buffers taps reach on a plan without buffers: 0
 abbrev pub no_buffers : ⊤ → ℕ
 no_buffers taps = 0
 
+-- for which calls taps stand on a plan without buffers: for any, as none is ever made
 abbrev pub any_calls : ⊤ → List Call → Type 0
 any_calls taps calls = ⊤
 
+-- which taps are the same on a plan without buffers: any two
 abbrev pub any_taps : ⊤ → ⊤ → Type 0
 any_taps old new = ⊤
 

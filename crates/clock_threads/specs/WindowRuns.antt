@@ -22,7 +22,8 @@ use Rattle.clock_threads.specs.Wires.{wire_at}
 use Rattle.run_records.specs.Records.{Follows, start}
 use Rattle.clock_threads.specs.Records.{windows_upto, Going}
 
--- the tasks of all clocks before the first tick
+-- The tasks of all clocks are ready for a run of N ticks in windows of W: each wire joins two of them or one to
+-- itself, each plan has as many buffers as there are wires, and no tick was made.
 pub record IsReady {S R : Type 0} (told : S
     → SinkTold) (wires : List Wire) (W N : ℕ) (tasks : List (Task S (ThreadTaps R))) (logs : List (List Answers)) : Type
     0 where
@@ -43,7 +44,8 @@ pub record DoneAt {S R : Type 0} (told : S
   pub tight : (i : ℕ) → i < windows → start W N i < N
   pub going : Going told wires W N windows first now logs d
 
--- all N ticks of each clock were made, in windows of W
+-- all N ticks of each clock were made, in windows of W ticks: the tasks `first` came to `now`, and `logs` has the
+-- answers
 abbrev pub RunDone : {S R : Type 0} → (told : S → SinkTold) → List Wire → (W N : ℕ)
     → (first now : List (Task S (ThreadTaps R))) → (logs : List (List Answers)) → Type 0
 RunDone {S} {R} told wires W N first now logs = (d : Task S (ThreadTaps R)) → DoneAt told wires W N first now logs d
@@ -96,17 +98,17 @@ pub record PartAt {S R : Type 0} (told : S
       (on b (joined_upto (clock_calls (wire_at wires b).from).calls (start W N closed)
       ++ since (wire_at wires b).from)) chunks
 
--- how far a run of N ticks in windows of W came
+-- how far a run of N ticks in windows of W came that a fault broke off: the tasks `first` came to `now`
 abbrev pub RunPart : {S R : Type 0} → (told : S → SinkTold) → List Wire → (W N : ℕ)
     → (first now : List (Task S (ThreadTaps R))) → Type 0
 RunPart {S} {R} told wires W N first now = (d : Task S (ThreadTaps R)) → PartAt told wires W N first now d
 
--- how a run ends, where this fault stopped a clock
+-- how a run ends that a fault of this clock stopped: at the sink that refused bytes, or for want of memory
 abbrev pub end_by : (clock : ℕ) → TickFault → End
 end_by clock (Refused sink) = Write clock sink
 end_by clock OutOfMemory = NoMemory
 
--- the end is that of the lowest clock that stopped, by its fault
+-- a run that faults stopped ends by one of them: that of the first task in the list whose engine stopped
 pub record IsToldByLowest {S R : Type 0} (tasks : List (Task S (ThreadTaps R))) (end : End) : Type 0 where
   pub place : ℕ
   pub within : place < length tasks

@@ -18,7 +18,8 @@ use Rattle.clock_threads.specs.Listed.{listed}
 use Rattle.clock_threads.specs.ThreadRuns.{AreEngines, HasRun}
 use Rattle.clock_threads.specs.EngineTasks.{engine_of}
 
--- the wires are those of a plan's buffers, between `clocks` clocks
+-- the wires are those of a plan's buffers: one for each, of its capacity, which is not 0, and between two of `clocks`
+-- clocks
 pub record AreLaid (plan : Plan) (clocks : ℕ) (wires : List Wire) : Type 0 where
   pub many : length wires ≡ length plan.buffers
   pub few : length wires < 4294967296
@@ -27,7 +28,7 @@ pub record AreLaid (plan : Plan) (clocks : ℕ) (wires : List Wire) : Type 0 whe
       → (slice_index_or plan.buffers b d).capacity ≡ (wire_at wires b).capacity
   pub places : (b : ℕ) → b < length wires → (wire_at wires b).from < clocks × ((wire_at wires b).to < clocks)
 
--- the engines of all clocks of this setting, and the wires of its buffers
+-- before a run of N ticks: these are the engines of all clocks of a setting of this plan, and the wires of its buffers
 pub record AreFresh {S : Type 0} (told : S
     → SinkTold) (plan : Plan) (wires : List Wire) (N : ℕ) (setting : Setting) (clocks : ClockMap)
     (engines : List (ClockEngine S)) : Type 0 where

@@ -11,14 +11,14 @@ use buffer_ends::{BufferLog, TakeEnd, ThreadTaps, WindowLog};
 use liq_base::Memory;
 use std::alloc::Global;
 
-// Takes out of a task the ends at which it takes.
+// Moves out of a task the ends of buffers at which it takes, so that another task's ends can be closed with them.
 fn lent<'a, O, R>(alloc: Global, task: &mut Task<'_, O, ThreadTaps<'a, R>>) -> Vec<TakeEnd<'a>>
     ensures { WasLent task.old task.new result.items }
 {
     task.taps.lend_takes(alloc)
 }
 
-// Puts back into a task the ends at which it takes.
+// Moves the ends of buffers at which a task takes back into it, after windows were closed with them.
 fn put_back<'a, O, R>(task: &mut Task<'_, O, ThreadTaps<'a, R>>, takes: Vec<TakeEnd<'a>>)
     requires { Falling takes.items }
     ensures { WasPutBack task.old task.new takes.entry.items }
@@ -100,7 +100,8 @@ pub(crate) fn close_joins<O, R>(
     kept
 }
 
-// Closes the window of a clock's list of a buffer.
+// Closes the window of a buffer with both ends in one clock, in that clock's task: its answers are kept in the task's
+// list.
 fn close_list<O, R>(
     alloc: Global,
     task: &mut Task<'_, O, ThreadTaps<'_, R>>,

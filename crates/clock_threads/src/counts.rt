@@ -7,7 +7,7 @@ use buffer_ends::{BufferLog, Counts, WindowLog};
 use liq_base::Memory;
 use std::alloc::Global;
 
-// How many answers are true, and how many are not.
+// How many answers of a buffer's end are true, which moved a chunk, and how many are not.
 fn counted(answers: &[bool]) -> (u64, u64)
     ensures yes { result.0 ≡ count_by yes answers.now }
     ensures no { result.1 ≡ count_by not answers.now }
@@ -24,7 +24,8 @@ fn added(one: u64, other: u64) -> Result<u64, Memory>
     one.checked_add(other).ok_or(Memory)
 }
 
-// The sum of these counts and those of a window.
+// Adds the answers of a window of ticks to a buffer's counts: puts accepted or at a full buffer, takes with a chunk or
+// without.
 fn with_window(counts: Counts, window: &WindowLog) -> Result<Counts, Memory>
     ensures { IfOk result (λ sum. sum ≡ more_counts counts (counts_of window.now)) }
 {
@@ -42,7 +43,8 @@ fn with_window(counts: Counts, window: &WindowLog) -> Result<Counts, Memory>
     })
 }
 
-// The counts of the answers in these windows.
+// How many answers of each sort these windows of a buffer have: puts accepted or at a full buffer, takes with a chunk
+// or without.
 fn count_windows(windows: &[WindowLog]) -> Result<Counts, Memory>
     ensures { IfOk result (λ counts. counts ≡ counts_in windows.now) }
 {
@@ -54,14 +56,14 @@ fn count_windows(windows: &[WindowLog]) -> Result<Counts, Memory>
     Ok(counts)
 }
 
-// The counts of a buffer's log.
+// How many answers of each sort a buffer's log has, over all its windows.
 fn count_log(log: &BufferLog) -> Result<Counts, Memory>
     ensures { IfOk result (λ counts. counts ≡ counts_in log.now) }
 {
     count_windows(log.windows.as_slice())
 }
 
-// The counts of each buffer's log.
+// For each buffer's log, how many answers of each sort it has: the counts that a run reports.
 pub(crate) fn count_logs(alloc: Global, logs: &[BufferLog]) -> Result<Vec<Counts>, Memory>
     ensures { IfOk result (λ counts. counts.items ≡ map counts_in logs.now) }
 {

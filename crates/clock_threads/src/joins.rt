@@ -58,7 +58,8 @@ fn join_one<'q, O, R>(
     Ok(())
 }
 
-// Hands both ends of each buffer that joins two clocks to their tasks.
+// Hands both ends of the queue of each buffer that joins two clocks to the tasks of these clocks, the last buffer
+// first. Ends of other buffers are dropped.
 pub(crate) fn join_all<'q, O, R>(
     wires: &[Wire],
     queues: &'q Vec<BufferQueue>,

@@ -8,7 +8,7 @@ use liq_base::Memory;
 use std::alloc::Global;
 use std::mem;
 
-// `count` logs without a window.
+// Empty logs for `count` buffers: none has the answers of any window yet.
 pub(crate) fn no_logs(alloc: Global, count: usize) -> Result<Vec<BufferLog>, Memory>
     ensures { IfOk result (λ logs. AreNoLogs count logs.items) }
 {
@@ -44,7 +44,7 @@ pub(crate) fn take_logs(wires: &[Wire], clock: usize, lists: Vec<BufferLog>, log
     }
 }
 
-// Exchanges a buffer's log for another one.
+// Swaps a buffer's log with another one, so that a log moves without a copy.
 fn exchange(log: &mut BufferLog, other: &mut BufferLog)
     ensures { log.new ≡ other.old }
 {

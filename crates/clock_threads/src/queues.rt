@@ -8,7 +8,8 @@ use buffer_queue::{BufferQueue, PutPass, TakePass};
 use liq_base::Memory;
 use std::alloc::Global;
 
-// The queues of all buffers, by their numbers, and the two ends of each.
+// Makes an empty queue for each buffer, of the capacity that its wire tells: the queues by the buffers' numbers, and
+// the two ends (passes) of each.
 pub(crate) fn make_queues(
     alloc: Global,
     wires: &[Wire],

@@ -13,7 +13,8 @@ use liq_base::Memory;
 use plan_core::Plan;
 use std::alloc::Global;
 
-// The lists of all buffers of a plan, `count` times: for each clock.
+// For each of `count` clocks, its lists of all buffers of the plan, without a call: it uses those of the buffers with
+// both ends in it.
 fn locals_of(alloc: Global, plan: &Plan, count: usize) -> Result<Vec<LocalTaps>, Memory>
     ensures { IfOk result (λ locals. AreLocals plan.now count locals.items) }
 {
@@ -24,7 +25,8 @@ fn locals_of(alloc: Global, plan: &Plan, count: usize) -> Result<Vec<LocalTaps>,
     Ok(locals)
 }
 
-// A task for each engine. Where memory is refused the engines stay.
+// Makes a task of each engine, in the same order: the engine with taps that have no ends yet. If memory is refused,
+// the engines stay where they are.
 pub(crate) fn tasks_of<'a, 'q, O, R>(
     rt: &'q R,
     alloc: Global,
@@ -49,7 +51,8 @@ pub(crate) fn tasks_of<'a, 'q, O, R>(
     Ok(tasks)
 }
 
-// The engines come back, in the same order, and the logs of the clocks' own buffers with them.
+// Takes the tasks apart after a run: the engines go back to `engines`, in the same order, and the answers of the
+// buffers with both ends in one clock to `logs`.
 pub(crate) fn engines_of<'a, O, R>(
     wires: &[Wire],
     tasks: Vec<Task<'a, O, ThreadTaps<'_, R>>>,

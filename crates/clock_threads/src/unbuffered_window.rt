@@ -30,10 +30,12 @@ impl Taps for UnbufferedTaps {
 
     ghost same_trans = { λ s t u a b. tt };
 
+    // Refuses a take, as for want of memory: an engine without readers makes none.
     fn take(&mut self, _buffer: u32) -> Result<Option<Chunk>, Memory> {
         Err(Memory)
     }
 
+    // Refuses a put, as for want of memory, and hands the chunk back: an engine without feeds makes none.
     fn give(&mut self, _buffer: u32, chunk: Chunk) -> Result<Gave, (Chunk, Memory)> {
         Err((chunk, Memory))
     }
@@ -59,7 +61,8 @@ fn run_unbuffered_ticks<O: Sink, G: Gate>(
     );
 }
 
-/// Each engine makes `count` ticks, over a plan without buffers, at the same time as the others.
+/// Makes one window of a run over a plan without buffers: each engine makes `count` ticks on a thread of its own, at
+/// the same time as the others.
 pub fn run_unbuffered_window<O: Sink + Send, G: Gate + Sync, R: Threads + Sync>(
     rt: &R,
     alloc: Global,

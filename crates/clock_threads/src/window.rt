@@ -9,7 +9,8 @@ use std::alloc::Global;
 use std::thread;
 use std::thread::Threads;
 
-/// Each task makes `count` ticks, at the same time as the others.
+/// Makes one window of a run: each task, a clock's engine with its taps, makes `count` ticks on a thread of its own,
+/// at the same time as the others.
 pub fn run_window<O: Sink + Send, T: Taps + Send, G: Gate + Sync, R: Threads + Sync>(
     rt: &R,
     alloc: Global,

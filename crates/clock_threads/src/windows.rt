@@ -17,7 +17,7 @@ use std::alloc::Global;
 use std::sync::Wait;
 use std::thread::Threads;
 
-// How the run ends at a fault of this clock.
+// How a run ends that this fault of main clock `clock` stopped.
 pub(crate) fn end_of(clock: u32, fault: TickFault) -> End
     ensures { result ≡ end_by clock fault }
 {
@@ -27,7 +27,8 @@ pub(crate) fn end_of(clock: u32, fault: TickFault) -> End
     }
 }
 
-// How the run ends, if a clock stopped: at the fault of the lowest clock that did; `None` if none did.
+// How the run ends, if the engine of a task stopped: by the fault of the clock with the lowest number that did; `None`
+// if none did.
 fn stopped_in<O, R>(tasks: &[Task<'_, O, ThreadTaps<'_, R>>]) -> Option<End>
     ensures none { IfNone result ((k : ℕ) (d : _) → k < length tasks.now
         → (slice_index_or tasks.now k d).engine.parts.stopped ≡ None) }
@@ -41,7 +42,7 @@ fn stopped_in<O, R>(tasks: &[Task<'_, O, ThreadTaps<'_, R>>]) -> Option<End>
     None
 }
 
-// Tells the gate which clocks a buffer joins.
+// Tells the gate, which each clock enters before a tick, which pairs of clocks a buffer joins.
 fn tell_joins<G: Gate>(wires: &[Wire], gate: &G) {
     for wire in wires {
         if wire.from != wire.to {

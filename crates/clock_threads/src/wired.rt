@@ -26,7 +26,8 @@ use std::alloc::Global;
 use std::sync::Wait;
 use std::thread::Threads;
 
-// Hands out the ends of the buffers, and makes all windows.
+// Runs the tasks of all clocks: hands each the ends of its buffers' queues, and makes all `ticks` ticks, window by
+// window.
 fn run_tasks<'q, O: Sink + Send, G: Gate + Sync, R: Threads + Wait + Sync>(
     rt: &R,
     alloc: Global,
@@ -74,7 +75,7 @@ pub(crate) fn ended(alloc: Global, end: End) -> RunEnd
     }
 }
 
-// The result of a run: with these logs and their counts if it is done, and otherwise without.
+// What a run answers: if it is done, its logs and the counts of their answers, and otherwise only its end.
 fn told(alloc: Global, logs: Vec<BufferLog>, end: End) -> RunEnd
     ensures done { result.end ≡ Done → (end ≡ Done) × (result.logs.items ≡ logs.items)
         × (result.counts.items ≡ map counts_in logs.items) }

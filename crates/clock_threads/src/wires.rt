@@ -20,7 +20,7 @@ pub struct Wire {
     pub capacity: u32,
 }
 
-// The buffer of this number.
+// The buffer of this number in a plan, where there is one.
 fn buffer_at(buffers: &[BufferPlan], number: usize) -> &BufferPlan
     requires { number < length buffers.now }
     ensures { (d : ThePlan) → result.now ≡ slice_index_or buffers.now number d }
@@ -28,7 +28,8 @@ fn buffer_at(buffers: &[BufferPlan], number: usize) -> &BufferPlan
     &buffers[number]
 }
 
-// The wire of a buffer with node `feed` at its feed and node `reads` as its reader.
+// The wire of a buffer, which names the main clocks of its two ends: that of node `feed`, which fills it, and that of
+// node `reads`, which reads it, or the first again if that clock does not run.
 fn wire_of(plan: &Plan, clocks: &ClockMap, feed: u32, reads: u32, buffer: &BufferPlan) -> Wire
     ensures { (other : Setting)
         → IsWireAt (over plan.now clocks.now.of other) clocks.now.running feed reads buffer.now.capacity result }
@@ -46,7 +47,7 @@ fn wire_of(plan: &Plan, clocks: &ClockMap, feed: u32, reads: u32, buffer: &Buffe
     }
 }
 
-// The wires of all buffers, by their numbers.
+// For each buffer of a plan, its wire: from which main clock it is filled, at which it is read, and its capacity.
 pub(crate) fn wires_of(alloc: Global, plan: &Plan, clocks: &ClockMap) -> Result<Vec<Wire>, Memory>
     requires { IsWellFormed plan.now }
     ensures wires { IfOk result (λ wires. AreFirstWires plan.now clocks.now (length plan.now.buffers) wires.items) }

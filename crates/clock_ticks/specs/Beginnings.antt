@@ -14,8 +14,8 @@ use Rattle.clock_instants.specs.Takes.{IsUnder}
 use Rattle.clock_outputs.specs.declared.port.Port.{Port}
 use Rattle.clock_outputs.specs.declared.feed.FeedPort.{FeedPort}
 
--- the state of node i of a plan before the first instant, in an engine of main clock m: where the clock drives the
--- node, which lies in it or in a sub-clock below it, it stands for no instant
+-- The state of node i in a new engine of main clock m fits the node. If the clock drives it, the node lies in it or in
+-- a sub-clock below it, and its state stands for no instant made.
 pub record IsNewState (plan : Plan) (clocks : List NodeClock) (m i : ℕ) (node : Node) (state : NodeState) : Type 0 where
   pub fits : (library : Sounds) → IsLibrary library → i < length library.leaves
       → Fits library (length node.children) state
@@ -23,7 +23,7 @@ pub record IsNewState (plan : Plan) (clocks : List NodeClock) (m i : ℕ) (node 
       → setting.plan ≡ plan → sub i 0 ≡ []
       → StateStands setting sub [] 0 i (work_at setting i node) state
 
--- the states of the first n nodes before the first instant
+-- the states of the first n nodes of a plan in a new engine of main clock m: they stand for no instant made
 pub record AreNewStates (plan : Plan) (clocks : List NodeClock) (m n : ℕ) (states : List NodeState) : Type 0 where
   pub size : length states ≡ n
   pub each : (i : ℕ) (node : Node) (state : NodeState) → slice_get plan.nodes i ≡ Some node

@@ -24,7 +24,7 @@ use Rattle.clock_ticks.specs.declared.cues.CueList.{CueList}
 use Rattle.clock_ticks.specs.declared.fault.TickFault.{TickFault}
 use Rattle.clock_ticks.specs.declared.engine.EngineParts.{EngineParts}
 
--- the plan of an engine, with its clocks, its files and its start second, and no answers
+-- what an engine plays, as a setting: its plan, clocks, files and start second, and buffers that answered nothing yet
 abbrev pub setting_of : EngineParts → Setting
 setting_of parts = record {
   plan = parts.scene.plan.now;
@@ -42,31 +42,32 @@ outputs_from setting m i (Output name node fallible wide ∷ sinks) =
     else outputs_from setting m (suc i) sinks
 outputs_from setting m i (Feed buffer node ∷ sinks) = outputs_from setting m (suc i) sinks
 
--- the outputs of main clock m, in sink order
+-- the outputs of main clock m in a plan, in the order of its sinks, by their numbers among the sinks and their nodes
 abbrev pub outputs_of : Setting → ℕ → List (ℕ × ℕ)
 outputs_of setting m = outputs_from setting m 0 setting.plan.sinks
 
--- the number of an output among the sinks of the plan, and its node
+-- the key of an output: its number among the sinks of the plan, and the node that it plays
 abbrev pub output_of : Port → ℕ × ℕ
 output_of port = (port.sink, port.node)
 
--- the feeds of main clock m among these sinks: their buffers and nodes
+-- the feeds of main clock m among these sinks, by the buffer that each fills and the node that it plays
 abbrev pub feeds_from : Setting → (m : ℕ) → List SinkPlan → List (ℕ × ℕ)
 feeds_from setting m [] = []
 feeds_from setting m (Output name node fallible wide ∷ sinks) = feeds_from setting m sinks
 feeds_from setting m (Feed buffer node ∷ sinks) =
     if lies_in setting (Main m) node then (buffer, node) ∷ feeds_from setting m sinks else feeds_from setting m sinks
 
--- the feeds of main clock m, in sink order
+-- the feeds of main clock m in a plan, in the order of its sinks, by the buffer that each fills and the node that it
+-- plays
 abbrev pub feeds_of : Setting → ℕ → List (ℕ × ℕ)
 feeds_of setting m = feeds_from setting m setting.plan.sinks
 
--- the buffer and the node of a feed
+-- the key of a feed: the buffer that it fills, and the node that it plays
 abbrev pub feed_of : FeedPort → ℕ × ℕ
 feed_of feed = (feed.buffer, feed.node)
 
--- an engine with the states, outputs, feeds and marks of another one, which made so many ticks and was stopped by this
--- fault, or by none
+-- the engine `parts` after a tick: with the states, outputs, feeds and marks of `other`, so many ticks made, and the
+-- fault that stopped it, if one did
 abbrev pub after_tick : EngineParts → (other : EngineParts) → (ticks : ℕ) → Option TickFault → EngineParts
 after_tick parts other ticks stopped = record {
   scene = parts.scene;
@@ -87,7 +88,8 @@ pub record AreClocksOf (plan : Plan) (clocks : List NodeClock) : Type 0 where
   pub assigned : IsClockMap plan map
   pub are : clocks ≡ map.of
 
--- the parts of an engine fit together
+-- The parts of an engine fit together: its plan is well formed, there is a state and a clock for each node, its
+-- outputs and feeds are those of its clock, with room for a tick, and each output has a list of marks.
 pub record AreParts (parts : EngineParts) : Type 0 where
   pub plan : IsWellFormed parts.scene.plan.now
   pub nodes : AreNodes parts.scene.plan.now.nodes
@@ -152,7 +154,8 @@ pub record EngineStopped (parts : EngineParts) (t : ℕ) (answers : ℕ → List
       → slice_get parts.cues.lists.items k ≡ Some list
       → take list.before list.marks.items ≡ map mark_of (cues (with_rest (setting_of parts) answers rest) port.node t)
 
--- what the sink of this number holds, where it tells it. There is a sink for each output, in the same order
+-- the bytes that the sink of this number holds, if it tells them, where `outs` are the sinks of these outputs (number
+-- and node) in the same order
 abbrev pub held_in : {S : Type 0} → (S → SinkTold) → (outputs : List (ℕ × ℕ)) → List S → ℕ → Option (List ℕ)
 held_in told [] outs sink = None
 held_in told (output ∷ outputs) [] sink = None
@@ -163,7 +166,8 @@ held_in told (output ∷ outputs) (out ∷ outs) sink = if nat_eq output.0 sink 
 abbrev pub held_of : {S : Type 0} → (S → SinkTold) → Engine S → ℕ → Option (List ℕ)
 held_of told engine = held_in told (outputs_of (setting_of engine.parts) engine.parts.clock) engine.outs
 
--- what changes in a tick of an engine, and its taps
+-- what a tick changes in an engine: its states, outputs, feeds and marks, with the first instant of its next tick and
+-- its taps, which are its way to the buffers
 abbrev pub hearing_of : {T : Type 0} → EngineParts → T → Hearing T
 hearing_of parts taps = record {
   state = parts.state;

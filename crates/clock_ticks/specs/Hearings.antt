@@ -23,34 +23,35 @@ use Rattle.clock_ticks.specs.declared.cues.Cues.{Cues}
 use Rattle.clock_ticks.specs.Cues.{HasMarked, HasMarkedSome, marks_if}
 use Rattle.clock_ticks.specs.Standing.{ClockStateStands}
 
--- what is known of a setting, whatever its answers are: the slots and the calls of its sub-clocks, that no buffer has
--- two readers, and which nodes are demanded of themselves
+-- What is known of a setting, whatever its buffers answer: the slots `sub` and the calls of its sub-clocks, that no
+-- buffer has two readers, and in `own` the nodes that their own clock asks for.
 pub record IsMeant (setting : Setting) (sub : ℕ → ℕ → List Slot) (own : List Bool) : Type 0 where
   pub meaning : IsMeaning setting sub
   pub down : GoDown setting sub
   pub readers : HasOwnReaders setting
   pub roots : AreOwnRoots setting own
 
--- the slot of node i at instant n of a clock
+-- the slot that node i offers at instant n of a clock; `sub` has the slots of the sub-clocks
 abbrev pub slot_in : Setting → (sub : ℕ → ℕ → List Slot) → NodeClock → (i n : ℕ) → Slot
 slot_in setting sub clock i n = offer (moment_after setting sub clock (first_instants setting sub clock n)) i
 
--- the calls of `count` instants of a clock, from instant n on
+-- the puts and takes on buffers of `count` instants of a clock, from instant n on; `sub` has the slots of the
+-- sub-clocks
 abbrev pub calls_from : Setting → (sub : ℕ → ℕ → List Slot) → NodeClock → (n count : ℕ) → List Call
 calls_from setting sub clock n count = joined_upto
     (λ j. calls_of setting sub clock (first_instants setting sub clock (n + j))) count
 
--- the buffer and the node of a feed
+-- the key of a feed: the buffer that it fills, and the node that it plays
 abbrev pub feed_key : FeedPort → ℕ × ℕ
 feed_key feed = (feed.buffer, feed.node)
 
--- what some instants of a clock came to: the slots of its nodes, the calls, and the states after them
+-- what some instants of a clock came to: the slots of each node, the calls on buffers, and the states after them
 pub record Outcome : Type 0 where
   pub slots : ℕ → List Slot
   pub calls : List Call
   pub state : ClockState
 
--- the outcome with these slots, calls and states
+-- puts together what some instants came to: the slots of each node, the calls on buffers, and the states after them
 abbrev pub outcome : (ℕ → List Slot) → List Call → ClockState → Outcome
 outcome slots calls state = record { slots = slots; calls = calls; state = state }
 
@@ -64,7 +65,8 @@ pub record HasMadeInstants (setting : Setting) (sub : ℕ → ℕ
       → made.slots i ≡ map (slot_in setting sub clock i) (range_with_len n count)
   pub calls : made.calls ≡ calls_from setting sub clock n count
 
--- the states, the outputs, the feeds and the marks of a clock, the first instant of the tick, and its taps
+-- What changes in a tick of a clock: its states, outputs, feeds and marks (where tracks begin), and its taps, which
+-- are its way to the buffers. `start` is the first instant of the tick.
 pub record Hearing (T : Type 0) : Type 0 where
   pub state : ClockState
   pub ports : List Port
@@ -73,7 +75,8 @@ pub record Hearing (T : Type 0) : Type 0 where
   pub start : ℕ
   pub taps : T
 
--- the hearing of these states, outputs, feeds, marks and taps, in a tick that begins at instant `start`
+-- puts together what changes in a tick of a clock: states, outputs, feeds, marks and taps, with the tick's first
+-- instant `start`
 abbrev pub hearing_by : {T : Type 0} → ClockState → List Port → List FeedPort → Cues → (start : ℕ) → T → Hearing T
 hearing_by state ports feeds cues start taps = record {
   state = state;
@@ -135,22 +138,24 @@ pub record HeardSome {T : Type 0} (stands : T → List Call
       → ClockStateStands (setting_over scene other) sub clock n front before.state
       → IsBegin made (calls_from (setting_over scene other) sub clock n total)
 
--- the slots of node i in the latest segment, which had `many` instants after its first one
+-- the slots of node i in the latest segment: an instant, and `many` more that go on as it did, by the samples that
+-- they left
 abbrev pub segment_of : ClockStates → (many i : ℕ) → List Slot
 segment_of all many i =
     segment_slots (part_at all.latest.parts.items i).slot many (samples_of all.room.left.items i many)
     (samples_of all.room.right.items i many)
 
--- the states of a clock, and its taps
+-- the states of a clock, and its taps, through which it puts into buffers and takes from them
 pub record Tapped (T : Type 0) : Type 0 where
   pub state : ClockState
   pub taps : T
 
--- these states with these taps
+-- puts together the states of a clock and its taps, through which it puts into buffers and takes from them
 abbrev pub tapped : {T : Type 0} → ClockState → T → Tapped T
 tapped state taps = record { state = state; taps = taps }
 
--- a segment was made, an instant and `many` that go on as it did: whatever instants the states stood for
+-- A segment was made: an instant of a clock, and `many` more that go on as it did. Whatever instants the states before
+-- stood for, those after stand for these too, and the taps got their calls.
 pub record SegmentMade {T : Type 0} (stands : T → List Call
     → Type 0) (scene : Scene) (clock : NodeClock) (own : List Bool) (many : ℕ)
     (before after : Tapped T) : Type 0 where

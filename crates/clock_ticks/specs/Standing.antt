@@ -11,18 +11,19 @@ use Rattle.clock_nodes.specs.Scenes.{IsScene}
 use Rattle.nested_instants.specs.Clocks.{AreClockStates, HasLevels, HasRanks, Progress, RanAsNeeded, Stand}
 use Rattle.clock_ticks.specs.declared.clock_state.ClockState.{ClockState}
 
--- the clock is a main clock
+-- the clock is a main clock, so it is not the sub-clock of any crossfade
 abbrev pub IsMain : NodeClock → Type 0
 IsMain clock = (k : ℕ) → clock ≡ Sub k → ⊥
 
--- the states are for the nodes of a scene, and the time has its rate and its frame
+-- the states are for the nodes of a scene, a plan with its files and clocks, and the clock's time has the plan's rate
+-- and tick length (`frame`)
 pub record IsClockState (scene : Scene) (state : ClockState) : Type 0 where
   pub below : AreClockStates scene state.clocks
   pub rate : state.time.rate ≡ scene.plan.now.rate
   pub frame : state.time.frame ≡ scene.plan.now.frame
 
--- a main clock can make instants: these are the states of the nodes, sub-clocks nest no deeper than there are nodes,
--- and `own` has an entry for each node
+-- A main clock can make instants: its states fit the scene, a plan with its files and clocks; sub-clocks nest no
+-- deeper than there are nodes; `own`, the nodes that their clock asks for, has an entry for each node.
 pub record CanMake (scene : Scene) (clock : NodeClock) (own : List Bool) (state : ClockState) : Type 0 where
   pub scene_is : IsScene scene
   pub in_own : length own ≡ length scene.plan.now.nodes

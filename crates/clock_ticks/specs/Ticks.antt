@@ -13,7 +13,8 @@ use Rattle.clock_ticks.specs.declared.engine.EngineParts.{EngineParts}
 use Rattle.clock_ticks.specs.declared.fault.TickFault.{TickFault}
 use Rattle.clock_ticks.specs.declared.fault.TickFault.TheVariants.{Write}
 
--- an engine with a reader in its clock or below it, or with a feed, or that keeps marks
+-- an engine that may need memory in a tick: a buffer's reader lies in its clock or below it, or it has a feed, or it
+-- keeps marks of where tracks begin
 abbrev pub HasEnds : EngineParts → Type 0
 HasEnds parts = HasReader parts.scene.plan.now parts.scene.clocks.now (Main parts.clock)
     ⊎ ((0 < length (feeds_of (setting_of parts) parts.clock)) ⊎ (parts.cues.keeping ≡ true))

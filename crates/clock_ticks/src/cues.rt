@@ -38,7 +38,7 @@ pub struct Cues {
     pub lists: Vec<CueList>,
 }
 
-/// Lists for the marks of `count` outputs; no marks are kept.
+/// Empty lists for the marks of `count` outputs, which tell where their tracks begin; no marks are kept yet.
 pub fn cues_of(alloc: Global, count: usize) -> Result<Cues, Memory>
     ensures keeping { IfOk result (λ cues. cues.keeping ≡ false) }
     ensures size { IfOk result (λ cues. length cues.lists.items ≡ count) }
@@ -58,7 +58,8 @@ pub fn cues_of(alloc: Global, count: usize) -> Result<Cues, Memory>
     })
 }
 
-/// Begins a tick: the marks that each output has are those before it.
+/// Begins a tick: notes for each output how many marks of track beginnings it has, so that those of a tick that fails
+/// can be left out.
 pub fn begin_cues(cues: &mut Cues)
     ensures keeping { cues.new.keeping ≡ cues.old.keeping }
     ensures size { length cues.new.lists.items ≡ length cues.old.lists.items }
@@ -70,15 +71,15 @@ pub fn begin_cues(cues: &mut Cues)
     }
 }
 
-// Begins a tick of one output: the marks that it has are those before it.
+// Begins a tick of one output: notes how many marks of track beginnings it has.
 fn begin_list(list: &mut CueList)
     ensures { HasMarked [] list.old list.new }
 {
     list.before = list.marks.len();
 }
 
-/// If marks are kept, each output gets the mark of its node at the latest instant, which is `at`, if a track begins
-/// there. If memory is refused, some got theirs.
+/// If marks are kept, adds to each output's list the track that begins in its node at the latest instant, `at`, if one
+/// does. If memory is refused, some outputs got theirs.
 pub fn mark_all(
     cues: &mut Cues,
     ports: &[Port],
@@ -103,8 +104,8 @@ pub fn mark_all(
     mark_lists(&mut cues.lists, ports, at, clocks)
 }
 
-// Each output gets the mark of its node at the latest instant, which is `at`, if a track begins there. Where memory is
-// refused some got theirs.
+// Adds to each output's list the track that begins in its node at the latest instant, `at`, if one does. If memory is
+// refused, some outputs got theirs.
 fn mark_lists(
     lists: &mut Vec<CueList>,
     ports: &[Port],
@@ -130,7 +131,7 @@ fn mark_lists(
     Ok(())
 }
 
-// Adds the mark of a slot at instant `at` to those of an output, if the slot begins a track.
+// Adds a mark, the instant `at` and the title, to the list of an output whose slot there begins a track.
 fn mark_list(list: &mut CueList, at: u64, slot: Option<Cell>) -> Result<(), Memory>
     ensures kept { OnOk result (HasKept (marks_of at (slot ∷ [])) list.old list.new) }
     ensures refused { OnErr result (HasKept [] list.old list.new) }
@@ -148,7 +149,8 @@ fn mark_list(list: &mut CueList, at: u64, slot: Option<Cell>) -> Result<(), Memo
     Ok(())
 }
 
-/// The marks of an output in whole ticks: all, or if a fault stopped the engine, those before the tick in which it did.
+/// The marks of an output's track beginnings in whole ticks: all, or if a fault stopped the engine, those before the
+/// tick in which it did.
 pub fn whole_marks(list: &CueList, stopped: Option<TickFault>) -> &[CueMark]
     ensures runs { stopped ≡ None → result.now ≡ list.now.marks.items }
     ensures stopped { (fault : Fault) → stopped ≡ Some fault → result.now ≡ take list.now.before list.now.marks.items }
@@ -159,7 +161,7 @@ pub fn whole_marks(list: &CueList, stopped: Option<TickFault>) -> &[CueMark]
     }
 }
 
-// The first `count` marks, or all if there are fewer.
+// The first `count` marks of an output's track beginnings, or all if there are fewer.
 fn first_marks(marks: &[CueMark], count: usize) -> &[CueMark]
     ensures { result.now ≡ take count marks.now }
 {

@@ -135,7 +135,8 @@ fn make_parts<'a>(
     })
 }
 
-// Makes the instants of the next tick; outputs, feeds and marks hear their nodes.
+// Makes the instants of the next tick: outputs and feeds take the slots of their nodes, and it is marked where tracks
+// begin.
 fn run_parts<T: Taps>(parts: &mut EngineParts<'_>, taps: &mut T) -> Result<(), Memory>
     requires parts { AreParts parts.old }
     requires few { parts.old.ticks < 1000000000 }
@@ -174,7 +175,7 @@ fn run_parts<T: Taps>(parts: &mut EngineParts<'_>, taps: &mut T) -> Result<(), M
     )
 }
 
-// Makes the instants of the next tick. If memory is refused, the engine has stopped.
+// Makes the instants of the next tick. If memory is refused, it notes this fault, by which the engine has stopped.
 fn run_or_stop<T: Taps>(parts: &mut EngineParts<'_>, taps: &mut T) -> Result<(), TickFault>
     requires parts { AreParts parts.old }
     requires few { parts.old.ticks < 1000000000 }
@@ -209,7 +210,8 @@ fn run_or_stop<T: Taps>(parts: &mut EngineParts<'_>, taps: &mut T) -> Result<(),
     }
 }
 
-// Gives the chunk of each feed to its buffer. If memory is refused, the engine has stopped.
+// Puts the chunk of cells that each feed gathered in the tick into its buffer. If memory is refused, it notes this
+// fault, by which the engine has stopped.
 fn give_or_stop<T: Taps>(
     alloc: Global,
     parts: &mut EngineParts<'_>,
@@ -235,7 +237,8 @@ fn give_or_stop<T: Taps>(
     }
 }
 
-// The gaps of an output in whole ticks: all, or if a fault stopped the engine, those before the tick in which it did.
+// At how many instants of whole ticks an output had nothing to play: of all, or if a fault stopped the engine, of
+// those before the tick in which it did.
 fn whole_gaps(port: &Port, stopped: Option<TickFault>) -> u64
     ensures runs { stopped ≡ None → result ≡ port.now.gaps }
     ensures stopped { (fault : Fault) → stopped ≡ Some fault → result ≡ port.now.gaps_before }
@@ -335,7 +338,7 @@ impl<'a, O: Sink> ClockEngine<'a, O> {
         Ok(())
     }
 
-    /// Lets an engine that made no tick keep the marks of its outputs.
+    /// Lets an engine that made no tick keep marks of where the tracks of its outputs begin.
     pub fn keep_cues(&mut self)
         requires new { self.old.parts.ticks ≡ 0 }
         ensures keeping { self.new.parts.cues.keeping ≡ true }
@@ -396,7 +399,7 @@ impl<'a, O: Sink> ClockEngine<'a, O> {
         &[]
     }
 
-    /// The sinks of its outputs, in sink order.
+    /// Takes the engine apart and gives back the sinks of its outputs, in sink order.
     pub fn into_outs(self) -> Vec<O>
         ensures { result.items ≡ self.entry.outs }
     {

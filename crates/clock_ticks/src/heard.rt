@@ -9,8 +9,8 @@ use clock_outputs::{FeedPort, Port};
 use nested_instants::ClockStates;
 use stream_meaning::slot_of;
 
-/// Each output takes the slots of its node in the latest segment, which had `many` instants after its first one. There
-/// are `nodes` nodes.
+/// Each output takes the slots of its node in the latest segment: those of an instant, and of `many` more that were
+/// made at once, as they go on as it did. There are `nodes` nodes.
 pub fn hear_all(ports: &mut Vec<Port>, clocks: &ClockStates, many: u32, nodes: usize)
     requires stretch_room { HasStretchRoom nodes clocks.now.room }
     requires short { many ≤ 2048 }
@@ -23,7 +23,8 @@ pub fn hear_all(ports: &mut Vec<Port>, clocks: &ClockStates, many: u32, nodes: u
     }
 }
 
-// An output takes the slots of its node in the latest segment, which had `many` instants after its first one.
+// An output takes the slots of its node in the latest segment: those of an instant, and of `many` more that were made
+// at once, as they go on as it did.
 fn hear_one(port: &mut Port, clocks: &ClockStates, many: u32, nodes: usize)
     requires stretch_room { HasStretchRoom nodes clocks.now.room }
     requires short { many ≤ 2048 }
@@ -40,8 +41,8 @@ fn hear_one(port: &mut Port, clocks: &ClockStates, many: u32, nodes: usize)
     );
 }
 
-/// Each feed takes the slots of its node in the latest segment, which had `many` instants after its first one. There
-/// are `nodes` nodes.
+/// Each feed takes the slots of its node in the latest segment: those of an instant, and of `many` more that were made
+/// at once, as they go on as it did. There are `nodes` nodes.
 pub fn feed_all(feeds: &mut Vec<FeedPort>, clocks: &ClockStates, many: u32, nodes: usize)
     requires stretch_room { HasStretchRoom nodes clocks.now.room }
     requires short { many ≤ 2048 }
@@ -54,7 +55,8 @@ pub fn feed_all(feeds: &mut Vec<FeedPort>, clocks: &ClockStates, many: u32, node
     }
 }
 
-// A feed takes the slots of its node in the latest segment, which had `many` instants after its first one.
+// A feed takes the slots of its node in the latest segment: those of an instant, and of `many` more that were made at
+// once, as they go on as it did.
 fn feed_one(feed: &mut FeedPort, clocks: &ClockStates, many: u32, nodes: usize)
     requires stretch_room { HasStretchRoom nodes clocks.now.room }
     requires short { many ≤ 2048 }

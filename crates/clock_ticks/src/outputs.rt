@@ -91,7 +91,7 @@ pub fn feeds_of(alloc: Global, scene: &Scene<'_>, clock: u32) -> Result<Vec<Feed
     Ok(feeds)
 }
 
-// The feed of a node into this buffer, before the first tick.
+// A feed before the first tick: it is to fill this buffer with what the node plays, and has room for a tick's cells.
 fn feed_port(alloc: Global, scene: &Scene<'_>, buffer: u32, node: u32) -> Result<FeedPort, Memory>
     requires frame { scene.now.plan.now.frame ≤ 65536 }
     ensures feed { IfOk result (λ feed. feed_of feed ≡ (buffer, node)) }

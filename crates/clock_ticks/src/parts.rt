@@ -108,7 +108,8 @@ pub fn is_main(of: NodeClock, clock: u32) -> bool
     }
 }
 
-/// For each node, whether its own clock demands it of itself.
+/// For each node, whether its own clock asks for it at each instant: a main clock for the nodes of its sinks, and a
+/// sub-clock for the child of its crossfade.
 pub fn own_roots(alloc: Global, scene: &Scene<'_>) -> Result<Vec<bool>, Memory>
     requires in_clocks { length scene.now.clocks.now ≡ length scene.now.plan.now.nodes }
     requires sinks { All (λ sink. sink_node sink < length scene.now.plan.now.nodes) scene.now.plan.now.sinks }
@@ -120,7 +121,7 @@ pub fn own_roots(alloc: Global, scene: &Scene<'_>) -> Result<Vec<bool>, Memory>
     Ok(own)
 }
 
-// The times of `count` sub-clocks before their first instant, which is at `first`.
+// The times of the next instants of `count` sub-clocks, one for each node, before any was made: all are `first`.
 fn times_of(alloc: Global, first: WeekTime, count: usize) -> Result<Vec<WeekTime>, Memory>
     ensures size { IfOk result (λ times. length times.items ≡ count) }
     ensures each { IfOk result (λ times. (k : ℕ) (time : Time) → slice_get times.items k ≡ Some time → time ≡ first) }
@@ -129,7 +130,7 @@ fn times_of(alloc: Global, first: WeekTime, count: usize) -> Result<Vec<WeekTime
     Ok(times)
 }
 
-// The largest number of children that a node of the plan has.
+// The largest number of children that a node of the plan has: an engine keeps room for what so many offer.
 fn most_children(plan: &Plan) -> usize
     ensures { HasRoomFor plan.now result }
 {
@@ -175,7 +176,7 @@ fn is_driven(clocks: &[NodeClock], clock: u32, i: u32) -> bool
     true
 }
 
-// The clock of node i; main clock 0 if there is no such node.
+// The clock that drives node i; main clock 0 if there is no such node.
 fn clock_at(clocks: &[NodeClock], i: u32) -> NodeClock
     ensures { result ≡ slice_index_or clocks.now i (NodeClock.Main 0) }
 {
@@ -185,7 +186,7 @@ fn clock_at(clocks: &[NodeClock], i: u32) -> NodeClock
     }
 }
 
-// The node of a sink.
+// The number of the node that a sink, an output or the feed of a buffer, plays.
 fn node_of(sink: &SinkPlan) -> u32
     ensures { result ≡ sink_node sink.now }
 {
@@ -195,7 +196,7 @@ fn node_of(sink: &SinkPlan) -> u32
     }
 }
 
-// Sets for each node, none of which is set before, whether its own clock demands it of itself.
+// Sets in `own`, where no node is set before, each node that its own clock asks for at each instant.
 fn demand_roots(scene: &Scene<'_>, own: &mut [bool])
     requires in_clocks { length scene.now.clocks.now ≡ length own.old }
     requires sinks { All (λ sink. sink_node sink < length own.old) scene.now.plan.now.sinks }
@@ -208,7 +209,7 @@ fn demand_roots(scene: &Scene<'_>, own: &mut [bool])
     keep_roots(scene, own);
 }
 
-// Sets the node of each of these sinks as demanded.
+// Sets in `demanded` the node that each of these sinks plays.
 fn demand_sinks(sinks: &[SinkPlan], demanded: &mut [bool])
     requires { All (λ sink. sink_node sink < length demanded.old) sinks.now }
     ensures { (i : ℕ) → slice_index_or demanded.new i false
@@ -219,7 +220,8 @@ fn demand_sinks(sinks: &[SinkPlan], demanded: &mut [bool])
     }
 }
 
-// Sets for each node whether its own clock demands it of itself. Before, the nodes of sinks are set and no others.
+// Turns marks of the nodes of sinks into marks of the nodes that their own clock asks for: in a sub-clock, the
+// crossfade's child instead of the nodes of sinks.
 fn keep_roots(scene: &Scene<'_>, own: &mut [bool])
     requires in_clocks { length scene.now.clocks.now ≡ length own.old }
     requires demanded { (i : ℕ) → slice_index_or own.old i false
@@ -233,7 +235,8 @@ fn keep_roots(scene: &Scene<'_>, own: &mut [bool])
     }
 }
 
-// Whether its own clock demands node i of itself: a main clock the nodes of sinks, a sub-clock its crossfade's child.
+// Whether node i, in clock `of`, is one that this clock asks for at each instant: a main clock for the nodes of sinks
+// (`has_sink`), and a sub-clock for its crossfade's child.
 fn is_own_root(scene: &Scene<'_>, of: NodeClock, i: usize, has_sink: bool) -> bool
     requires { has_sink ≡ list_any (λ sink. nat_eq (sink_node sink) i) scene.now.plan.now.sinks }
     ensures { (other : Setting) → result ≡ is_root (setting_over scene.now other) of i }

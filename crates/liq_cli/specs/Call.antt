@@ -11,13 +11,13 @@ use Rattle.station_jobs.specs.Jobs.{IsBroken, IsDone, IsStarved}
 use Rattle.station_jobs.specs.Words.{HasNoForm}
 use Rattle.station_jobs.specs.Verdicts.{Verdict, Usage, Refused, Checked, Accepted, Made, ForVerdict, ForEachVerdict, IsVerdict, usage_line}
 
--- what the shelf, `out` and `err` tell at one moment
+-- what the world around a call tells at one moment: the shelf of its files, and the sinks `out` and `err`
 pub record Outside : Type 0 where
   pub shelf : ShelfTold
   pub out : SinkTold
   pub err : SinkTold
 
--- all that is outside of the call, as its objects tell it
+-- puts together what the shelf of files and the sinks `out` and `err` tell at one moment
 abbrev pub outside_of : (shelf : ShelfTold) (out err : SinkTold) → Outside
 outside_of shelf out err = record { shelf = shelf; out = out; err = err }
 
@@ -40,7 +40,7 @@ pub record ReportSaid (words : List (List ℕ)) (old new : Outside) : Type 0 whe
   pub done : ForFiles words old.shelf (λ files verdict. IsDone verdict files old.shelf new.shelf report)
   pub err_kept : new.err ≡ old.err
 
--- status 1: `err` got the line of the fault in one piece
+-- status 1: what the words ask for is refused, and `err` got the line of the fault in one piece; files were only read
 pub record LineSaid (words : List (List ℕ)) (old new : Outside) : Type 0 where
   pub fault : Fault
   pub said : TookPiece (line_of fault) old.err new.err
@@ -55,21 +55,21 @@ pub record UsageSaid (words : List (List ℕ)) (old new : Outside) : Type 0 wher
   pub shelf_kept : new.shelf ≡ old.shelf
   pub out_kept : new.out ≡ old.out
 
--- status 3: a read failed
+-- status 3: a read from the shelf failed, and nothing was written: neither to a file nor to `out` or `err`
 pub record ReadFailed (old new : Outside) : Type 0 where
   pub cause : Rose old.shelf.reads new.shelf.reads
   pub shelf_read : OnlyRead old.shelf new.shelf
   pub out_kept : new.out ≡ old.out
   pub err_kept : new.err ≡ old.err
 
--- status 4: the usage line broke off
+-- status 4: the words have no form, and the usage line broke off when it was written to `err`
 pub record UsageBroke (words : List (List ℕ)) (old new : Outside) : Type 0 where
   pub no_form : HasNoForm words
   pub part : TookPart usage_line old.err new.err
   pub shelf_kept : new.shelf ≡ old.shelf
   pub out_kept : new.out ≡ old.out
 
--- status 4: the line of a fault broke off
+-- status 4: what the words ask for is refused, and the line of the fault broke off when it was written to `err`
 pub record LineBroke (words : List (List ℕ)) (old new : Outside) : Type 0 where
   pub fault : Fault
   pub part : TookPart (line_of fault) old.err new.err
@@ -114,14 +114,15 @@ pub record Ends (words : List (List ℕ)) (old new : Outside) (status : ℕ) : T
   pub memory : status ≡ 5 → NoMemory words old new
   pub no_form : HasNoForm words → (status ≡ 2) ⊎ ((status ≡ 4) × UsageBroke words old new)
 
--- nothing failed: no count rose
+-- nothing failed during the call: no count of failed reads or writes rose, on the shelf, `out` and `err`
 pub record Calm (old new : Outside) : Type 0 where
   pub reads : Rose old.shelf.reads new.shelf.reads → ⊥
   pub writes : Rose old.shelf.writes new.shelf.writes → ⊥
   pub out : Rose old.out.faults new.out.faults → ⊥
   pub err : Rose old.err.faults new.err.faults → ⊥
 
--- this status is the one of the verdict, or 5 for want of memory
+-- this status is the one that the verdict on the words asks for: 0 if done, 1 if refused, 2 for no form; or else 5 for
+-- want of memory
 abbrev pub Completes : Verdict → ℕ → Type 0
 Completes (Made made station) status = (status ≡ 0) ⊎ (status ≡ 5)
 Completes (Accepted station) status = (status ≡ 0) ⊎ (status ≡ 5)
@@ -133,8 +134,8 @@ Completes Usage status = status ≡ 2
 abbrev pub HasVerdict : List (List ℕ) → Files → Type 0
 HasVerdict words files = (verdict : Verdict) × IsVerdict words files verdict
 
--- Where no count rose, the status is 5 or there is a verdict; and each verdict is the status, unless that is 5. Status 5
--- has no cause here: a body that always ends with it meets this.
+-- Where no count of failures rose, the status is 5 or there is a verdict on the words; and each verdict is the status,
+-- unless that is 5. Status 5 has no cause here: a body that always ends with it meets this.
 abbrev pub IsComplete : List (List ℕ) → Outside → Outside → ℕ → Type 0
 IsComplete words old new status = Calm old new → ForSome old.shelf.files (λ files.
     ((status ≡ 5) ⊎ HasVerdict words files) × ForEachVerdict words files (λ verdict. Completes verdict status))

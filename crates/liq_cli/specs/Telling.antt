@@ -6,15 +6,18 @@ use Rattle.refusal_lines.specs.Lines.{line_of}
 use Rattle.station_jobs.specs.declared.halt.CallEnd.{CallEnd}
 use Rattle.station_jobs.specs.declared.halt.CallEnd.TheVariants.{Read, Write, Memory, Refused as refused_for}
 
--- a text was written in one piece and the status is the wanted one, or it broke off and the status is 4
+-- how writing a call's one text to a sink ends: all of it was written and the status is the one `wanted`, or it broke
+-- off and the status is 4
 abbrev pub Tells : List ℕ → ℕ → (old new : SinkTold) → ℕ → Type 0
 Tells text wanted old new status = ((status ≡ wanted) × TookPiece text old new) ⊎ ((status ≡ 4) × TookPart text old new)
 
--- a text was written or broke off, with its status; or memory was refused for it: nothing was written, and it is 5
+-- how making and writing a call's one text to a sink ends: written with the status `wanted`, broken off with status 4,
+-- or with status 5 and nothing written, if memory was refused
 abbrev pub MayTell : List ℕ → ℕ → (old new : SinkTold) → ℕ → Type 0
 MayTell text wanted old new status = ((status ≡ 5) × (new ≡ old)) ⊎ Tells text wanted old new status
 
--- for the end of a job, `out` got its report, or `err` the line of its fault, or neither anything; and the status
+-- how a call ends, by the end of its job: `out` got the report, or `err` the line of a refusal, or neither got
+-- anything; with the status that says which
 abbrev pub Finishes : Result (String Global) CallEnd → (out out_new err err_new : SinkTold) → ℕ → Type 0
 Finishes (Ok report) out out_new err err_new status = Tells (string_bytes report) 0 out out_new status × (err_new ≡ err)
 Finishes (Err (refused_for fault)) out out_new err err_new status = MayTell (line_of fault) 1 err err_new status

@@ -142,7 +142,8 @@ fn finish<O: Sink, E: Sink>(
     }
 }
 
-// Writes the line of a refusal, and returns the status.
+// Writes the line of a refusal to `err`, and returns the call's status: 1, or 4 if it broke off, or 5 if memory was
+// refused.
 fn refuse<E: Sink>(alloc: Global, fault: &Fault, err: &mut E) -> u8
     requires { (E.told err.old).room ≡ None }
     ensures { MayTell (line_of fault.now) 1 (E.told err.old) (E.told err.new) result }
@@ -153,7 +154,8 @@ fn refuse<E: Sink>(alloc: Global, fault: &Fault, err: &mut E) -> u8
     }
 }
 
-// Writes the one text of a call; returns `status` if all of it was written, and otherwise 4.
+// Writes the one text of a call, a report or a line, to `sink`; returns `status` if all of it was written, and
+// otherwise 4.
 fn tell<W: Sink>(sink: &mut W, text: &str, status: u8) -> u8
     requires { (W.told sink.old).room ≡ None }
     ensures { Tells text.now status (W.told sink.old) (W.told sink.new) result }

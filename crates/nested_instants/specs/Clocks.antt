@@ -28,47 +28,53 @@ use Rattle.clock_nodes.specs.States.{AllFit, HasRoomFor}
 use Rattle.clock_instants.specs.Takes.{HasOwnReaders, ReadersAreIn, begun_in}
 use Rattle.nested_instants.specs.declared.clock_states.ClockStates.{ClockStates}
 
--- how far all came: how many instants each clock has made, how many slots crossfade k was given or how many instants
--- reader k has begun, and in `front` what the readers of each buffer have taken
+-- How far a run came: `ran` has the instants that each clock made; `filled`, by node, the slots that a crossfade was
+-- given or the instants that a buffer's reader began; `front`, by buffer, the answers that its reader has taken.
 pub record Progress : Type 0 where
   pub ran : NodeClock → ℕ
   pub filled : ℕ → ℕ
   pub front : ℕ → List Answer
 
--- the clock of node i
+-- the clock that drives node i, by a list of the clocks of all nodes; main clock 0 where there is no such node
 abbrev pub clock_at : List NodeClock → ℕ → NodeClock
 clock_at clocks i = slice_index_or clocks i (Main 0)
 
--- a rank for each clock: a sub-clock is one rank deeper than the clock of its crossfade. No rank is data of the program
+-- a rank for each clock, which says how deep it nests: a sub-clock is one rank deeper than the clock of its crossfade.
+-- Proofs alone use ranks: the program holds none
 pub record HasRanks (clocks : List NodeClock) (rank : NodeClock → ℕ) : Type 0 where
   pub deeper : (k : ℕ) → k < length clocks → rank (Sub k) ≡ suc (rank (clock_at clocks k))
 
--- sub-clocks nest no deeper below a clock than `levels`
+-- sub-clocks, each the clock of a crossfade's child, nest no deeper below this clock than `levels`: by ranks, which
+-- say how deep a clock nests
 pub record HasLevels (clocks : List NodeClock) (clock : NodeClock) (levels : ℕ) : Type 0 where
   pub rank : NodeClock → ℕ
   pub ranks : HasRanks clocks rank
   pub enough : (k : ℕ) → k < length clocks → rank (Sub k) ≤ rank clock + levels
 
--- node i has lanes for its samples
+-- node i has its lanes: the room for the left and the right samples of a stretch, of instants that are made at once
 abbrev pub laned_at : ClockStates → ℕ → Type 0
 laned_at all i = HasLanes all.room.left.items all.room.right.items i
 
--- how many instants of the sub-clock of crossfade k are known to go on as its latest one did
+-- how many instants of the sub-clock of crossfade k are known to go on as its latest one did, so that they can be made
+-- at once
 abbrev pub rest_at : ClockStates → ℕ → ℕ
 rest_at all k = slice_index_or all.room.rests.items k 0
 
--- the nodes of each sub-clock can go on for as many instants as are kept of it
+-- The counts of instants that are kept of sub-clocks hold good: for so many instants all nodes of the sub-clock can go
+-- on as at its latest one, and so can the sub-clocks of its crossfades through which cells pass.
 pub record AreResting (scene : Scene) (all : ClockStates) : Type 0 where
   pub ahead : (k : ℕ) → 0 < rest_at all k
       → AllLieAhead scene (Sub k) all.room.held.items all.states.items (rest_at all k)
   pub through : (k : ℕ) → 0 < rest_at all k
       → AllPassOn scene (Sub k) all.room.held.items all.states.items all.room.rests.items (rest_at all k)
 
--- of this clock no instants are kept that go on as its latest one did
+-- if this clock is the sub-clock of a crossfade, the count kept of its further instants, which go on as its latest one
+-- did, is 0
 pub record IsIdle (clock : NodeClock) (all : ClockStates) : Type 0 where
   pub none : (k : ℕ) → clock ≡ Sub k → rest_at all k ≡ 0
 
--- these are states for the nodes of a scene
+-- The states fit a scene, a plan with its files and clocks: there is a state and a time for each node, the times have
+-- the plan's rate and tick length (`frame`), there is room, and what is kept of sub-clocks holds good.
 pub record AreClockStates (scene : Scene) (all : ClockStates) : Type 0 where
   pub fit : AllFit scene all.states.items
   pub in_times : length all.times.items ≡ length scene.plan.now.nodes
@@ -80,15 +86,16 @@ pub record AreClockStates (scene : Scene) (all : ClockStates) : Type 0 where
   pub rates : (k : ℕ) (time : WeekTime) → slice_get all.times.items k ≡ Some time → time.rate ≡ scene.plan.now.rate
   pub frames : (k : ℕ) (time : WeekTime) → slice_get all.times.items k ≡ Some time → time.frame ≡ scene.plan.now.frame
 
--- states for the nodes of a plan, and a time of its rate and its frame
+-- there are states for the nodes of a scene, a plan with its files and clocks, and this time has the plan's rate and
+-- its tick length (`frame`)
 pub record AreStatesAt (over : Scene) (time : WeekTime) (all : ClockStates) : Type 0 where
   pub scene : IsScene over
   pub clocks : AreClockStates over all
   pub rate : time.rate ≡ over.plan.now.rate
   pub frame : time.frame ≡ over.plan.now.frame
 
--- a clock and the sub-clocks below it can make instants: there are states for the nodes of a plan, `own` has an entry
--- for each node, sub-clocks nest at most `most` deep, and readers read some of `buffers` buffers
+-- A clock and the sub-clocks below it can make instants: their states fit the scene, `own` has an entry for each node,
+-- sub-clocks nest at most `most` deep, and readers read some of `buffers` buffers.
 pub record CanMakeInstants (over : Scene) (own : List Bool) (clock : NodeClock) (most buffers : ℕ) (all : ClockStates)
     : Type 0 where
   pub scene : IsScene over
@@ -97,41 +104,43 @@ pub record CanMakeInstants (over : Scene) (own : List Bool) (clock : NodeClock) 
   pub levels : HasLevels over.clocks.now clock most
   pub readers : ReadersAreIn over.plan.now buffers
 
--- `own` says of each node whether its own clock demands it of itself
+-- `own` says of each node whether its own clock asks for it at each instant: a main clock for the nodes of its sinks,
+-- and a sub-clock for the child of its crossfade
 pub record AreOwnRoots (setting : Setting) (own : List Bool) : Type 0 where
   pub each : (i : ℕ) → i < length setting.plan.nodes
       → slice_index_or own i false ≡ is_root setting (clock_of setting i) i
 
--- whether node k is a crossfade that wants a slot
+-- whether node k is a crossfade that needs one more slot of its child before it knows what it plays next
 abbrev pub wants_at : List NodeState → ℕ → Bool
 wants_at states k = option_map_or wants (slice_get states k) false
 
--- a bound on how many slots node k takes before its item is settled
+-- a bound on how many slots of its child node k still takes until it knows what it plays next: it shows that feeding
+-- ends
 abbrev pub left_at : List NodeState → ℕ → ℕ
 left_at states k = option_map_or left (slice_get states k) 0
 
--- how many cells of its child's running track node k takes for its item
+-- how many cells of its child's running track node k can take at once for what it plays next; 0 where it wants none
 abbrev pub room_at : List NodeState → ℕ → ℕ
 room_at states k = option_map_or room (slice_get states k) 0
 
--- no node
+-- the empty set of nodes, as a test of their numbers: where no node may have changed
 abbrev pub is_none : ℕ → Type 0
 is_none i = ⊥
 
--- node k alone
+-- the set of node k alone, as a test of node numbers: where that node may have changed
 abbrev pub is_node : ℕ → ℕ → Type 0
 is_node k i = i ≡ k
 
--- the nodes of a clock
+-- the set of a clock's nodes, as a test of node numbers: where those nodes may have changed
 abbrev pub is_in : List NodeClock → NodeClock → ℕ → Type 0
 is_in clocks clock i = clock_at clocks i ≡ clock
 
--- the nodes of a clock below this number
+-- the set of a clock's nodes with numbers less than `below`, as a test of node numbers
 abbrev pub is_upto : List NodeClock → NodeClock → (below : ℕ) → ℕ → Type 0
 is_upto clocks clock below i = (i < below) × (clock_at clocks i ≡ clock)
 
--- nodes in clocks of rank `level` or a lower one, but for those `touched`, keep their states and what they gave, and
--- their sub-clocks keep the times and the instants that are kept
+-- What a step leaves alone: in clocks that nest no deeper than `level`, nodes but for those `touched` keep their
+-- states and what they gave, and their sub-clocks keep their times and counts. All nodes keep their lanes.
 pub record AreLeft (clocks : List NodeClock) (rank : NodeClock → ℕ) (level : ℕ) (touched : ℕ → Type 0)
     (old new : ClockStates) : Type 0 where
   pub states : (i : ℕ) → (touched i → ⊥) → rank (clock_at clocks i) ≤ level
@@ -144,7 +153,7 @@ pub record AreLeft (clocks : List NodeClock) (rank : NodeClock → ℕ) (level :
   -- and each node keeps its lanes
   pub laned : (i : ℕ) → laned_at old i → laned_at new i
 
--- whether a node's work is that of a crossfade
+-- whether a node's work at an instant is that of a crossfade
 abbrev pub is_fade : Work → Bool
 is_fade (Plays leaf) = false
 is_fade (Picks rule eligible) = false
@@ -152,18 +161,17 @@ is_fade (Mixes mixing) = false
 is_fade (Fades overlap) = true
 is_fade (Reads buffer) = false
 
--- whether node k is a crossfade, if there is such a node
+-- whether node k, which is given, is a crossfade; false where there is no such node
 abbrev pub fade_in : Setting → ℕ → Option Node → Bool
 fade_in setting k None = false
 fade_in setting k (Some node) = is_fade (work_at setting k node)
 
--- node k is a crossfade
+-- whether node k of a setting's plan is a crossfade; false where there is no such node
 abbrev pub fade_at : Setting → ℕ → Bool
 fade_at setting k = fade_in setting k (slice_get setting.plan.nodes k)
 
--- each sub-clock of a crossfade whose clock has this rank or a deeper one has made exactly as many instants as settle
--- the crossfade's latest item, and no instant more; and each reader in such a clock has begun the instants that its
--- clock has made, and no instant more
+-- No clock ran further than needed: in clocks that nest at least `level` deep, a crossfade's sub-clock made just the
+-- instants that settle what it plays at its latest instant, and a reader began just the instants of its clock.
 pub record RanAsNeeded (setting : Setting) (sub : ℕ → ℕ → List Slot) (rank : NodeClock → ℕ) (level : ℕ)
     (progress : Progress) : Type 0 where
   pub each : (k overlap : ℕ) (node : Node) → slice_get setting.plan.nodes k ≡ Some node → node.op ≡ Crossfade overlap
@@ -180,7 +188,8 @@ pub record GoesOnFor (setting : Setting) (sub : ℕ → ℕ → List Slot) (cloc
   pub held_is : IsHeld setting sub clock past held
   pub asks : AllAsk setting sub clock past filled states (length setting.clocks) rest
 
--- `rest` instants of the sub-clock of crossfade k go on as its latest one did, at which the crossfade's child gave
+-- `rest` instants of the sub-clock of crossfade k go on as its latest one, number n, did, at which the crossfade's
+-- child offered a cell
 pub record IsOpen (setting : Setting) (sub : ℕ → ℕ → List Slot) (k rest : ℕ) (progress : Progress) (all : ClockStates)
     : Type 0 where
   pub n : ℕ
@@ -214,15 +223,16 @@ pub record Stand (setting : Setting) (sub : ℕ → ℕ → List Slot) (rank : N
       → IsOpen setting sub k (rest_at all k) progress all
   pub laned : (i : ℕ) → i < length setting.plan.nodes → level ≤ rank (clock_of setting i) → laned_at all i
 
--- node k can make its next instant: the item of a crossfade is settled, by no more slots than it takes
+-- node k can make its next instant: if it is a crossfade, it knows its item, which is what it plays next, and was
+-- given no more slots of its child than that takes
 pub record HasItem (setting : Setting) (sub : ℕ → ℕ → List Slot) (progress : Progress) (k : ℕ) (node : Node)
     : Type 0 where
   pub settled : IsSettled sub (past_of setting sub progress.ran k) (progress.filled k) k (work_at setting k node)
   pub run : (overlap : ℕ) → work_at setting k node ≡ Fades overlap
       → run_of overlap (sub k) (position (past_of setting sub progress.ran k) k) ≡ progress.filled k
 
--- of the nodes that may have changed, `touched`, those `done` can make their next instant; the calls `more` were made,
--- and no clock of rank `level` or a lower one has made an instant
+-- Some crossfades that nest `level` deep, among the nodes `touched`, were fed by the calls `more`, and those `done`
+-- can make their next instant. No clock that nests so deep or less made an instant.
 pub record IsReached (setting : Setting) (sub : ℕ → ℕ → List Slot) (rank : NodeClock → ℕ) (level : ℕ)
     (touched done : ℕ → Type 0) (progress : Progress) (more : List Call) (all : ClockStates) : Type 0 where
   pub now : Progress
@@ -235,25 +245,27 @@ pub record IsReached (setting : Setting) (sub : ℕ → ℕ → List Slot) (rank
   pub items : (i : ℕ) (node : Node) → done i → slice_get setting.plan.nodes i ≡ Some node
       → HasItem setting sub now i node
 
--- the calls of instant m of the sub-clock of crossfade k
+-- the puts and takes on buffers that instant m of the sub-clock of crossfade k makes
 abbrev pub calls_below : Setting → (sub : ℕ → ℕ → List Slot) → (k m : ℕ) → List Call
 calls_below setting sub k m = calls_of setting sub (Sub k) (first_instants setting sub (Sub k) m)
 
--- node k was given slots of its child, with the calls `more` of the instants that its sub-clock made for them
+-- Crossfade k was given further slots of its child since this `progress`, for which its sub-clock made instants, with
+-- the calls `more`. If it is in `done`, it can make its next instant.
 pub record IsFilling (setting : Setting) (sub : ℕ → ℕ → List Slot) (rank : NodeClock → ℕ) (k : ℕ) (done : ℕ → Type 0)
     (progress : Progress) (more : List Call) (all : ClockStates) : Type 0 where
   pub reached : IsReached setting sub rank (rank (clock_of setting k)) (is_node k) done progress more all
   pub low : progress.filled k ≤ reached.now.filled k
   pub calls : more ≡ joined_between (calls_below setting sub k) (progress.filled k) (reached.now.filled k)
 
--- the calls of the sub-clocks of a clock's crossfades below node n, at the instant after this past
+-- the puts and takes that sub-clocks make for a clock's crossfades with numbers below n, at the clock's instant after
+-- this past
 abbrev pub calls_upto : Setting → (sub : ℕ → ℕ → List Slot) → NodeClock → List Moment → (n : ℕ) → List Call
 calls_upto setting sub clock past n =
     joined_upto (λ k. fades_in setting sub (calls_below setting sub) (lies_in setting clock k) past k
     (slice_get setting.plan.nodes k)) n
 
--- a clock has made one instant more, with the calls `more`, and no other clock of its rank or a lower one has; below it
--- no clock has made more than its crossfade asks for
+-- A clock has made one instant more, with the calls `more`, and no other clock that nests as deep or less has. Below
+-- it, no clock has made more instants than its crossfade asks for.
 pub record HasMadeInstant (setting : Setting) (sub : ℕ → ℕ → List Slot) (rank : NodeClock → ℕ) (clock : NodeClock)
     (progress : Progress) (more : List Call) (all : ClockStates) : Type 0 where
   pub now : Progress
@@ -269,8 +281,8 @@ pub record HasMadeInstant (setting : Setting) (sub : ℕ → ℕ → List Slot) 
       ≡ (moment_after setting sub clock (first_instants setting sub clock (progress.ran clock))).parts
   pub keeps : IsHeld setting sub clock (first_instants setting sub clock (progress.ran clock)) all.room.held.items
 
--- what is known of a setting, whatever its answers are: ranks of its clocks, the slots and the calls of its sub-clocks,
--- that no buffer has two readers, and which nodes are demanded of themselves
+-- What is known of a setting, whatever its buffers answer: ranks of its clocks by how deep they nest, the slots `sub`
+-- and the calls of its sub-clocks, that no buffer has two readers, and in `own` the nodes that their clock asks for.
 pub record IsWorld (setting : Setting) (sub : ℕ → ℕ → List Slot) (rank : NodeClock → ℕ) (own : List Bool) : Type 0 where
   pub ranks : HasRanks setting.clocks rank
   pub meaning : IsMeaning setting sub
@@ -302,7 +314,8 @@ pub record InstantStopped {T : Type 0} (stands : T → List Call → Type 0) (sc
       → TimeStands setting.start (progress.ran clock) time
       → IsBegin made (calls_of setting sub clock (first_instants setting sub clock (progress.ran clock)))
 
--- how far all came after the readers of a clock began one instant more, with the calls `more`
+-- how far a run came once the readers of a clock have begun one instant more: their counts rise, and their buffers'
+-- answers grow by those of the calls `more`
 abbrev pub begun_progress : Setting → NodeClock → Progress → (more : List Call) → Progress
 begun_progress setting clock progress more = record {
   ran = progress.ran;
@@ -316,8 +329,8 @@ pub record Opened (setting : Setting) (sub : ℕ → ℕ → List Slot) (rank : 
   pub stand : Stand setting sub rank (rank clock) (begun_progress setting clock progress more) all
   pub calls : more ≡ takes_at setting clock (first_instants setting sub clock (progress.ran clock))
 
--- the readers of a clock have begun, if its instant begins a tick, by these calls: whatever instants the states stood
--- for, and whatever answers follow
+-- The readers of a clock began its instant at this time and made these calls, which are takes if it begins a tick.
+-- This holds whatever instants the old states stood for, and whatever answers follow.
 pub record ClockOpened {T : Type 0} (stands : T → List Call → Type 0) (scene : Scene) (clock : NodeClock)
     (time : WeekTime) (old new : ClockStates) (taps_old taps_new : T) : Type 0 where
   pub more : List Call
@@ -329,7 +342,8 @@ pub record ClockOpened {T : Type 0} (stands : T → List Call → Type 0) (scene
       → TimeStands setting.start (progress.ran clock) time
       → Opened setting sub rank clock progress more new
 
--- memory was refused: these are the first takes with which the readers of a clock begin its instant
+-- Memory was refused while the readers of a clock began its instant at this time: the calls `made` are the first of
+-- the takes that the instant's meaning has, whatever instants the states stood for.
 pub record OpeningStopped {T : Type 0} (stands : T → List Call → Type 0) (scene : Scene) (clock : NodeClock)
     (time : WeekTime) (old : ClockStates) (taps_old taps_new : T) : Type 0 where
   pub made : List Call
@@ -341,8 +355,8 @@ pub record OpeningStopped {T : Type 0} (stands : T → List Call → Type 0) (sc
       → TimeStands setting.start (progress.ran clock) time
       → IsBegin made (takes_at setting clock (first_instants setting sub clock (progress.ran clock)))
 
--- node k, if it is a crossfade, has its item, for which its sub-clock made these calls: whatever instants the states
--- stood for, and whatever answers follow
+-- Node k, if it is a crossfade, knows its item, which is what it plays next, and its sub-clock made these calls for
+-- it. This holds whatever instants the old states stood for, and whatever answers follow.
 pub record NodeSettled {T : Type 0} (stands : T → List Call → Type 0) (scene : Scene) (own : List Bool) (k : ℕ)
     (old new : ClockStates) (taps_old taps_new : T) : Type 0 where
   pub more : List Call
@@ -354,7 +368,8 @@ pub record NodeSettled {T : Type 0} (stands : T → List Call → Type 0) (scene
       → (reads_at setting k ≡ true → progress.filled k ≡ suc (progress.ran (clock_at scene.clocks.now k)))
       → IsFilling setting sub rank k (is_node k) progress more new
 
--- memory was refused: these are the first calls for the item of node k, which is a crossfade
+-- memory was refused while crossfade k was fed: the calls `made` are the first of those that its sub-clock makes for
+-- its item, which is what it plays next
 pub record IsFillingStopped (setting : Setting) (sub : ℕ → ℕ → List Slot) (progress : Progress) (k : ℕ)
     (made : List Call) : Type 0 where
   pub overlap : ℕ
@@ -365,7 +380,8 @@ pub record IsFillingStopped (setting : Setting) (sub : ℕ → ℕ → List Slot
       (joined_between (calls_below setting sub k) (progress.filled k)
       (run_of overlap (sub k) (position (past_of setting sub progress.ran k) k)))
 
--- memory was refused: these are the first calls for the item of node k, whatever instants the states stood for
+-- memory was refused while crossfade k was fed: the calls `made` are the first of those for its item, which is what it
+-- plays next, whatever instants the states stood for
 pub record NodeStopped {T : Type 0} (stands : T → List Call → Type 0) (scene : Scene) (own : List Bool) (k : ℕ)
     (old : ClockStates) (taps_old taps_new : T) : Type 0 where
   pub made : List Call
@@ -376,16 +392,16 @@ pub record NodeStopped {T : Type 0} (stands : T → List Call → Type 0) (scene
       → Stand setting sub rank (rank (clock_at scene.clocks.now k)) progress old
       → IsFillingStopped setting sub progress k made
 
--- the crossfades of a clock below node `below` have their items, with the calls `more` of the instants that their
--- sub-clocks made for them
+-- The crossfades of a clock with numbers below `below` know their items, which is what they play next. The calls
+-- `more` are those of the instants that their sub-clocks made for it.
 pub record AreFilled (setting : Setting) (sub : ℕ → ℕ → List Slot) (rank : NodeClock → ℕ) (clock : NodeClock)
     (below : ℕ) (progress : Progress) (more : List Call) (all : ClockStates) : Type 0 where
   pub reached : IsReached setting sub rank (rank clock) (is_upto setting.clocks clock below)
       (is_upto setting.clocks clock below) progress more all
   pub calls : more ≡ calls_upto setting sub clock (first_instants setting sub clock (progress.ran clock)) below
 
--- before the crossfades of a clock are settled for its next instant: each was given the slots that the instants before
--- took, and the readers have begun it
+-- A clock's next instant has begun, and its crossfades are still to be fed: each was given just the slots of its child
+-- that the instants before took, and the readers have begun the instant.
 pub record AreReady (setting : Setting) (sub : ℕ → ℕ → List Slot) (clock : NodeClock) (progress : Progress)
     : Type 0 where
   pub each : (k overlap : ℕ) (node : Node) → slice_get setting.plan.nodes k ≡ Some node
@@ -395,8 +411,8 @@ pub record AreReady (setting : Setting) (sub : ℕ → ℕ → List Slot) (clock
   pub begun : (i : ℕ) → reads_at setting i ≡ true → clock_of setting i ≡ clock
       → progress.filled i ≡ suc (progress.ran clock)
 
--- the crossfades of a clock below node `below` have their items, by these calls: whatever instants the states stood
--- for, and whatever answers follow
+-- The crossfades of a clock with numbers below `below` know their items, which is what they play next, and these calls
+-- were made for it. This holds whatever instants the old states stood for, and whatever answers follow.
 pub record AllSettled {T : Type 0} (stands : T → List Call → Type 0) (scene : Scene) (own : List Bool)
     (clock : NodeClock) (below : ℕ) (old new : ClockStates) (taps_old taps_new : T) : Type 0 where
   pub more : List Call
@@ -407,8 +423,8 @@ pub record AllSettled {T : Type 0} (stands : T → List Call → Type 0) (scene 
       → Stand setting sub rank (rank clock) progress old → AreReady setting sub clock progress
       → AreFilled setting sub rank clock below progress more new
 
--- memory was refused: these are the first calls for the items of a clock's crossfades, whatever instants the states
--- stood for
+-- Memory was refused while a clock's crossfades were fed: the calls `made` are the first of those for their items,
+-- which is what they play next. This holds whatever instants the states stood for.
 pub record SettlingStopped {T : Type 0} (stands : T → List Call → Type 0) (scene : Scene) (own : List Bool)
     (clock : NodeClock) (old : ClockStates) (taps_old taps_new : T) : Type 0 where
   pub made : List Call

@@ -17,15 +17,15 @@ use Rattle.clock_instants.specs.Held.{IsHeld, gave_at, goes_through, passes_at}
 use Rattle.node_states.specs.Passing.{LaneFills}
 use Rattle.nested_instants.specs.Clocks.{AreClockStates, GoesOnFor, IsFilling, IsIdle, IsOpen, IsWorld, Progress, RanAsNeeded, Stand, clock_at, fade_at, is_none, laned_at, rest_at, room_at}
 
--- the slots of a node at the `many` instants after one at which its slot was `first`: empty if that is empty, and
--- otherwise cells of its title that begin no track, with these samples
+-- The `many` slots of a node that follow a slot `first` go on as it: none if it is empty, and otherwise cells of its
+-- title, in the middle of the track, with these left and right samples.
 pub record IsStretchOf (slots : ℕ → Slot) (many : ℕ) (first : Slot) (left right : List ℤ) : Type 0 where
   pub given : is_some first ≡ true → IsLane slots many left right
   pub titled : is_some first ≡ true → AreTitled slots many (title_of first)
   pub silent : is_some first ≡ false → (j : ℕ) → j < many → slots j ≡ None
 
--- a clock has made `many` instants more after instant n, without a call, and no other clock of its rank or a lower one
--- has; the nodes that it demands of themselves have left their samples
+-- A clock has made `many` instants at once after its latest one, number n, without a call. No other clock that nests
+-- as deep or less has made one. The nodes that the clock asks for have left their samples.
 pub record HasMadeOn (setting : Setting) (sub : ℕ → ℕ → List Slot) (rank : NodeClock → ℕ) (own : List Bool)
     (clock : NodeClock) (n many : ℕ) (progress : Progress) (all : ClockStates) : Type 0 where
   pub now : Progress
@@ -44,7 +44,8 @@ pub record HasMadeOn (setting : Setting) (sub : ℕ → ℕ → List Slot) (rank
       (offer (moment_after setting sub clock (first_instants setting sub clock n)) i)
       (samples_of all.room.left.items i many) (samples_of all.room.right.items i many)
 
--- the states stand for the instants of a clock up to n, its latest one, and `many` instants can go on as that one did
+-- A clock whose latest instant is number n can make `many` more as that one: the states stand for the instants up to
+-- n, no deeper clock ran further than needed, and so many instants go on.
 pub record CanGoOn (setting : Setting) (sub : ℕ → ℕ → List Slot) (rank : NodeClock → ℕ) (own : List Bool)
     (clock : NodeClock) (n many : ℕ) (progress : Progress) (all : ClockStates) : Type 0 where
   pub world : IsWorld setting sub rank own
@@ -54,8 +55,8 @@ pub record CanGoOn (setting : Setting) (sub : ℕ → ℕ → List Slot) (rank :
   pub goes : GoesOnFor setting sub clock (first_instants setting sub clock n) many progress.filled all.room.held.items
       all.states.items
 
--- a clock can make `many` instants at once: there are states for the nodes of a plan, no instants of the clock are
--- kept, and a stretch has room for so many
+-- A clock can make `many` instants at once, at most 2048 and a second's: the states fit the scene, a plan with its
+-- files and clocks, and no count of further instants is kept of this clock.
 pub record CanRunClock (over : Scene) (clock : NodeClock) (many : ℕ) (all : ClockStates) : Type 0 where
   pub scene : IsScene over
   pub clocks : AreClockStates over all
@@ -64,7 +65,8 @@ pub record CanRunClock (over : Scene) (clock : NodeClock) (many : ℕ) (all : Cl
   pub short : many ≤ 2048
   pub later : many ≤ over.plan.now.rate
 
--- `many` instants of a clock were made, which go on as its latest one: whatever instants the states stood for
+-- A clock made `many` instants that go on as its latest one: whatever instants the old states stood for, if so many
+-- can go on, the new states stand for them too.
 pub record ClockMade (scene : Scene) (clock : NodeClock) (many : ℕ) (old new : ClockStates) : Type 0 where
   pub run : (other : Setting) (sub : ℕ → ℕ → List Slot) (rank : NodeClock → ℕ) (progress : Progress)
       (own : List Bool) (n : ℕ) →
@@ -87,7 +89,8 @@ pub record StretchMade (scene : Scene) (clock : NodeClock) (time : WeekTime) (ma
       → TimeStands setting.start n time
       → HasMadeOn setting sub rank own clock n many progress new
 
--- crossfade k has room for the slots of a stretch of `many` instants of its sub-clock
+-- crossfade k can be given the slots of `many` instants of its sub-clock that are made at once: its clock can run so
+-- many, and it has room for as many cells
 pub record CanFillLane (scene : Scene) (k many : ℕ) (all : ClockStates) : Type 0 where
   pub ready : CanRunClock scene (clock_at scene.clocks.now k) many all
   pub within : k < length scene.plan.now.nodes
@@ -107,8 +110,8 @@ pub record FilledOn (scene : Scene) (k : ℕ) (time : WeekTime) (old new : Clock
       → TimeStands setting.start n time
       → IsFilling setting sub rank k is_none progress more new
 
--- of the crossfades of a clock below node `below`, the sub-clocks of those through which cells pass have made `many`
--- instants more, without a call, and left the samples of the crossfades' children
+-- The sub-clocks of a clock's crossfades with numbers below `below`, but only where cells pass (`through`), made
+-- `many` instants more, without a call. Their crossfades' children left samples for them.
 pub record SubsMade (setting : Setting) (sub : ℕ → ℕ → List Slot) (rank : NodeClock → ℕ) (clock : NodeClock) (many : ℕ)
     (through : ℕ → Bool) (below : ℕ) (progress : Progress) (all : ClockStates) : Type 0 where
   pub now : Progress
@@ -159,7 +162,8 @@ pub record SubClockMade (scene : Scene) (i many : ℕ) (old new : ClockStates) :
       → SubsMade setting sub rank (clock_at scene.clocks.now i) many through i progress old
       → SubsMade setting sub rank (clock_at scene.clocks.now i) many through (suc i) progress new
 
--- nodes in clocks of rank `level` or a lower one, but for those `touched`, keep their first `many` samples
+-- a step leaves these alone: in clocks that nest no deeper than `level`, nodes but for those `touched` keep the first
+-- `many` samples that they left
 pub record AreSamplesLeft (clocks : List NodeClock) (rank : NodeClock → ℕ) (level : ℕ) (touched : ℕ → Type 0) (many : ℕ)
     (old new : ClockStates) : Type 0 where
   pub left : (i : ℕ) → (touched i → ⊥) → rank (clock_at clocks i) ≤ level
@@ -167,8 +171,8 @@ pub record AreSamplesLeft (clocks : List NodeClock) (rank : NodeClock → ℕ) (
   pub right : (i : ℕ) → (touched i → ⊥) → rank (clock_at clocks i) ≤ level
       → samples_of new.room.right.items i many ≡ samples_of old.room.right.items i many
 
--- nodes in clocks of rank `level` or a lower one keep their states and what they gave; but for those `touched`, their
--- sub-clocks keep the times and the instants that are kept; and each node keeps its lanes
+-- A step leaves these alone: in clocks that nest no deeper than `level`, nodes keep their states and what they gave;
+-- but for those `touched`, their sub-clocks keep their times and counts. Each node keeps its lanes.
 pub record AreAbove (clocks : List NodeClock) (rank : NodeClock → ℕ) (level : ℕ) (touched : ℕ → Type 0)
     (old new : ClockStates) : Type 0 where
   pub states : (i : ℕ) → rank (clock_at clocks i) ≤ level → slice_get new.states.items i ≡ slice_get old.states.items i

@@ -53,8 +53,8 @@ pub fn make_instant<T: Taps>(
     Ok(())
 }
 
-// Feeds node k, if it is a crossfade, until its item is settled. `levels` bounds how deep sub-clocks nest below its
-// clock.
+// Feeds node k, if it is a crossfade, slots of its child until its item is settled: it knows what it plays next. For
+// each its sub-clock makes instants. `levels` bounds how deep sub-clocks nest below its clock.
 #[cycle(clocks)]
 fn settle<T: Taps>(
     scene: &Scene<'_>,
@@ -99,7 +99,8 @@ fn settle<T: Taps>(
     Ok(())
 }
 
-// Settles the items of all crossfades of a clock. `levels` bounds how deep sub-clocks nest below it.
+// Feeds all crossfades of a clock until each knows what it plays next, which is its item. `levels` bounds how deep
+// sub-clocks nest below the clock.
 #[cycle(clocks)]
 fn settle_all<T: Taps>(
     scene: &Scene<'_>,

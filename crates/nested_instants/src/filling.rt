@@ -31,7 +31,7 @@ use op_mix::MAX_STRETCH;
 use plan_core::Node;
 use stream_meaning::slot_of;
 
-/// The child of crossfade k; 0 if there is none.
+/// The number of the child of crossfade k, which is the source whose tracks it joins; 0 if there is none.
 pub fn child_of(nodes: &[Node], k: u32) -> u32
     ensures { result ≡ crossfaded nodes.now k }
 {
@@ -215,7 +215,7 @@ fn fill_samples(
     );
 }
 
-// The first of some numbers, or 0.
+// The first of some node numbers, or 0 where there is none.
 fn first_of(numbers: &[u32]) -> u32
     ensures { result ≡ slice_index_or numbers.now 0 0 }
 {

@@ -16,7 +16,7 @@ use clock_instants::rest_of;
 use clock_nodes::Scene;
 use node_states::WeekTime;
 
-/// Keeps that `rest` instants of the sub-clock of crossfade k go on as its latest one did; 0 forgets them.
+/// Notes that `rest` instants of the sub-clock of crossfade k go on as its latest one did; 0 forgets what was noted.
 pub fn keep(scene: &Scene<'_>, clocks: &mut ClockStates, k: u32, rest: u32)
     requires scene { IsScene scene.now }
     requires ranks { (rank : Clock → ℕ) × HasRanks scene.now.clocks.now rank }

@@ -112,7 +112,8 @@ fn passes_on(clocks: &ClockStates, i: u32) -> bool
     gave && through
 }
 
-// Makes what a clock's own nodes do at `many` instants that go on as its latest one did.
+// Lets a clock's own nodes make `many` instants at once, which go on as its latest one did; the sub-clocks have made
+// theirs.
 fn run_own(scene: &Scene<'_>, clocks: &mut ClockStates, clock: NodeClock, many: u32)
     requires ready { CanRunClock scene.now clock many clocks.old }
     requires ahead { AllLieAhead scene.now clock clocks.old.room.held.items clocks.old.states.items many }

@@ -13,7 +13,8 @@ use frame_core::Taps;
 use liq_base::Memory;
 use node_states::WeekTime;
 
-/// Lets the readers of a clock take, if its instant at `time` begins a tick.
+/// Begins an instant of a clock, at `time`: if a tick begins with it, the clock's readers take from their buffers
+/// through `taps`, and otherwise nothing is done.
 pub fn begin_clock<T: Taps>(
     scene: &Scene<'_>,
     clocks: &mut ClockStates,

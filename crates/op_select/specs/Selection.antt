@@ -13,16 +13,16 @@ pub record Selection : Type 0 where
   pub children : ℕ
   pub last : Option ℕ
 
--- the child used at the last of these instants, the latest first
+-- the child used last, by the children used at the instants so far, the latest first; none where there was none
 abbrev pub last_used : List ℕ → Option ℕ
 last_used [] = None
 last_used (child ∷ used) = Some child
 
--- whether the child offers a cell
+-- whether this child, a place in the list of children, offers a cell, by the slots of all children
 abbrev pub offers : List Slot → ℕ → Bool
 offers slots child = is_some (slot_at slots child)
 
--- whether the child offers a cell that does not begin a track
+-- whether this child, a place in the list of children, offers a cell in the middle of a track
 abbrev pub goes_on : List Slot → ℕ → Bool
 goes_on slots child = is_inner (slot_at slots child)
 

@@ -53,7 +53,7 @@ pub fn plays_on(offers: &[Option<Cell>], last: Option<u32>) -> bool
     }
 }
 
-// The first eligible child that offers a cell.
+// The first child of a fallback or a switch that is eligible and offers a cell; `None` where there is none.
 fn find_ready(offers: &[Option<Cell>], eligible: &[bool]) -> Option<u32>
     requires marks { length eligible.now ≡ length offers.now }
     requires children { length offers.now < 2 ^ 32 }
@@ -67,7 +67,7 @@ fn find_ready(offers: &[Option<Cell>], eligible: &[bool]) -> Option<u32>
     None
 }
 
-// The first child from `start` on that offers a cell.
+// The first child of a sequence, from place `start` on, that offers a cell; `None` where there is none.
 fn find_offering(offers: &[Option<Cell>], start: usize) -> Option<u32>
     requires { length offers.now < 2 ^ 32 }
     ensures { result ≡ first_offering (drop start offers.now) start }

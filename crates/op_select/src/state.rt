@@ -27,7 +27,7 @@ impl Model for SelectState {
 }
 
 impl SelectState {
-    /// A selection over so many children, before any was used.
+    /// A fallback, a switch or a sequence of this rule over so many children, before it used any.
     pub fn new(rule: Rule, children: u32) -> SelectState
         ensures { result ≡ record { rule = rule; children = children; last = last_used [] } }
     {

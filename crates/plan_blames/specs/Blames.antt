@@ -19,13 +19,14 @@ use Rattle.clock_forcings.specs.Forcings.{id_or}
 use Rattle.plan_blames.specs.Needs.{needs}
 use Rattle.plan_blames.specs.Texts.{escaped}
 
--- whether source n is red for a silence: it is the one that was refused, or it may offer nothing (`mark` is false) and
--- a red source after it needs it; `reds` has of each of these whether it is red
+-- Whether source n is red for a silence: it is the one `refused`, or it may offer nothing (`mark` is false) and a red
+-- source needs it. `behind` are the sources after it, and `reds` says of each whether it is red.
 abbrev pub is_to_blame : (mark : ℕ → Bool) → (refused n : ℕ) → (behind : List Node) → (reds : List Bool) → Bool
 is_to_blame mark refused n behind reds = nat_eq n refused
     || (not (mark n) && list_any (λ pair. pair.1 && needs (pair.0).op (pair.0).children n) (zip behind reds))
 
--- of each of these sources whether it is red for the silence of source `refused`; the first one has number n
+-- of each of these sources, the first of which has number n, whether it is red for the silence of source `refused`;
+-- `mark` says whether a source always offers something
 abbrev pub reds_from : (mark : ℕ → Bool) → (refused n : ℕ) → List Node → List Bool
 reds_from mark refused n [] = []
 reds_from mark refused n (node ∷ nodes) = is_to_blame mark refused n nodes (reds_from mark refused (suc n) nodes)
@@ -36,7 +37,8 @@ abbrev pub childless_words : (children : List ℕ) → List ℕ
 childless_words [] = codes "\\nhas nothing to play"
 childless_words (child ∷ children) = []
 
--- why a red source may offer nothing, if that lies in itself: a line of its label
+-- why a red source of this operator may offer nothing, if the cause lies in itself and not in a child: a line of its
+-- label in the picture
 abbrev pub reason : Op → (children : List ℕ) → List ℕ
 reason (Playlist file again) children = codes "\\nmay have no file to play"
 reason (Buffer number) children = codes "\\nmay run dry"
@@ -44,7 +46,7 @@ reason Fail children = codes "\\nnever plays"
 reason (Switch sensitive preds) children = if list_any is_always preds then [] else codes "\\nno case is always true"
 reason _ children = childless_words children
 
--- how a picture calls a clock that was asked for
+-- how a picture calls a clock that was asked for: its id, the crossfade whose own clock it is, or an output
 abbrev pub name_text : ClockName → List ℕ
 name_text (Named id) = escaped id
 name_text (ClockName.Sub k) = codes "crossfade " ++ decimal k
@@ -65,7 +67,7 @@ asks (Named id) k op = clock_asks id k op
 asks (ClockName.Sub j) k op = nat_eq j k
 asks AnyMain k op = false
 
--- whether source k asks for one of these two clocks
+-- whether source k asks for one of these two clocks, which would both drive one source
 abbrev pub either_asks : (first second : ClockName) → (k : ℕ) → Op → Bool
 either_asks first second k op = asks first k op || asks second k op
 
@@ -74,7 +76,8 @@ abbrev pub asking : (k : ℕ) → Op → List ℕ
 asking k (Clock id) = codes "\\nwants clock " ++ (escaped (id_or k id) ++ codes " for what it plays")
 asking k _ = codes "\\nwants its own clock for what it plays"
 
--- whether source k is red for a fault of clocks
+-- whether a picture shows source k red for a fault of clocks: it has that fault, or asks for one of the two clocks in
+-- it
 abbrev pub clock_red : Result ClockMap ClockFault → (k : ℕ) → Op → Bool
 clock_red (Ok map) k op = false
 clock_red (Err (TwoClocks node first second)) k op = either_asks first second k op || nat_eq node k
@@ -97,7 +100,7 @@ abbrev pub nested_words : (is_it : Bool) → List ℕ
 nested_words true = codes "\\nE27 lies in its own clock"
 nested_words false = []
 
--- the lines of source k for a fault of clocks
+-- the lines in the label of source k that tell its part in a fault of clocks; none if it has no part in it
 abbrev pub clock_words : Result ClockMap ClockFault → (k : ℕ) → Op → List ℕ
 clock_words (Ok map) k op = []
 clock_words (Err (TwoClocks node first second)) k op = shared_words (nat_eq node k) first second
@@ -128,6 +131,6 @@ edge_red true reds clocks k child = mark_at reds k && mark_at reds child
 edge_red false reds (Err (Nested node)) k child = nat_eq node k
 edge_red false reds _ k child = false
 
--- the number of the source of the sink that was refused
+-- the number of the source that plays into sink number `sink`, which was refused; 0 where there is no such sink
 abbrev pub refused_node : List SinkPlan → (sink : ℕ) → ℕ
 refused_node sinks sink = option_map_or (λ s. sink_node s) (slice_get sinks sink) 0

@@ -9,16 +9,18 @@ use Rattle.clock_infer.specs.declared.clock_map.ClockFault.TheVariants.{TwoClock
 use Rattle.plan_blames.specs.Texts.{numbered}
 use Rattle.plan_blames.specs.Blames.{both_names}
 
--- whether source k is in the group of one of these sources
+-- whether source k must share a clock with one of `these`: they have one group, by the groups of sources that share a
+-- clock
 abbrev pub shares : (group : ℕ → ℕ) → (these : List ℕ) → (k : ℕ) → Bool
 shares group these k = list_any (λ source. nat_eq (group source) (group k)) these
 
--- the name of source k in the region, if it is in it
+-- the name of source k for graphviz, if the source belongs in the red region (`is_in`)
 abbrev pub red_member : (is_in : Bool) → (k : ℕ) → List ℕ
 red_member true k = codes "n" ++ decimal k ++ codes "; "
 red_member false k = []
 
--- the names of the sources in the groups of these, each once
+-- the names of the sources in the red region, each once: those that must share a clock with one of `these`, by their
+-- groups
 abbrev pub red_members : (group : ℕ → ℕ) → (these : List ℕ) → List Node → List ℕ
 red_members group these nodes = numbered (λ k node. red_member (shares group these k) k) 0 nodes
 
@@ -51,7 +53,7 @@ fault_region nodes (Nested node) group = red_region (own_label node) group (chil
 fault_region nodes TooManyClocks group = []
 fault_region nodes Memory group = []
 
--- the line over a picture for a fault of clocks
+-- the words of a picture's heading for a fault of clocks: its number and what it is
 abbrev pub heading : ClockFault → List ℕ
 heading (TwoClocks node first second) = codes "E26 a source would be driven by two clocks"
 heading (Nested node) = codes "E27 a crossfade lies in its own clock"

@@ -7,23 +7,25 @@ use Rattle.plan_core.specs.declared.node.Op.{Op}
 use Rattle.time_pred.specs.Predicates.{Predicate, is_always}
 use Rattle.fallible_infer.specs.Infallible.{Rests, OnCases, OnLast, last_of, rests_of}
 
--- the other number is that of this child
+-- whether the number `other` is that of this child
 abbrev pub is_child : (child other : ℕ) → Bool
 is_child child other = nat_eq other child
 
--- a case whose predicate is always true by its form, with this child
+-- whether a case of a switch, a predicate with its child, leads to this child and is always true by the form of its
+-- predicate
 abbrev pub is_case : (child : ℕ) → Predicate × ℕ → Bool
 is_case child pair = is_always pair.0 && is_child child pair.1
 
--- the child is one of the children
+-- whether a source with these children has this one among them
 abbrev pub some_child : (children : List ℕ) → (child : ℕ) → Bool
 some_child children child = list_any (is_child child) children
 
--- the child is the last of the children
+-- whether this child is the last of a source's children, on which a sequence ends up
 abbrev pub is_last : (children : List ℕ) → (child : ℕ) → Bool
 is_last children child = option_map_or (is_child child) (last_of children) false
 
--- the child has a case whose predicate is always true by its form
+-- whether a switch with these predicates and children has a case for this child that is always true by the form of its
+-- predicate
 abbrev pub some_case : List Predicate → (children : List ℕ) → (child : ℕ) → Bool
 some_case preds children child = list_any (is_case child) (zip preds children)
 
@@ -39,11 +41,11 @@ needs_on _ children child = some_child children child
 abbrev pub needs : Op → (children : List ℕ) → (child : ℕ) → Bool
 needs op children child = needs_on (rests_of op) children child
 
--- no number but this one passes the test
+-- no number but `one` passes the test: of the children of a source, no other one is needed
 abbrev pub IsAlone : (ℕ → Bool) → ℕ → Type 0
 IsAlone test one = (other : ℕ) → test other ≡ true → other ≡ one
 
--- another number than this one passes the test
+-- some number other than `one` passes the test: of the children of a source, another one is needed too
 abbrev pub HasOther : (ℕ → Bool) → ℕ → Type 0
 HasOther test one = (other : ℕ) × (test other ≡ true) × (other ≢ one)
 
@@ -58,7 +60,7 @@ pub record IsOnlyNeeded (nodes : List Node) (n : ℕ) (needed : Option ℕ) : Ty
   pub there : slice_get nodes n ≡ Some node
   pub only : IsOnly (needs node.op node.children) needed
 
--- from one source down to another, from each to the only one that it needs
+-- a way down from source `from` to a source, on which each source needs the next one alone
 pub data Leads (nodes : List Node) (from : ℕ) : ℕ → Type 0 where
   here : Leads nodes from from
   below : (n child : ℕ) → Leads nodes from n → IsOnlyNeeded nodes n (Some child) → Leads nodes from child

@@ -16,7 +16,7 @@ use plan_core::{Node, Op, SinkPlan};
 use std::alloc::Global;
 use time_pred::SharedPred;
 
-/// The mark of a source, or `false` where there is none.
+/// Whether source `number` is marked in a list that has a mark for each source; `false` where there is no such source.
 pub fn mark(marks: &[bool], number: usize) -> bool
     ensures { result ≡ mark_at marks.now number }
 {
@@ -42,7 +42,8 @@ pub fn is_red(
     }
 }
 
-// Whether source k is red for a fault of clocks.
+// Whether a picture shows source k red for a fault of clocks: it has that fault, or asks for one of the two clocks in
+// it.
 fn is_clock_red(
     alloc: Global,
     clocks: &Result<ClockMap, ClockFault>,
@@ -66,7 +67,7 @@ fn is_clock_red(
     }
 }
 
-// Whether source k asks for one of these two clocks.
+// Whether source k asks for one of these two clocks, which would both drive one source.
 fn either_asks(
     alloc: Global,
     first: &ClockName,
@@ -81,7 +82,7 @@ fn either_asks(
     Ok(one || other)
 }
 
-// Whether source k is one that asks for this clock.
+// Whether source k asks for this clock: it is a `clock(..)` of that id, or the crossfade whose own clock it is.
 fn asks(alloc: Global, name: &ClockName, k: u64, op: &Op) -> Result<bool, Memory>
     ensures { IfOk result (λ yes. yes ≡ asks name.now k op.now) }
 {
@@ -92,7 +93,7 @@ fn asks(alloc: Global, name: &ClockName, k: u64, op: &Op) -> Result<bool, Memory
     }
 }
 
-// Whether source k is a clock node of this id.
+// Whether source k is a `clock(..)` whose clock has this id.
 fn clock_asks(alloc: Global, id: &str, k: u64, op: &Op) -> Result<bool, Memory>
     ensures { IfOk result (λ yes. yes ≡ clock_asks id.now k op.now) }
 {
@@ -105,7 +106,8 @@ fn clock_asks(alloc: Global, id: &str, k: u64, op: &Op) -> Result<bool, Memory>
     }
 }
 
-/// Whether the edge from a child to source k is red; `silent` says that the plan is refused for a silence.
+/// Whether a picture of the plan draws the edge from a child to source k red; `silent` says that the plan is refused
+/// for a silence.
 pub fn is_edge_red(
     silent: bool,
     reds: &[bool],
@@ -144,7 +146,7 @@ pub fn push_red_words(
     }
 }
 
-// Appends why a source may offer nothing, if it is red.
+// Appends to a source's label in a picture why it may offer nothing, if it is red.
 fn push_reason_words(into: &mut Vec<u8>, red: bool, node: &Node) -> Result<(), Memory>
     ensures { OnOk result (into.new.items ≡ into.old.items ++ reason_words red node.now) }
 {
@@ -155,7 +157,7 @@ fn push_reason_words(into: &mut Vec<u8>, red: bool, node: &Node) -> Result<(), M
     }
 }
 
-// Appends why a red source may offer nothing, if that lies in itself.
+// Appends to a red source's label why it may offer nothing, if the cause lies in itself and not in a child.
 fn push_reason(into: &mut Vec<u8>, op: &Op, children: &[u32]) -> Result<(), Memory>
     ensures { OnOk result (into.new.items ≡ into.old.items ++ reason op.now children.now) }
 {
@@ -168,7 +170,7 @@ fn push_reason(into: &mut Vec<u8>, op: &Op, children: &[u32]) -> Result<(), Memo
     }
 }
 
-// Appends that no case of a switch is always true, if none is.
+// Appends to a switch's label that no case of it is always true, if none is by its form.
 fn push_switch_reason(into: &mut Vec<u8>, preds: &[SharedPred]) -> Result<(), Memory>
     ensures { OnOk result (into.new.items ≡ into.old.items
         ++ (if list_any is_always (map view_shared preds.now) then [] else codes "\\nno case is always true")) }
@@ -180,7 +182,7 @@ fn push_switch_reason(into: &mut Vec<u8>, preds: &[SharedPred]) -> Result<(), Me
     }
 }
 
-// Whether some predicate is always true by its form.
+// Whether a case of a switch has a predicate that is always true by its form.
 fn some_always(preds: &[SharedPred]) -> bool
     ensures { result ≡ list_any is_always (map view_shared preds.now) }
 {
@@ -192,7 +194,7 @@ fn some_always(preds: &[SharedPred]) -> bool
     false
 }
 
-// Appends that a source has nothing to play, if it has no children.
+// Appends to a source's label that it has nothing to play, if it has no children.
 fn push_childless(into: &mut Vec<u8>, children: &[u32]) -> Result<(), Memory>
     ensures { OnOk result (into.new.items ≡ into.old.items ++ childless_words children.now) }
 {
@@ -203,7 +205,7 @@ fn push_childless(into: &mut Vec<u8>, children: &[u32]) -> Result<(), Memory>
     }
 }
 
-// Appends the lines of source k for a fault of clocks.
+// Appends to the label of source k in a picture its part in a fault of clocks, if it has one.
 fn push_clock_words(
     alloc: Global,
     into: &mut Vec<u8>,
@@ -228,7 +230,7 @@ fn push_clock_words(
     }
 }
 
-// Appends that a crossfade lies in its own clock, if this is the one.
+// Appends to a source's label that it lies in its own clock, if it is the crossfade with that fault (`is_it`).
 fn push_nested(into: &mut Vec<u8>, is_it: bool) -> Result<(), Memory>
     ensures { OnOk result (into.new.items ≡ into.old.items ++ nested_words is_it) }
 {
@@ -258,7 +260,7 @@ fn push_two_clocks(
     push_asking_words(alloc, into, asks, k, op)
 }
 
-// Appends under which two clocks a source would be, if this is the one.
+// Appends to a source's label which two clocks would drive it, if it is the source with that fault (`is_it`).
 fn push_shared(
     into: &mut Vec<u8>,
     is_it: bool,
@@ -274,7 +276,7 @@ fn push_shared(
     }
 }
 
-// Appends under which two clocks a source would be.
+// Appends to the label of a source, which has that fault, which two clocks would drive it.
 fn push_both(into: &mut Vec<u8>, first: &ClockName, second: &ClockName) -> Result<(), Memory>
     ensures { OnOk result (into.new.items ≡ into.old.items
         ++ (codes "\\nE26 under clocks " ++ both_names first.now second.now)) }
@@ -283,7 +285,7 @@ fn push_both(into: &mut Vec<u8>, first: &ClockName, second: &ClockName) -> Resul
     push_names(into, first, second)
 }
 
-/// Appends the names of two clocks.
+/// Appends the names of two clocks that were asked for, with `and` between.
 pub fn push_names(into: &mut Vec<u8>, first: &ClockName, second: &ClockName) -> Result<(), Memory>
     ensures { OnOk result (into.new.items ≡ into.old.items ++ both_names first.now second.now) }
 {
@@ -292,7 +294,7 @@ pub fn push_names(into: &mut Vec<u8>, first: &ClockName, second: &ClockName) -> 
     push_name(into, second)
 }
 
-// Appends how a picture calls a clock that was asked for.
+// Appends how a picture calls a clock that was asked for: its id, the crossfade whose own clock it is, or an output.
 fn push_name(into: &mut Vec<u8>, name: &ClockName) -> Result<(), Memory>
     ensures { OnOk result (into.new.items ≡ into.old.items ++ name_text name.now) }
 {
@@ -303,7 +305,7 @@ fn push_name(into: &mut Vec<u8>, name: &ClockName) -> Result<(), Memory>
     }
 }
 
-// Appends which clock source k wants, if it asks for one.
+// Appends to the label of source k which clock it wants for what it plays, if it asks for one (`asks`).
 fn push_asking_words(
     alloc: Global,
     into: &mut Vec<u8>,
@@ -320,7 +322,7 @@ fn push_asking_words(
     }
 }
 
-// Appends which clock source k wants for what it plays.
+// Appends to the label of source k, which asks for a clock, the clock that it wants for what it plays.
 fn push_asking(alloc: Global, into: &mut Vec<u8>, k: u64, op: &Op) -> Result<(), Memory>
     ensures { OnOk result (into.new.items ≡ into.old.items ++ asking k op.now) }
 {
@@ -333,7 +335,8 @@ fn push_asking(alloc: Global, into: &mut Vec<u8>, k: u64, op: &Op) -> Result<(),
     }
 }
 
-/// The number of the source of this sink; 0 where there is no such sink.
+/// The number of the source that plays into a refused sink, an output or the feed of a buffer; 0 where there is no
+/// such sink.
 pub fn refused_node(sinks: &[SinkPlan], sink: u32) -> u32
     ensures { result ≡ refused_node sinks.now sink }
 {

@@ -28,7 +28,7 @@ pub fn push_fault(
     push_region(into, nodes, fault, groups)
 }
 
-// Appends the heading of a picture for a fault of clocks.
+// Appends to a picture its heading for a fault of clocks, in red, as graphviz reads it.
 fn push_told(into: &mut Vec<u8>, fault: &ClockFault) -> Result<(), Memory>
     ensures { OnOk result (into.new.items ≡ into.old.items ++ told_text fault.now) }
 {
@@ -37,7 +37,7 @@ fn push_told(into: &mut Vec<u8>, fault: &ClockFault) -> Result<(), Memory>
     push_plain(into, b"\";\n")
 }
 
-// Appends the line over a picture for a fault of clocks.
+// Appends the words of a picture's heading for a fault of clocks: its number and what it is.
 fn push_heading(into: &mut Vec<u8>, fault: &ClockFault) -> Result<(), Memory>
     ensures { OnOk result (into.new.items ≡ into.old.items ++ heading fault.now) }
 {
@@ -91,7 +91,7 @@ fn push_shared_region(
     Ok(())
 }
 
-// Appends the label of a group for which both of these clocks are wanted.
+// Appends the label of the region round sources that must share one clock, for which both of these clocks are wanted.
 fn push_shared_label(
     into: &mut Vec<u8>,
     first: &ClockName,
@@ -120,7 +120,7 @@ fn push_own_region(
     Ok(())
 }
 
-// Appends the label of what lies in the own clock of crossfade k.
+// Appends the label of the region round what lies in the own clock of crossfade k.
 fn push_own_label(into: &mut Vec<u8>, k: u64) -> Result<(), Memory>
     ensures { OnOk result (into.new.items ≡ into.old.items ++ own_label k) }
 {
@@ -162,7 +162,7 @@ fn push_red_rest(
     Ok(())
 }
 
-// Appends the names of the sources in the groups of `these`.
+// Appends to a region the names of its sources: those that must share a clock with one of `these`.
 fn push_red_members(
     into: &mut Vec<u8>,
     groups: &[u32],
@@ -178,7 +178,7 @@ fn push_red_members(
     Ok(())
 }
 
-// Appends the name of source k, if it is in the region.
+// Appends to a region the name of source k, if the source belongs in it (`is_in`).
 fn push_red_member(into: &mut Vec<u8>, is_in: bool, k: u64) -> Result<(), Memory>
     ensures { OnOk result (into.new.items ≡ into.old.items ++ red_member is_in k) }
 {
@@ -189,7 +189,7 @@ fn push_red_member(into: &mut Vec<u8>, is_in: bool, k: u64) -> Result<(), Memory
     }
 }
 
-// Whether source k is in the group of one of `these`.
+// Whether source k must share a clock with one of `these`: it is in the same group.
 fn shares(groups: &[u32], these: &[u32], k: u64) -> bool
     ensures { result ≡ shares (λ source. slice_index groups.now source) these.now k }
 {
@@ -202,7 +202,7 @@ fn shares(groups: &[u32], these: &[u32], k: u64) -> bool
     false
 }
 
-// The group of a source.
+// The number of a source's group, which has the sources that must share a clock; 0 where there is no such source.
 fn group_of(groups: &[u32], source: u64) -> u32
     ensures { result ≡ slice_index groups.now source }
 {

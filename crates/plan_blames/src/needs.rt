@@ -20,7 +20,7 @@ pub fn needs(op: &Op, children: &[u32], child: u64) -> bool
     }
 }
 
-// Whether a predicate of this child is always true by its form.
+// Whether a switch with these predicates and children has a case for `child` that is always true by its form.
 fn is_sure(preds: &[SharedPred], children: &[u32], child: u64) -> bool
     ensures { result ≡ some_case (map view_shared preds.now) children.now child }
 {
@@ -33,7 +33,7 @@ fn is_sure(preds: &[SharedPred], children: &[u32], child: u64) -> bool
     false
 }
 
-// Whether a child is the last one.
+// Whether `child` is the last of a sequence's children, which it plays for good in the end.
 fn is_last(children: &[u32], child: u64) -> bool
     ensures { result ≡ is_last children.now child }
 {
@@ -43,7 +43,7 @@ fn is_last(children: &[u32], child: u64) -> bool
     }
 }
 
-// Whether a child is one of these.
+// Whether `child` is one of these children.
 fn contains(children: &[u32], child: u64) -> bool
     ensures { result ≡ some_child children.now child }
 {
@@ -67,7 +67,8 @@ pub fn only_needed(op: &Op, children: &[u32]) -> Option<u32>
     }
 }
 
-// The only child whose predicate is always true by its form.
+// The one child of a switch that has cases whose predicate is always true by its form; `None` where none has, or
+// several.
 fn only_sure(preds: &[SharedPred], children: &[u32]) -> Option<u32>
     ensures { IsOnly (some_case (map view_shared preds.now) children.now) result }
 {
@@ -77,7 +78,7 @@ fn only_sure(preds: &[SharedPred], children: &[u32]) -> Option<u32>
     }
 }
 
-// The first child whose predicate is always true by its form.
+// The child of a switch's first case whose predicate is always true by its form; `None` where there is no such case.
 fn first_sure(preds: &[SharedPred], children: &[u32]) -> Option<u32>
     ensures some { IfSome result (λ child. some_case (map view_shared preds.now) children.now child ≡ true) }
     ensures none { IsNone result → (child : ℕ) → some_case (map view_shared preds.now) children.now child ≡ false }
@@ -91,7 +92,7 @@ fn first_sure(preds: &[SharedPred], children: &[u32]) -> Option<u32>
     None
 }
 
-// `first`, if no predicate of another child is always true by its form, and otherwise nothing.
+// `first`, a child of a switch that has a case always true by its form, if no other child has one; otherwise `None`.
 fn lone_sure(preds: &[SharedPred], children: &[u32], first: u32) -> Option<u32>
     requires { some_case (map view_shared preds.now) children.now first ≡ true }
     ensures { IsOnly (some_case (map view_shared preds.now) children.now) result }
@@ -102,7 +103,7 @@ fn lone_sure(preds: &[SharedPred], children: &[u32], first: u32) -> Option<u32>
     Some(first)
 }
 
-// Whether a predicate of another child than `first` is always true by its form.
+// Whether a switch has a case always true by its form whose child is another one than `first`.
 fn other_sure(preds: &[SharedPred], children: &[u32], first: u32) -> bool
     ensures yes { result ≡ true → HasOther (some_case (map view_shared preds.now) children.now) first }
     ensures no { result ≡ false → IsAlone (some_case (map view_shared preds.now) children.now) first }
@@ -116,7 +117,8 @@ fn other_sure(preds: &[SharedPred], children: &[u32], first: u32) -> bool
     false
 }
 
-// Whether a predicate is always true by its form, and its child is another one than `first`.
+// Whether a case of a switch, a predicate with its child, is always true by its form and leads to another child than
+// `first`.
 fn is_other_case(pred: &SharedPred, child: u32, first: u32) -> bool
     ensures yes { result ≡ true → (is_always (view_shared pred.now) ≡ true) × (child ≢ first) }
     ensures no { result ≡ false → is_always (view_shared pred.now) ≡ true → child ≡ first }
@@ -124,14 +126,14 @@ fn is_other_case(pred: &SharedPred, child: u32, first: u32) -> bool
     if pred.always() { child != first } else { false }
 }
 
-// The last child, which alone is needed; nothing where there is none.
+// The one child that a sequence needs, its last; `None` where it has no child.
 fn only_last(children: &[u32]) -> Option<u32>
     ensures { IsOnly (is_last children.now) result }
 {
     last_of(children)
 }
 
-// The last child; nothing where there is none.
+// The last of a source's children; `None` where it has none.
 fn last_of(children: &[u32]) -> Option<u32>
     ensures { result ≡ last_of children.now }
 {
@@ -148,14 +150,14 @@ fn only_child(children: &[u32]) -> Option<u32>
     }
 }
 
-// The first child; nothing where there is none.
+// The first of a source's children; `None` where it has none.
 fn first_of(children: &[u32]) -> Option<u32>
     ensures { result ≡ slice_get children.now 0 }
 {
     children.first().copied()
 }
 
-// `first`, if there is no other child, and otherwise nothing.
+// `first`, if all children of a source are that one; otherwise `None`.
 fn lone_child(children: &[u32], first: u32) -> Option<u32>
     requires { some_child children.now first ≡ true }
     ensures { IsOnly (some_child children.now) result }
@@ -166,7 +168,7 @@ fn lone_child(children: &[u32], first: u32) -> Option<u32>
     Some(first)
 }
 
-// Whether there is another child than `first`.
+// Whether a source has another child than `first`.
 fn other_child(children: &[u32], first: u32) -> bool
     ensures yes { result ≡ true → HasOther (some_child children.now) first }
     ensures no { result ≡ false → IsAlone (some_child children.now) first }

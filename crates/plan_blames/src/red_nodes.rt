@@ -41,7 +41,7 @@ fn is_to_blame(nodes: &[Node], reds: &[bool], marks: &[bool], refused: u32, k: u
         || !mark(marks, k) && is_needed(&nodes[k + 1..], &reds[k + 1..], k as u64)
 }
 
-// Whether some red source needs this child.
+// Whether one of these sources that is red needs this child: it would always offer something if the child did.
 fn is_needed(nodes: &[Node], reds: &[bool], child: u64) -> bool
     requires { length reds.now ≡ length nodes.now }
     ensures { result ≡ list_any (λ pair. pair.1 && needs (pair.0).op (pair.0).children child) (zip nodes.now reds.now) }

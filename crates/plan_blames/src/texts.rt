@@ -5,7 +5,7 @@ ghost use Rattle.plan_blames.specs.Texts.{escaped, escaped_byte};
 use fixed_text::write_u64;
 use liq_base::Memory;
 
-/// Appends a text and a number.
+/// Appends a text and then a number in decimal.
 pub fn push_number(into: &mut Vec<u8>, text: &[u8], number: u64) -> Result<(), Memory>
     ensures { OnOk result (into.new.items ≡ into.old.items ++ text.now ++ decimal number) }
 {
@@ -14,7 +14,7 @@ pub fn push_number(into: &mut Vec<u8>, text: &[u8], number: u64) -> Result<(), M
     Ok(())
 }
 
-/// Appends a number between two texts.
+/// Appends a number in decimal between two texts, `text` and `behind`.
 pub fn push_between(
     into: &mut Vec<u8>,
     text: &[u8],
@@ -28,7 +28,7 @@ pub fn push_between(
     Ok(())
 }
 
-/// Appends a name, escaped, between two texts.
+/// Appends a name between two texts, with its quotes and other signs escaped for graphviz.
 pub fn push_quoted(into: &mut Vec<u8>, text: &[u8], name: &str, behind: &[u8]) -> Result<(), Memory>
     ensures { OnOk result (into.new.items ≡ into.old.items ++ (text.now ++ escaped name.now ++ behind.now)) }
 {
@@ -38,7 +38,7 @@ pub fn push_quoted(into: &mut Vec<u8>, text: &[u8], name: &str, behind: &[u8]) -
     Ok(())
 }
 
-/// Appends a name so that it stands for itself within quotes.
+/// Appends a name with its quotes, backslashes and ampersands escaped, so that graphviz reads it as it is.
 pub fn push_escaped(into: &mut Vec<u8>, name: &[u8]) -> Result<(), Memory>
     ensures { OnOk result (into.new.items ≡ into.old.items ++ escaped name.now) }
 {
@@ -48,7 +48,7 @@ pub fn push_escaped(into: &mut Vec<u8>, name: &[u8]) -> Result<(), Memory>
     Ok(())
 }
 
-// Appends a byte so that it stands for itself within quotes.
+// Appends a byte of a name; a quote, a backslash or an ampersand is escaped, so that graphviz reads it as it is.
 fn push_byte(into: &mut Vec<u8>, byte: u8) -> Result<(), Memory>
     ensures { OnOk result (into.new.items ≡ into.old.items ++ escaped_byte byte) }
 {
@@ -64,7 +64,7 @@ fn push_byte(into: &mut Vec<u8>, byte: u8) -> Result<(), Memory>
     Ok(())
 }
 
-/// Appends a text.
+/// Appends a text as it stands, without escaping.
 pub fn push_plain(into: &mut Vec<u8>, text: &[u8]) -> Result<(), Memory>
     ensures { OnOk result (into.new.items ≡ into.old.items ++ text.now) }
 {
@@ -72,7 +72,7 @@ pub fn push_plain(into: &mut Vec<u8>, text: &[u8]) -> Result<(), Memory>
     Ok(())
 }
 
-/// Appends a text, and a name that is escaped.
+/// Appends a text and then a name, with its quotes and other signs escaped for graphviz.
 pub fn push_named(into: &mut Vec<u8>, text: &[u8], name: &str) -> Result<(), Memory>
     ensures { OnOk result (into.new.items ≡ into.old.items ++ text.now ++ escaped name.now) }
 {

@@ -65,7 +65,7 @@ pub fn eval_with_calls(alloc: Global, script: &Script, uses: &[Use]) -> Result<S
     answered(alloc, script, uses)
 }
 
-// Makes the tables of a script and of its uses, and evaluates the script by them.
+// Evaluates a script by its tables, which it makes: of the defs, and of what each name stands for.
 fn answered(alloc: Global, script: &Script, uses: &[Use]) -> Result<Sources, EvalFault>
     requires { IsNotStuck (evaluation (view_script script.now) uses.now) }
     ensures { Answers (λ s. (s.plan, s.calls)) result (sources (view_script script.now) uses.now) }
@@ -130,7 +130,7 @@ fn run(
     settle(machine, false)
 }
 
-// Evaluates statement `number`, counted from 1, and ends the settings before it if it is none.
+// Evaluates statement `number` of a script, counted from 1. If it is no `setting`, the settings before it end first.
 #[tactic(auto, unfolding(eval_meaning::specs::Scripts::turned), using(crate::proofs::Statements::fault_is_told))]
 fn turn(
     alloc: Global,
@@ -155,7 +155,8 @@ fn turn(
     }
 }
 
-// The fault of the script, for a fault of its statement `stmt`, which is no value of a wrong type.
+// Makes the fault of statement `stmt` the script's, with its number. It is no value of a wrong type: typing has ruled
+// that out.
 #[tactic(auto, using(crate::proofs::Statements::is_told))]
 fn told(stmt: u32, fault: Stop) -> EvalFault
     requires { fault ≢ Stuck }
@@ -167,7 +168,8 @@ fn told(stmt: u32, fault: Stop) -> EvalFault
     }
 }
 
-// Ends the settings, if they have not ended, where the statement to come is no `setting`.
+// Ends the script's settings before a statement that is no `setting`, and at the end of the script, unless they have
+// ended. `setting` says that a `setting` comes next.
 fn settle(machine: &mut Machine, setting: bool) -> Result<(), EvalFault>
     ensures { Answers (λ _. machine.new) result (settings_settled setting machine.old) }
 {
@@ -181,7 +183,8 @@ fn settle(machine: &mut Machine, setting: bool) -> Result<(), EvalFault>
     }
 }
 
-/// Ends the settings: the plan gets its tick, or the last setting was bad.
+/// Ends the settings of a script: its plan gets the length of a tick in samples, by the duration that was set. If that
+/// is out of bounds, the last setting was bad.
 #[tactic(auto, unfolding(eval_meaning::specs::Scripts::settings_ended))]
 fn end_settings(machine: &mut Machine) -> Result<(), EvalFault>
     ensures { Answers (λ _. machine.new) result (settings_ended machine.old) }
@@ -264,7 +267,8 @@ fn binding(
     Ok(())
 }
 
-/// The value of an expression in a statement outside of defs.
+/// The value of an expression in a statement outside of defs: it sees the bindings of the statements before it, and no
+/// parameters.
 fn top_full(
     alloc: Global,
     defs: &Defs<'_>,
@@ -288,7 +292,7 @@ fn top_full(
     full(alloc, &scope, LEVELS, machine, node)
 }
 
-/// The value of a call that is a statement.
+/// The value of a call that is a statement: it sees the bindings of the statements before it, and no parameters.
 fn top_call(
     alloc: Global,
     defs: &Defs<'_>,
@@ -312,7 +316,7 @@ fn top_call(
     call(alloc, &scope, LEVELS, machine, node)
 }
 
-/// The value of an `if` that is a statement.
+/// The value of an `if` that is a statement: it sees the bindings of the statements before it, and no parameters.
 fn top_choice(
     alloc: Global,
     defs: &Defs<'_>,

@@ -2,7 +2,8 @@
 use Rattle.std.specs.Prelude.{ℕ, List, [], ◌∷◌, ◌++◌}
 use Rattle.script_grammar.specs.Tree.{Sort, Tree, none, more, Stmt, BindPart, DefPart, CallPart, IfPart, Bind, Def, Inner, Param, Labelled, Optional, Negative, Plain, Expr, And, Not, Alone, Compared, Sum, Added, Product, Multiplied, Constant, Quoted, Truth, Named, Called, Chosen, Nothing, Paren, Tuple, Listed, Braces, PlaceFormat, NamedCall, Arg, If, POr, PAnd, PNot, TrueAtom, FalseAtom, Mark, IntervalAtom, Grouped}
 
--- the fields at of a tree, each before those of the trees below it, and these from left to right
+-- the places that a tree tells: its fields `at`, which are indices of tokens; each stands before those of the trees
+-- below it, and these from left to right
 abbrev pub ats : {s : Sort} → Tree s → List ℕ
 ats none = []
 ats (more x xs) = ats x ++ ats xs

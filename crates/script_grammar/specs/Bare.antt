@@ -2,7 +2,7 @@
 -- are equal.
 use Rattle.script_grammar.specs.Tree.{Sort, Tree, none, more, Stmt, BindPart, DefPart, CallPart, IfPart, Bind, Def, Inner, Param, Labelled, Optional, Negative, Plain, Expr, And, Not, Alone, Compared, Sum, Added, Product, Multiplied, Constant, Quoted, Truth, Named, Called, Chosen, Nothing, Paren, Tuple, Listed, Braces, PlaceFormat, NamedCall, Arg, If, POr, PAnd, PNot, TrueAtom, FalseAtom, Mark, IntervalAtom, Grouped}
 
--- the tree with 0 for each of its fields at
+-- a tree without its places: with 0 for each field `at`, which is the index of a token
 abbrev pub bare : {s : Sort} → Tree s → Tree s
 bare none = none
 bare (more x xs) = more (bare x) (bare xs)

@@ -5,11 +5,11 @@ use Rattle.script_grammar.specs.View.{view_expr, view_operand}
 use Rattle.script_grammar.specs.declared.tree.Expr as expr
 use Rattle.script_grammar.specs.declared.tree.Operand as operand
 
--- an expression that is one operand, behind `not` if it is negated
+-- the expression of one operand alone, behind `not` if `negated`: all levels of operators around it join nothing
 abbrev pub lone : Bool → Tree AnOperand → Tree AnExpr
 lone negated p = Expr (And (Not negated (Alone (Sum (Product p none) none))) none) none
 
--- the expression is no more than the operand, which lies inside it
+-- the expression e is no more than its operand p, without any operator, and p is a smaller part of e
 pub record IsLone (e : expr.Expr) (p : operand.Operand) : Type 0 where
   pub seen : view_expr e ≡ lone false (view_operand p)
   pub below : operand.size-Operand p < expr.size-Expr e

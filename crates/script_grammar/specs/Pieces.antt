@@ -9,20 +9,20 @@ use Rattle.script_lex.specs.declared.token.Symbol.TheVariants as sign
 use Rattle.script_grammar.specs.Tree.{Sort, Tree, APAnd, APNot}
 use Rattle.script_grammar.specs.Spelling.{spell}
 
--- the spellings of these trees, one after another
+-- the tokens that spell these trees, one after another
 abbrev pub each : {s : Sort} → List (Tree s) → List TokenKind
 each ts = flat_map spell ts
 
--- the spellings of these trees, each behind this token
+-- the spellings of these trees, each behind the token k, as `or` or a comma
 abbrev pub each_behind : {s : Sort} → TokenKind → List (Tree s) → List TokenKind
 each_behind k ts = flat_map (λ t. k ∷ spell t) ts
 
--- the spellings of these trees, with commas between
+-- the tokens that spell these trees, with commas between
 abbrev pub between_commas : {s : Sort} → List (Tree s) → List TokenKind
 between_commas [] = []
 between_commas (t ∷ ts) = spell t ++ each_behind (Symbol sign.Comma) ts
 
--- the spellings of these trees, with commas between and in these brackets
+-- the tokens that spell these trees with commas between, in the brackets `first` and `last`
 abbrev pub in_brackets : {s : Sort} → Sign → List (Tree s) → Sign → List TokenKind
 in_brackets first ts last = Symbol first ∷ (between_commas ts ++ (Symbol last ∷ []))
 

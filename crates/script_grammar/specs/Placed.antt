@@ -6,7 +6,8 @@ use Rattle.script_lex.specs.declared.token.Symbol.TheVariants as sign
 use Rattle.script_grammar.specs.Tree.{Sort, Tree, Many, none, more, Stmt, BindPart, DefPart, CallPart, IfPart, Bind, Def, Inner, Param, Labelled, Optional, Negative, Plain, Expr, And, Not, Alone, Compared, Sum, Added, Product, Multiplied, Constant, Quoted, Truth, Named, Called, Chosen, Nothing, Paren, Tuple, Listed, Braces, PlaceFormat, NamedCall, Arg, If, POr, PAnd, PNot, TrueAtom, FalseAtom, Mark, IntervalAtom, Grouped}
 use Rattle.script_grammar.specs.Spelling.{spell, with_commas, token_if, label}
 
--- a tree; a list of trees, each behind a token; and with commas between. A list's trees alone stand one after another.
+-- Each field `at` of a tree is the index of the right token, if the tree's first token has index i. So for a list
+-- whose trees follow each other; for one with a token before each tree (IsBehind); and with commas between (IsApart).
 abbrev mutual
   pub IsPlaced : {s : Sort} → ℕ → Tree s → Type 0
   IsPlaced i none = Unit {0}

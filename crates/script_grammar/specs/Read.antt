@@ -8,7 +8,7 @@ use Rattle.script_grammar.specs.Tree.{Sort, Tree, Many, none, more}
 abbrev pub Read : Type 0 → Type 0
 Read T = Result (T × List TokenKind) ℕ
 
--- a rule that reads the front of a list of tokens
+-- a rule of reading: from the tokens left it gives a value and the tokens behind it, or stops at a fault
 abbrev pub Reader : Type 0 → Type 0
 Reader T = List TokenKind → Read T
 
@@ -18,20 +18,20 @@ abbrev pub ◌>>=◌ : {A B : Type 0} → Result A ℕ → (A → Result B ℕ) 
 (Ok x) >>= f = f x
 (Err e) >>= f = Err e
 
--- what was read, changed by f, with the tokens behind it
+-- ends a reading: the value that was read is changed by f, and the tokens behind it stay
 abbrev pub made : {A B : Type 0} → (A → B) → A × List TokenKind → Read B
 made f x = Ok (f x.0, x.1)
 
--- what f reads, and then what g reads
+-- reads two things one behind the other, by f and then by g, and gives them as a pair
 abbrev pub both : {A B : Type 0} → Reader A → Reader B → Reader (A × B)
 both f g w = f w >>= λ x. g x.1 >>= λ y. Ok ((x.0, y.0), y.1)
 
--- whether a token stands next, and is of this kind
+-- whether a token is left and the next one is of this kind; nothing is read
 abbrev pub next : (TokenKind → Bool) → List TokenKind → Bool
 next is [] = false
 next is (k ∷ w) = is k
 
--- a token of this kind
+-- reads one token, which must be of this kind; otherwise reading stops there
 abbrev pub expect : (TokenKind → Bool) → Reader (Unit {0})
 expect is [] = Err 0
 expect is (k ∷ w) =
@@ -40,7 +40,7 @@ expect is (k ∷ w) =
       | false ↦ Err (suc (length w))
     ]
 
--- whether a token of this kind stands first; if so, it is read
+-- reads a token of this kind if one stands first, and tells whether it did
 abbrev pub perhaps : (TokenKind → Bool) → Reader Bool
 perhaps is [] = Ok (false, [])
 perhaps is (k ∷ w) =

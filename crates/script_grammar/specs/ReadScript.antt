@@ -8,7 +8,8 @@ use Rattle.script_grammar.specs.Read.{Reader, ◌>>=◌, made, both, next, expec
 use Rattle.script_grammar.specs.Kinds.{is_assign, is_comma, is_close_round, is_end, is_semicolon, is_any}
 use Rattle.script_grammar.specs.ReadValue.{binds, call, choice, expr, full_step, full_by}
 
--- no places: each field at is 0
+-- a rule for the fields `at` of a tree that is read, which are places of tokens, where these do not matter: 0,
+-- whatever number of tokens is left
 abbrev pub no_place : ℕ → ℕ
 no_place left = 0
 

@@ -15,17 +15,17 @@ use Rattle.script_grammar.specs.Read.{Reader, ◌>>=◌, made, both, next, expec
 use Rattle.script_grammar.specs.Kinds.{is_or, is_and, is_not, is_assign, is_comma, is_close_round, is_close_square, is_close_curly, is_open_round, is_then, is_else, is_end, is_added, is_multiplied, op_of}
 use Rattle.script_grammar.specs.ReadPredicate.{por}
 
--- whether a name and "=" stand first
+-- whether the next tokens are a name and `=`, with which a binding begins
 abbrev pub binds : List TokenKind → Bool
 binds (Name x ∷ r) = next is_assign r
 binds w = false
 
--- whether the name of the option of %wav stands first
+-- whether the next token is the name `samplesize`, of the one option of %wav
 abbrev pub opens_name : List TokenKind → Bool
 opens_name (Name x ∷ r) = bytes_eq x option_name
 opens_name w = false
 
--- whether the option of %wav stands first, as far as its "="
+-- whether the next tokens are `(samplesize =`, with which the option of %wav begins
 abbrev pub optional : List TokenKind → Bool
 optional (Symbol sign.OpenRound ∷ r) =
     elim (opens_name r) [
@@ -34,7 +34,8 @@ optional (Symbol sign.OpenRound ∷ r) =
     ]
 optional w = false
 
--- whether the option of %wav begins, where a `(` may stand behind it or not
+-- whether `%wav` has its option here: where a `(` may also stand behind it for another reason (true), only if all of
+-- `(samplesize =` does; otherwise by `(` alone
 abbrev pub takes_option : Bool → List TokenKind → Bool
 takes_option true w = optional w
 takes_option false w = next is_open_round w
@@ -81,12 +82,12 @@ arg stamp full w = full w >>= made (Arg (stamp (length w)) None)
 unfoldable pub args : (ℕ → ℕ) → Reader (Tree AFull) → Reader (Tree (Many AnArg))
 args stamp full w = closed is_comma is_close_round (arg stamp full) w
 
--- one value in parentheses, or a tuple
+-- what stands in parentheses, from the token `at`: the one value f in them, or a tuple of f and others
 abbrev pub round_of : ℕ → Tree AFull → Tree (Many AFull) → Tree AnOperand
 round_of at f none = Paren f
 round_of at f (more g rest) = Tuple at f g rest
 
--- no value in parentheses, one, or a tuple
+-- what stands in parentheses, from the token `at`: nothing, one value, or a tuple
 abbrev pub round_or_unit : ℕ → Tree (Many AFull) → Tree AnOperand
 round_or_unit at none = Nothing at
 round_or_unit at (more f rest) = round_of at f rest
@@ -149,12 +150,12 @@ unfoldable pub sum : Bool → (ℕ → ℕ) → Reader (Tree AFull) → Reader (
 sum loose stamp full w = both (product loose stamp full) (many (next is_added) (added loose stamp full)) w >>= made
     (λ x. Sum x.0 x.1)
 
--- the comparing operator that stands first, if one does
+-- the comparing operator that the next token is, if it is one; nothing is read
 abbrev pub next_op : List TokenKind → Option CompareOp
 next_op [] = None
 next_op (k ∷ r) = op_of k
 
--- a comparison whose left sum was read: alone, or with the operator that stands first and the sum behind it
+-- reads on from a sum `left`: it stands alone, or is compared by the operator that stands next with the sum behind it
 abbrev pub behind_op : Bool → (ℕ → ℕ) → Reader (Tree AFull) → Tree ASum → Option CompareOp → Reader (Tree ACompare)
 behind_op loose stamp full left None w = Ok (Alone left, w)
 behind_op loose stamp full left (Some op) [] = Err 0

@@ -10,17 +10,17 @@ use Rattle.script_grammar.specs.declared.tree.CompareOp.{CompareOp}
 use Rattle.script_grammar.specs.declared.tree.CompareOp.TheVariants as op
 use Rattle.script_grammar.specs.Tree.{Sort, Tree, Many, none, more, Stmt, BindPart, DefPart, CallPart, IfPart, Bind, Def, Inner, Param, Labelled, Optional, Negative, Plain, Expr, And, Not, Alone, Compared, Sum, Added, Product, Multiplied, Constant, Quoted, Truth, Named, Called, Chosen, Nothing, Paren, Tuple, Listed, Braces, PlaceFormat, NamedCall, Arg, If, POr, PAnd, PNot, TrueAtom, FalseAtom, Mark, IntervalAtom, Grouped, Script}
 
--- the token of a number
+-- the token that spells a number, with a point or without
 abbrev pub literal_token : Literal → TokenKind
 literal_token (literal.Int n) = Int n
 literal_token (literal.Number d) = Number d
 
--- the token of a truth value
+-- the token that spells a truth value: the keyword `true` or `false`
 abbrev pub truth_token : Bool → TokenKind
 truth_token true = Keyword word.True
 truth_token false = Keyword word.False
 
--- the token of a comparison
+-- the symbol that spells a comparing operator, such as `==` or `<`
 abbrev pub op_token : CompareOp → TokenKind
 op_token op.Equal = Symbol sign.Equal
 op_token op.Differs = Symbol sign.Differs
@@ -29,37 +29,38 @@ op_token op.AtMost = Symbol sign.AtMost
 op_token op.Greater = Symbol sign.Greater
 op_token op.AtLeast = Symbol sign.AtLeast
 
--- the token of a sum, or of a difference
+-- the operator of a sum as a token: `-` for true, and `+` for false
 abbrev pub added_token : Bool → TokenKind
 added_token true = Symbol sign.Minus
 added_token false = Symbol sign.Plus
 
--- the token of a product, or of a quotient
+-- the operator of a product as a token: `/` for true, and `*` for false
 abbrev pub multiplied_token : Bool → TokenKind
 multiplied_token true = Symbol sign.Slash
 multiplied_token false = Symbol sign.Star
 
--- a token that may be missing
+-- the tokens for a part that may be missing: the token k if it is there (true), and otherwise none
 abbrev pub token_if : TokenKind → Bool → List TokenKind
 token_if k true = k ∷ []
 token_if k false = []
 
--- the tokens of a label, if there is one
+-- the tokens of an argument's label, a name and `=`, if it has one
 abbrev pub label : Option (List ℕ) → List TokenKind
 label (Some name) = Name name ∷ Symbol sign.Assign ∷ []
 label None = []
 
--- the one name of an option of %wav: samplesize
+-- the name of the one option that %wav takes, as bytes: samplesize
 abbrev pub option_name : List ℕ
 option_name = 115 ∷ 97 ∷ 109 ∷ 112 ∷ 108 ∷ 101 ∷ 115 ∷ 105 ∷ 122 ∷ 101 ∷ []
 
--- the tokens of a format
+-- the tokens of the format `%wav`, with its option `(samplesize = size)` if it has one
 abbrev pub wav_tokens : Option ℤ → List TokenKind
 wav_tokens None = Wav ∷ []
 wav_tokens (Some size) = Wav ∷ Symbol sign.OpenRound ∷ Name option_name ∷ Symbol sign.Assign ∷ Int size
     ∷ Symbol sign.CloseRound ∷ []
 
--- the spelling of a tree; of a list, one after another; of a list, each behind a token; and with commas between
+-- The tokens that spell a tree, or a list of trees one after another; those of a list with the token k before each
+-- tree (each_after), and with commas between (with_commas).
 abbrev mutual
   pub spell : {s : Sort} → Tree s → List TokenKind
   spell none = []
@@ -123,6 +124,6 @@ abbrev mutual
   with_commas none = []
   with_commas (more x xs) = spell x ++ each_after (Symbol sign.Comma) xs
 
--- the tokens of a script
+-- the one list of tokens that spells a script
 abbrev pub spelling : Script → List TokenKind
 spelling s = spell s

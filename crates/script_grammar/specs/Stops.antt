@@ -2,7 +2,8 @@
 use Rattle.std.specs.Prelude.{◌≡◌, ℕ, List, ◌++◌, length}
 use Rattle.script_lex.specs.declared.token.TokenKind.{TokenKind}
 
--- Reading stops where k of the tokens w are left, and the tokens before begin the spelling of some tree.
+-- Where reading of the tokens w stops with k of them left, none of those before was wrong: they are the beginning of
+-- the spelling (`sp`) of some tree.
 pub record Begun {T : Type 0} (sp : T → List TokenKind) (w : List TokenKind) (k : ℕ) : Type 0 where
   pub before : List TokenKind
   pub after : List TokenKind

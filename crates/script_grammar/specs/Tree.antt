@@ -4,7 +4,7 @@ use Rattle.fixed_text.specs.declared.time_mark.TimeMark.{TimeMark}
 use Rattle.script_grammar.specs.declared.tree.Literal.{Literal}
 use Rattle.script_grammar.specs.declared.tree.CompareOp.{CompareOp}
 
--- the nonterminals, and lists of one
+-- The sorts of trees: one for each nonterminal of the grammar of scripts, and lists of trees of a sort.
 pub data Sort : Type 0 where
   AStmt : Sort
   APart : Sort
@@ -105,6 +105,6 @@ pub data Tree : Sort → Type 0 where
   IntervalAtom : TimeMark → TimeMark → Tree APAtom
   Grouped : Tree APOr → Tree APAtom
 
--- Script = Stmt*
+-- A script is a list of statements: Script = Stmt*.
 abbrev pub Script : Type 0
 Script = Tree (Many AStmt)

@@ -31,7 +31,7 @@ use Rattle.script_grammar.specs.declared.predicate.PAnd as pand
 use Rattle.script_grammar.specs.declared.predicate.PNot as pnot
 use Rattle.script_grammar.specs.declared.predicate.PAtom as patom
 
--- a list of trees as a tree
+-- a list of trees, as the one tree that the grammar has for a list
 abbrev pub listed : {s : Sort} → List (Tree s) → Tree (Many s)
 listed [] = none
 listed (t ∷ ts) = more t (listed ts)
@@ -52,6 +52,8 @@ tuple_of at none = Nothing at
 tuple_of at (more f none) = Paren f
 tuple_of at (more f (more g rest)) = Tuple at f g rest
 
+-- the tree of the grammar that a predicate of the program stands for, and those of its parts joined by `or` and by
+-- `and`, and of its atoms
 abbrev mutual
   pub view_por : por.POr → Tree APOr
   view_por (por.POr' shape parts) = por_of (view_pands parts)
@@ -74,10 +76,13 @@ abbrev mutual
   view_patom (patom.Between a b) = IntervalAtom a b
   view_patom (patom.Paren' p inside) = Grouped (view_por inside)
 
--- the tree that an atom stands for, perhaps behind `not`
+-- the tree of the grammar, as the rules speak of it, for which an atom of a predicate, behind `not` or not, stands as
+-- the program holds it
 abbrev pub view_pnot : pnot.PNot → Tree APNot
 view_pnot n = PNot n.negated (view_patom n.atom)
 
+-- the tree of the grammar that a value of the program stands for, and that of each level below it: parts joined by
+-- `or` and `and`, comparisons, sums, products, operands, calls and arguments
 abbrev mutual
   pub view_full : Full → Tree AFull
   view_full (full.Minus at n) = Negative at n
@@ -149,52 +154,61 @@ abbrev mutual
   view_args call.end_of-Arg = none
   view_args (call.more_of-Arg at name f rest) = more (Arg at name (view_full f)) (view_args rest)
 
--- the tree that an operand behind `*` or `/` stands for
+-- the tree of the grammar, as the rules speak of it, for which an operand behind `*` or `/` stands as the program
+-- holds it
 abbrev pub view_multiplied : multiplied.Multiplied → Tree AMultiplied
 view_multiplied m = Multiplied m.at m.divide (view_operand m.operand)
 
--- the tree that an argument of the program stands for
+-- the tree of the grammar, as the rules speak of it, for which an argument of a call, with its label or without,
+-- stands as the program holds it
 abbrev pub view_arg : arg.Arg → Tree AnArg
 view_arg a = Arg a.at a.label (view_full a.value)
 
--- the tree that an `if` of the program stands for
+-- the tree of the grammar, as the rules speak of it, for which an `if` with its three values stands as the program
+-- holds it
 abbrev pub view_if : if_.If → Tree AnIf
 view_if i = If i.at (view_full i.condition.value) (view_full i.then_part.value) (view_full i.else_part.value)
 
--- the tree that a binding of the program stands for
+-- the tree of the grammar, as the rules speak of it, for which a binding of a name to a value stands as the program
+-- holds it
 abbrev pub view_bind : bind.Bind → Tree ABind
 view_bind b = Bind b.at b.name (view_full b.value)
 
--- the tree that a binding in a def of the program stands for
+-- the tree of the grammar, as the rules speak of it, for which a binding in the body of a def stands as the program
+-- holds it
 abbrev pub view_inner : inner.Inner → Tree AnInner
 view_inner i = Inner (view_bind i.bind) i.semicolon
 
--- a parameter of this form, with its place and its name
+-- the tree of the grammar for a parameter of a def: by the place of its name, the name, and whether it is plain,
+-- labelled or optional
 abbrev pub param_of : ℕ → List ℕ → ParamForm → Tree AParam
 param_of at name form.Plain = Param at name
 param_of at name form.Labelled = Labelled at name
 param_of at name (form.Optional f) = Optional at name (view_full f)
 
--- the tree that a parameter of the program stands for
+-- the tree of the grammar, as the rules speak of it, for which a parameter of a def stands as the program holds it
 abbrev pub view_param : param.Param → Tree AParam
 view_param p = param_of p.at p.name p.form
 
--- the tree that a def of the program stands for
+-- the tree of the grammar, as the rules speak of it, for which a def, with its parameters, bindings and result, stands
+-- as the program holds it
 abbrev pub view_def : def.Def → Tree ADef
 view_def d = Def d.at d.name (listed (map view_param d.params.items)) d.equals (listed (map view_inner d.inner.items))
     (view_expr d.result)
 
--- the tree that a part of a statement of the program stands for
+-- the tree of the grammar, as the rules speak of it, for which a statement without its `;` stands as the program holds
+-- it
 abbrev pub view_part : StmtPart → Tree APart
 view_part (part.Bind b) = BindPart (view_bind b)
 view_part (part.Def d) = DefPart (view_def d)
 view_part (part.Call c) = CallPart (view_call c)
 view_part (part.If i) = IfPart (view_if i)
 
--- the tree that a statement of the program stands for
+-- the tree of the grammar, as the rules speak of it, for which a statement of a script stands as the program holds it
 abbrev pub view_stmt : stmt.Stmt → Tree AStmt
 view_stmt s = Stmt (view_part s.part) s.semicolon
 
--- the tree that a script of the program stands for
+-- the tree of the grammar, as the rules speak of it, for which a script, its statements in order, stands as the
+-- program holds it
 abbrev pub view_script : script.Script → Script
 view_script s = listed (map view_stmt s.statements.items)

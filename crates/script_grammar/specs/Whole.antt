@@ -32,16 +32,17 @@ use Rattle.script_grammar.specs.declared.predicate.PAnd as pand
 use Rattle.script_grammar.specs.declared.predicate.PNot as pnot
 use Rattle.script_grammar.specs.declared.predicate.PAtom as patom
 
--- a list has at least one part
+-- a list of trees has at least one part, as the grammar wants of a predicate's parts
 abbrev pub HasPart : {s : Sort} → Tree (Many s) → Type 0
 HasPart none = ⊥
 HasPart (more x xs) = Unit {0}
 
--- a list has at least two parts
+-- a list of trees has at least two parts, as the grammar wants of a tuple
 abbrev pub HasTwo : {s : Sort} → Tree (Many s) → Type 0
 HasTwo none = ⊥
 HasTwo (more x xs) = HasPart xs
 
+-- each list of parts in a predicate, joined by `or` or by `and`, has at least one part, at all depths
 abbrev mutual
   pub IsWholePOr : por.POr → Type 0
   IsWholePOr (por.POr' shape parts) = HasPart (view_pands parts) × AreWholePAnds parts
@@ -61,10 +62,12 @@ abbrev mutual
   IsWholePAtom (patom.Paren' p inside) = IsWholePOr inside
   IsWholePAtom atom = Unit {0}
 
--- each list of parts in a predicate's atom has at least one part
+-- each list of parts in a predicate's atom, behind `not` or not, has at least one part
 abbrev pub IsWholePNot : pnot.PNot → Type 0
 IsWholePNot n = IsWholePAtom n.atom
 
+-- each list in a value is as long as the grammar wants, at all depths: a tuple has at least two parts, and each list
+-- of a predicate's parts at least one
 abbrev mutual
   pub IsWholeFull : Full → Type 0
   IsWholeFull (full.Minus at n) = Unit {0}
@@ -130,51 +133,57 @@ abbrev mutual
   AreWholeArgs call.end_of-Arg = Unit {0}
   AreWholeArgs (call.more_of-Arg at name f rest) = IsWholeFull f × AreWholeArgs rest
 
--- each list in an operand behind `*` or `/` is as long as the grammar wants
+-- an operand behind `*` or `/` is one of the grammar: each list within it, at all depths, has as many parts as the
+-- grammar wants
 abbrev pub IsWholeMultiplied : multiplied.Multiplied → Type 0
 IsWholeMultiplied m = IsWholeOperand m.operand
 
--- each list in an argument is as long as the grammar wants
+-- an argument of a call is one of the grammar: each list within it, at all depths, has as many parts as the grammar
+-- wants
 abbrev pub IsWholeArg : arg.Arg → Type 0
 IsWholeArg a = IsWholeFull a.value
 
--- each list in an `if` is as long as the grammar wants
+-- an `if` is one of the grammar: each list within it, at all depths, has as many parts as the grammar wants
 abbrev pub IsWholeIf : if_.If → Type 0
 IsWholeIf i = IsWholeFull i.condition.value × IsWholeFull i.then_part.value × IsWholeFull i.else_part.value
 
--- each list in a binding is as long as the grammar wants
+-- a binding is one of the grammar: each list within it, at all depths, has as many parts as the grammar wants
 abbrev pub IsWholeBind : bind.Bind → Type 0
 IsWholeBind b = IsWholeFull b.value
 
--- each list in a binding in a def is as long as the grammar wants
+-- a binding in the body of a def is one of the grammar: each list within it, at all depths, has as many parts as the
+-- grammar wants
 abbrev pub IsWholeInner : inner.Inner → Type 0
 IsWholeInner i = IsWholeBind i.bind
 
--- each list in the form of a parameter is as long as the grammar wants
+-- a parameter's default value, if it has one, is one of the grammar: each list within it, at all depths, has as many
+-- parts as the grammar wants
 abbrev pub IsWholeForm : ParamForm → Type 0
 IsWholeForm form.Plain = Unit {0}
 IsWholeForm form.Labelled = Unit {0}
 IsWholeForm (form.Optional f) = IsWholeFull f
 
--- each list in a parameter is as long as the grammar wants
+-- a parameter of a def is one of the grammar: each list within it, at all depths, has as many parts as the grammar
+-- wants
 abbrev pub IsWholeParam : param.Param → Type 0
 IsWholeParam p = IsWholeForm p.form
 
--- each list in a def is as long as the grammar wants
+-- a def is one of the grammar: each list within it, at all depths, has as many parts as the grammar wants
 abbrev pub IsWholeDef : def.Def → Type 0
 IsWholeDef d = All IsWholeParam d.params.items × All IsWholeInner d.inner.items × IsWholeExpr d.result
 
--- each list in a part of a statement is as long as the grammar wants
+-- a statement without its `;` is one of the grammar: each list within it, at all depths, has as many parts as the
+-- grammar wants
 abbrev pub IsWholePart : StmtPart → Type 0
 IsWholePart (part.Bind b) = IsWholeBind b
 IsWholePart (part.Def d) = IsWholeDef d
 IsWholePart (part.Call c) = IsWholeCall c
 IsWholePart (part.If i) = IsWholeIf i
 
--- each list in a statement is as long as the grammar wants
+-- a statement is one of the grammar: each list within it, at all depths, has as many parts as the grammar wants
 abbrev pub IsWholeStmt : stmt.Stmt → Type 0
 IsWholeStmt s = IsWholePart s.part
 
--- a script of the grammar
+-- a script whose lists are all as long as the grammar wants, so its tree is one of the grammar
 abbrev pub IsWhole : script.Script → Type 0
 IsWhole s = All IsWholeStmt s.statements.items

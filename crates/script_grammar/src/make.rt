@@ -16,7 +16,7 @@ use crate::tree::{self, Added, And, Arg, Call, Expr, Full, Multiplied, Not, Prod
 use liq_base::{Memory, Text};
 use std::alloc::Global;
 
-/// A first part and those behind an `or`.
+/// Makes an expression of its first part and of those behind an `or`.
 pub fn expr(first: And, rest: Vec<And>) -> Expr
     ensures made { view_expr result ≡ an_expr (view_and first) (listed (map view_and rest.items)) }
     ensures whole { IsWholeAnd first → All IsWholeAnd rest.items → IsWholeExpr result }
@@ -24,7 +24,7 @@ pub fn expr(first: And, rest: Vec<And>) -> Expr
     Expr { first, rest }
 }
 
-/// A first part and those behind an `and`.
+/// Makes a part of an expression of its first part and of those behind an `and`.
 pub fn and_term(first: Not, rest: Vec<Not>) -> And
     ensures made { view_and result ≡ an_and (view_not first) (listed (map view_not rest.items)) }
     ensures whole { IsWholeNot first → All IsWholeNot rest.items → IsWholeAnd result }
@@ -32,7 +32,7 @@ pub fn and_term(first: Not, rest: Vec<Not>) -> And
     And { first, rest }
 }
 
-/// A first product and those behind a `+` or `-`.
+/// Makes a sum of its first product and of those behind a `+` or `-`.
 pub fn sum(first: Product, rest: Vec<Added>) -> Sum
     ensures made { view_sum result ≡ a_sum (view_product first) (listed (map view_added rest.items)) }
     ensures whole { IsWholeProduct first → All IsWholeAdded rest.items → IsWholeSum result }
@@ -40,7 +40,7 @@ pub fn sum(first: Product, rest: Vec<Added>) -> Sum
     Sum { first, rest }
 }
 
-/// A first operand and those behind a `*` or `/`.
+/// Makes a product of its first operand and of those behind a `*` or `/`.
 pub fn product(first: tree::Operand, rest: Vec<Multiplied>) -> Product
     ensures made { view_product result ≡ a_product (view_operand first) (listed (map view_multiplied rest.items)) }
     ensures whole { IsWholeOperand first → All IsWholeMultiplied rest.items → IsWholeProduct result }
@@ -48,7 +48,7 @@ pub fn product(first: tree::Operand, rest: Vec<Multiplied>) -> Product
     Product { first, rest }
 }
 
-/// A call of a name with its arguments. `at` is the index of its first token, as in the tree.
+/// Makes a call of a name with its arguments. `at` is the index of its first token.
 pub fn call(at: u32, name: Text, args: Vec<Arg>) -> Call
     ensures made { view_call result ≡ a_call at name (listed (map view_arg args.items)) }
     ensures whole { All IsWholeArg args.items → IsWholeCall result }
@@ -56,7 +56,7 @@ pub fn call(at: u32, name: Text, args: Vec<Arg>) -> Call
     Call { at, name, args }
 }
 
-/// Values in square brackets. `at` is the index of the `[`.
+/// Makes a list of values in square brackets. `at` is the index of the `[`.
 pub fn list(at: u32, parts: Vec<Full>) -> tree::Operand
     ensures made { view_operand result ≡ a_list at (listed (map view_full parts.items)) }
     ensures whole { All IsWholeFull parts.items → IsWholeOperand result }
@@ -79,7 +79,7 @@ pub fn round(alloc: Global, at: u32, first: Full, rest: Vec<Full>) -> Result<tre
     }
 }
 
-/// A predicate of a first part and those behind an `or`.
+/// Makes a predicate of the time of its first part and of those behind an `or`.
 pub fn predicate(first: PAnd, rest: Vec<PAnd>) -> Result<POr, Memory>
     ensures made { IfOk result (λ p. view_por p ≡ a_por (view_pand first) (listed (map view_pand rest.items))) }
     ensures whole { IfOk result (λ p. IsWholePAnd first → All IsWholePAnd rest.items → IsWholePOr p) }
@@ -89,7 +89,7 @@ pub fn predicate(first: PAnd, rest: Vec<PAnd>) -> Result<POr, Memory>
     Ok(POr { parts })
 }
 
-/// A part of a predicate, of a first one and those behind an `and`.
+/// Makes a part of a predicate of its first part and of those behind an `and`.
 pub fn predicate_term(first: PNot, rest: Vec<PNot>) -> Result<PAnd, Memory>
     ensures made { IfOk result (λ p. view_pand p ≡ a_pand (view_pnot first) (listed (map view_pnot rest.items))) }
     ensures whole { IfOk result (λ p. IsWholePNot first → All IsWholePNot rest.items → IsWholePAnd p) }

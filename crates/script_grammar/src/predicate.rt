@@ -8,6 +8,7 @@ pub struct POr {
 }
 
 impl Drop for POr {
+    // Frees this part of a tree with all that it holds. Written out, so that other crates need not prove a derived one.
     #[cycle(drop_predicate)]
     fn drop(self) {
         let Self { parts: _ } = self;
@@ -21,6 +22,7 @@ pub struct PAnd {
 }
 
 impl Drop for PAnd {
+    // Frees this part of a tree with all that it holds. Written out, so that other crates need not prove a derived one.
     #[cycle(drop_predicate)]
     fn drop(self) {
         let Self { parts: _ } = self;
@@ -35,6 +37,7 @@ pub struct PNot {
 }
 
 impl Drop for PNot {
+    // Frees this part of a tree with all that it holds. Written out, so that other crates need not prove a derived one.
     #[cycle(drop_predicate)]
     fn drop(self) {
         let Self {
@@ -55,6 +58,7 @@ pub enum PAtom {
 }
 
 impl Drop for PAtom {
+    // Frees this part of a tree with all that it holds. Written out, so that other crates need not prove a derived one.
     #[cycle(drop_predicate)]
     fn drop(self) {
         match self {

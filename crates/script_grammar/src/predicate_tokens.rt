@@ -16,14 +16,14 @@ pub fn put(out: &mut Vec<TokenKind>, kind: TokenKind) -> Result<(), Memory>
     Ok(())
 }
 
-/// Appends a token if it is present.
+/// Appends to `out` the token `kind`, which a script may have or leave out, if it is `present`.
 pub fn put_if(out: &mut Vec<TokenKind>, kind: TokenKind, present: bool) -> Result<(), Memory>
     ensures { OnOk result (out.new.items ≡ out.old.items ++ token_if kind present) }
 {
     if present { put(out, kind) } else { Ok(()) }
 }
 
-/// Appends the tokens of a predicate.
+/// Appends to `out` the tokens that spell a predicate of the time.
 #[cycle(predicate)]
 pub fn put_por(out: &mut Vec<TokenKind>, pred: &POr) -> Result<(), Memory>
     ensures { OnOk result (out.new.items ≡ out.old.items ++ spell (view_por pred.now)) }
@@ -50,7 +50,7 @@ fn put_por_parts(out: &mut Vec<TokenKind>, parts: &[PAnd]) -> Result<(), Memory>
     }
 }
 
-// Appends the tokens of parts joined by `and`.
+// Appends to `out` the tokens that spell a part of a predicate, atoms joined by `and`.
 #[cycle(predicate)]
 fn put_pand(out: &mut Vec<TokenKind>, pred: &PAnd) -> Result<(), Memory>
     ensures { OnOk result (out.new.items ≡ out.old.items ++ spell (view_pand pred.now)) }
@@ -77,7 +77,7 @@ fn put_pand_parts(out: &mut Vec<TokenKind>, parts: &[PNot]) -> Result<(), Memory
     }
 }
 
-// Appends the tokens of an atom, behind `not` if it is negated.
+// Appends to `out` the tokens that spell an atom of a predicate, behind `not` if it is negated.
 #[cycle(predicate)]
 fn put_pnot(out: &mut Vec<TokenKind>, pred: &PNot) -> Result<(), Memory>
     ensures { OnOk result (out.new.items ≡ out.old.items ++ spell (view_pnot pred.now)) }
@@ -86,7 +86,8 @@ fn put_pnot(out: &mut Vec<TokenKind>, pred: &PNot) -> Result<(), Memory>
     put_patom(out, &pred.atom)
 }
 
-// Appends the tokens of an atom.
+// Appends to `out` the tokens that spell an atom of a predicate: a truth value, a time mark, an interval or a
+// predicate in parentheses.
 #[cycle(predicate)]
 fn put_patom(out: &mut Vec<TokenKind>, atom: &PAtom) -> Result<(), Memory>
     ensures { OnOk result (out.new.items ≡ out.old.items ++ spell (view_patom atom.now)) }

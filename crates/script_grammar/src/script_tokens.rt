@@ -22,7 +22,7 @@ pub fn spell(alloc: Global, script: &Script) -> Result<Vec<TokenKind>, Memory>
     Ok(out)
 }
 
-// Appends the tokens of a binding.
+// Appends to `out` the tokens that spell a binding: a name, `=` and a value.
 fn put_bind(alloc: Global, out: &mut Vec<TokenKind>, bind: &Bind) -> Result<(), Memory>
     ensures { OnOk result (out.new.items ≡ out.old.items ++ spell (view_bind bind.now)) }
 {
@@ -31,7 +31,7 @@ fn put_bind(alloc: Global, out: &mut Vec<TokenKind>, bind: &Bind) -> Result<(), 
     put_full(alloc, out, &bind.value)
 }
 
-// Appends the tokens of a binding in the body of a def.
+// Appends to `out` the tokens that spell a binding in the body of a def, with the `;` that may end it.
 fn put_inner(alloc: Global, out: &mut Vec<TokenKind>, inner: &Inner) -> Result<(), Memory>
     ensures { OnOk result (out.new.items ≡ out.old.items ++ spell (view_inner inner.now)) }
 {
@@ -39,7 +39,7 @@ fn put_inner(alloc: Global, out: &mut Vec<TokenKind>, inner: &Inner) -> Result<(
     put_if(out, TokenKind::Symbol(Symbol::Semicolon), inner.semicolon)
 }
 
-// Appends the tokens of the bindings in the body of a def.
+// Appends to `out` the tokens that spell the bindings in the body of a def, one after another.
 fn put_inners(alloc: Global, out: &mut Vec<TokenKind>, inners: &[Inner]) -> Result<(), Memory>
     ensures { OnOk result (out.new.items ≡ out.old.items ++ each (map view_inner inners.now)) }
 {
@@ -49,7 +49,7 @@ fn put_inners(alloc: Global, out: &mut Vec<TokenKind>, inners: &[Inner]) -> Resu
     Ok(())
 }
 
-// Appends the tokens of a parameter.
+// Appends to `out` the tokens that spell a parameter of a def: a name, `~name`, or `~name = value`.
 fn put_param(alloc: Global, out: &mut Vec<TokenKind>, param: &Param) -> Result<(), Memory>
     ensures { OnOk result (out.new.items ≡ out.old.items ++ spell (view_param param.now)) }
 {
@@ -68,7 +68,7 @@ fn put_param(alloc: Global, out: &mut Vec<TokenKind>, param: &Param) -> Result<(
     }
 }
 
-// Appends the tokens of parameters with commas between.
+// Appends to `out` the tokens that spell the parameters of a def, with commas between.
 fn put_params(alloc: Global, out: &mut Vec<TokenKind>, params: &[Param]) -> Result<(), Memory>
     ensures { OnOk result (out.new.items ≡ out.old.items ++ between_commas (map view_param params.now)) }
 {
@@ -115,7 +115,7 @@ fn put_body(
     put(out, TokenKind::Keyword(Keyword::End))
 }
 
-// Appends the tokens of a def.
+// Appends to `out` the tokens that spell a def, from its `def` to its `end`.
 fn put_def(alloc: Global, out: &mut Vec<TokenKind>, def: &Def) -> Result<(), Memory>
     ensures { OnOk result (out.new.items ≡ out.old.items ++ spell (view_def def.now)) }
 {
@@ -124,7 +124,7 @@ fn put_def(alloc: Global, out: &mut Vec<TokenKind>, def: &Def) -> Result<(), Mem
     put_body(alloc, out, &def.inner, &def.result)
 }
 
-// Appends the tokens of a part of a statement.
+// Appends to `out` the tokens that spell a statement without its `;`: a binding, a def, a call or an `if`.
 fn put_part(alloc: Global, out: &mut Vec<TokenKind>, part: &StmtPart) -> Result<(), Memory>
     ensures { OnOk result (out.new.items ≡ out.old.items ++ spell (view_part part.now)) }
 {
@@ -144,7 +144,7 @@ fn put_stmt(alloc: Global, out: &mut Vec<TokenKind>, stmt: &Stmt) -> Result<(), 
     put_if(out, TokenKind::Symbol(Symbol::Semicolon), stmt.semicolon)
 }
 
-// Appends the tokens of statements.
+// Appends to `out` the tokens that spell statements, one after another.
 fn put_stmts(alloc: Global, out: &mut Vec<TokenKind>, stmts: &[Stmt]) -> Result<(), Memory>
     ensures { OnOk result (out.new.items ≡ out.old.items ++ each (map view_stmt stmts.now)) }
 {

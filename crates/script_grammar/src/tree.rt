@@ -13,6 +13,7 @@ pub struct Script {
 }
 
 impl Drop for Script {
+    // Frees this part of a tree with all that it holds. Written out, so that other crates need not prove a derived one.
     fn drop(self) {
         let Self { statements: _ } = self;
     }
@@ -25,6 +26,7 @@ pub struct Stmt {
 }
 
 impl Drop for Stmt {
+    // Frees this part of a tree with all that it holds. Written out, so that other crates need not prove a derived one.
     fn drop(self) {
         let Self {
             part: _,
@@ -42,6 +44,7 @@ pub enum StmtPart {
 }
 
 impl Drop for StmtPart {
+    // Frees this part of a tree with all that it holds. Written out, so that other crates need not prove a derived one.
     fn drop(self) {
         match self {
             StmtPart::Bind(_) => {}
@@ -60,6 +63,7 @@ pub struct Bind {
 }
 
 impl Drop for Bind {
+    // Frees this part of a tree with all that it holds. Written out, so that other crates need not prove a derived one.
     fn drop(self) {
         let Self {
             at: _,
@@ -76,6 +80,7 @@ pub struct Inner {
 }
 
 impl Drop for Inner {
+    // Frees this part of a tree with all that it holds. Written out, so that other crates need not prove a derived one.
     fn drop(self) {
         let Self {
             bind: _,
@@ -95,6 +100,7 @@ pub struct Def {
 }
 
 impl Drop for Def {
+    // Frees this part of a tree with all that it holds. Written out, so that other crates need not prove a derived one.
     fn drop(self) {
         let Self {
             at: _,
@@ -115,6 +121,7 @@ pub struct Param {
 }
 
 impl Drop for Param {
+    // Frees this part of a tree with all that it holds. Written out, so that other crates need not prove a derived one.
     fn drop(self) {
         let Self {
             at: _,
@@ -132,6 +139,7 @@ pub enum ParamForm {
 }
 
 impl Drop for ParamForm {
+    // Frees this part of a tree with all that it holds. Written out, so that other crates need not prove a derived one.
     fn drop(self) {
         match self {
             ParamForm::Plain => {}
@@ -150,6 +158,7 @@ pub enum Full {
 }
 
 impl Drop for Full {
+    // Frees this part of a tree with all that it holds. Written out, so that other crates need not prove a derived one.
     #[cycle(drop_tree)]
     fn drop(self) {
         match self {
@@ -174,6 +183,7 @@ pub struct Expr {
 }
 
 impl Drop for Expr {
+    // Frees this part of a tree with all that it holds. Written out, so that other crates need not prove a derived one.
     #[cycle(drop_tree)]
     fn drop(self) {
         let Self { first: _, rest: _ } = self;
@@ -188,6 +198,7 @@ pub struct And {
 }
 
 impl Drop for And {
+    // Frees this part of a tree with all that it holds. Written out, so that other crates need not prove a derived one.
     #[cycle(drop_tree)]
     fn drop(self) {
         let Self { first: _, rest: _ } = self;
@@ -202,6 +213,7 @@ pub struct Not {
 }
 
 impl Drop for Not {
+    // Frees this part of a tree with all that it holds. Written out, so that other crates need not prove a derived one.
     #[cycle(drop_tree)]
     fn drop(self) {
         let Self {
@@ -219,6 +231,7 @@ pub struct Compare {
 }
 
 impl Drop for Compare {
+    // Frees this part of a tree with all that it holds. Written out, so that other crates need not prove a derived one.
     #[cycle(drop_tree)]
     fn drop(self) {
         let Self { left: _, right: _ } = self;
@@ -234,6 +247,7 @@ pub struct Compared {
 }
 
 impl Drop for Compared {
+    // Frees this part of a tree with all that it holds. Written out, so that other crates need not prove a derived one.
     #[cycle(drop_tree)]
     fn drop(self) {
         let Self {
@@ -263,6 +277,7 @@ pub struct Sum {
 }
 
 impl Drop for Sum {
+    // Frees this part of a tree with all that it holds. Written out, so that other crates need not prove a derived one.
     #[cycle(drop_tree)]
     fn drop(self) {
         let Self { first: _, rest: _ } = self;
@@ -278,6 +293,7 @@ pub struct Added {
 }
 
 impl Drop for Added {
+    // Frees this part of a tree with all that it holds. Written out, so that other crates need not prove a derived one.
     #[cycle(drop_tree)]
     fn drop(self) {
         let Self {
@@ -296,6 +312,7 @@ pub struct Product {
 }
 
 impl Drop for Product {
+    // Frees this part of a tree with all that it holds. Written out, so that other crates need not prove a derived one.
     #[cycle(drop_tree)]
     fn drop(self) {
         let Self { first: _, rest: _ } = self;
@@ -311,6 +328,7 @@ pub struct Multiplied {
 }
 
 impl Drop for Multiplied {
+    // Frees this part of a tree with all that it holds. Written out, so that other crates need not prove a derived one.
     #[cycle(drop_tree)]
     fn drop(self) {
         let Self {
@@ -345,6 +363,7 @@ pub enum Operand {
 }
 
 impl Drop for Operand {
+    // Frees this part of a tree with all that it holds. Written out, so that other crates need not prove a derived one.
     #[cycle(drop_tree)]
     fn drop(self) {
         match self {
@@ -373,6 +392,7 @@ pub struct Call {
 }
 
 impl Drop for Call {
+    // Frees this part of a tree with all that it holds. Written out, so that other crates need not prove a derived one.
     #[cycle(drop_tree)]
     fn drop(self) {
         let Self {
@@ -392,6 +412,7 @@ pub struct Arg {
 }
 
 impl Drop for Arg {
+    // Frees this part of a tree with all that it holds. Written out, so that other crates need not prove a derived one.
     #[cycle(drop_tree)]
     fn drop(self) {
         let Self {
@@ -412,6 +433,7 @@ pub struct If {
 }
 
 impl Drop for If {
+    // Frees this part of a tree with all that it holds. Written out, so that other crates need not prove a derived one.
     #[cycle(drop_tree)]
     fn drop(self) {
         let Self {

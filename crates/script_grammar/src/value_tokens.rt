@@ -19,7 +19,7 @@ use liq_base::{Memory, Text};
 use script_lex::{Keyword, Symbol, TokenKind};
 use std::alloc::Global;
 
-/// Appends the tokens of a value in full.
+/// Appends to `out` the tokens that spell a value: `-` and a number, or an expression.
 #[cycle(value)]
 pub fn put_full(alloc: Global, out: &mut Vec<TokenKind>, full: &Full) -> Result<(), Memory>
     ensures { OnOk result (out.new.items ≡ out.old.items ++ spell (view_full full.now)) }
@@ -33,7 +33,7 @@ pub fn put_full(alloc: Global, out: &mut Vec<TokenKind>, full: &Full) -> Result<
     }
 }
 
-/// Appends the tokens of an expression.
+/// Appends to `out` the tokens that spell an expression, which is parts joined by `or`.
 #[cycle(value)]
 pub fn put_expr(alloc: Global, out: &mut Vec<TokenKind>, expr: &Expr) -> Result<(), Memory>
     ensures { OnOk result (out.new.items ≡ out.old.items ++ spell (view_expr expr.now)) }
@@ -42,7 +42,7 @@ pub fn put_expr(alloc: Global, out: &mut Vec<TokenKind>, expr: &Expr) -> Result<
     put_ands(alloc, out, &expr.rest)
 }
 
-/// Appends the tokens of a call.
+/// Appends to `out` the tokens that spell a call, from its name to its closing bracket.
 #[cycle(value)]
 pub fn put_call(alloc: Global, out: &mut Vec<TokenKind>, call: &Call) -> Result<(), Memory>
     ensures { OnOk result (out.new.items ≡ out.old.items ++ spell (view_call call.now)) }
@@ -52,7 +52,7 @@ pub fn put_call(alloc: Global, out: &mut Vec<TokenKind>, call: &Call) -> Result<
     put(out, TokenKind::Symbol(Symbol::CloseRound))
 }
 
-/// Appends the tokens of an `if`.
+/// Appends to `out` the tokens that spell an `if`, from that word to its `end`.
 #[cycle(value)]
 pub fn put_choice(alloc: Global, out: &mut Vec<TokenKind>, choice: &If) -> Result<(), Memory>
     ensures { OnOk result (out.new.items ≡ out.old.items ++ spell (view_if choice.now)) }
@@ -246,7 +246,8 @@ fn put_multiplied(
     put_operand(alloc, out, &multiplied.operand)
 }
 
-// Appends the tokens of an operand.
+// Appends to `out` the tokens that spell an operand: a literal, a name, a call, an `if`, what stands in brackets, or a
+// format.
 #[cycle(value)]
 fn put_operand(
     alloc: Global,
@@ -301,7 +302,7 @@ fn put_wav(alloc: Global, out: &mut Vec<TokenKind>, size: Option<i64>) -> Result
     }
 }
 
-// Appends the tokens of values in parentheses.
+// Appends to `out` the tokens that spell a tuple: values in parentheses, with commas between.
 #[cycle(value)]
 fn put_tuple(alloc: Global, out: &mut Vec<TokenKind>, parts: &[Full]) -> Result<(), Memory>
     ensures { OnOk result (out.new.items ≡ out.old.items
@@ -312,7 +313,7 @@ fn put_tuple(alloc: Global, out: &mut Vec<TokenKind>, parts: &[Full]) -> Result<
     put(out, TokenKind::Symbol(Symbol::CloseRound))
 }
 
-// Appends the tokens of values in square brackets.
+// Appends to `out` the tokens that spell a list: values in square brackets, with commas between.
 #[cycle(value)]
 fn put_list(alloc: Global, out: &mut Vec<TokenKind>, parts: &[Full]) -> Result<(), Memory>
     ensures { OnOk result (out.new.items ≡ out.old.items
@@ -323,7 +324,7 @@ fn put_list(alloc: Global, out: &mut Vec<TokenKind>, parts: &[Full]) -> Result<(
     put(out, TokenKind::Symbol(Symbol::CloseSquare))
 }
 
-// Appends the tokens of values with commas between.
+// Appends to `out` the tokens that spell values with commas between, without their brackets.
 #[cycle(value)]
 fn put_fulls(alloc: Global, out: &mut Vec<TokenKind>, parts: &[Full]) -> Result<(), Memory>
     ensures { OnOk result (out.new.items ≡ out.old.items ++ between_commas (map view_full parts.now)) }
@@ -341,7 +342,7 @@ fn put_fulls(alloc: Global, out: &mut Vec<TokenKind>, parts: &[Full]) -> Result<
     }
 }
 
-// Appends the tokens of arguments with commas between.
+// Appends to `out` the tokens that spell the arguments of a call, with commas between.
 #[cycle(value)]
 fn put_args(alloc: Global, out: &mut Vec<TokenKind>, args: &[Arg]) -> Result<(), Memory>
     ensures { OnOk result (out.new.items ≡ out.old.items ++ between_commas (map view_arg args.now)) }

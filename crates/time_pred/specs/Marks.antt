@@ -4,12 +4,12 @@ use Rattle.std.specs.Int.{int_rem_euclid}
 use Rattle.std.specs.Option.{option_map_or}
 use Rattle.fixed_text.specs.declared.time_mark.TimeMark.{TimeMark}
 
--- the days of the week before a day: Monday is day 1, and Sunday is day 7 and day 0
+-- how many days of the week come before this day: Monday is day 1, and Sunday is both day 7 and day 0
 abbrev pub days_before : ℕ → ℕ
 days_before zero = 6
 days_before (suc d) = d
 
--- the value of a mark: the sum of its parts
+-- the time that a mark names, in seconds since its period began: the sum of its day, hour, minute and second
 abbrev pub value_of : TimeMark → ℕ
 value_of m = option_map_or days_before m.day 0 * 86400 + unwrap_or m.hour 0 * 3600 + unwrap_or m.minute 0 * 60
     + unwrap_or m.second 0
@@ -19,11 +19,13 @@ value_of m = option_map_or days_before m.day 0 * 86400 + unwrap_or m.hour 0 * 36
 abbrev pub period_of : TimeMark → ℕ
 period_of m = if is_some m.day then 604800 else if is_some m.hour then 86400 else if is_some m.minute then 3600 else 60
 
--- the length of a mark's finest part
+-- for how many seconds a mark alone holds: the length of the finest part that it names, a day, an hour, a minute or a
+-- second
 abbrev pub finest_of : TimeMark → ℕ
 finest_of m = if is_some m.second then 1 else if is_some m.minute then 60 else if is_some m.hour then 3600 else 86400
 
--- a mark alone holds where less than its finest part has gone by since its value, around its period
+-- whether a time mark of a script that stands alone, as `9h`, holds at second `at` of the week: less than its finest
+-- part has gone by since its time, around its period
 abbrev pub is_at : TimeMark → ℕ → Bool
 is_at m at = nat_lt (unsigned_abs (int_rem_euclid (pos (at % period_of m) -ℤ pos (value_of m)) (pos (period_of m))))
     (finest_of m)
@@ -32,7 +34,8 @@ is_at m at = nat_lt (unsigned_abs (int_rem_euclid (pos (at % period_of m) -ℤ p
 abbrev pub is_in_interval : ℕ → ℕ → ℕ → Bool
 is_in_interval a b x = if nat_le a b then nat_le a x && nat_lt x b else nat_le a x || nat_lt x b
 
--- an interval of two marks holds at a second of the week, by the period of the coarser of its marks
+-- whether the interval from one time mark of a script to another, as `9h-17h`, holds at second `at` of the week,
+-- around the longer of their two periods
 abbrev pub is_between : TimeMark → TimeMark → ℕ → Bool
 is_between from to at = is_in_interval (value_of from) (value_of to) (at % max (period_of from) (period_of to))
 

@@ -3,12 +3,12 @@ use Rattle.std.specs.Prelude.{ℕ, Bool, true, false, not, ◌&&◌, ◌||◌, L
 use Rattle.fixed_text.specs.declared.time_mark.TimeMark.{TimeMark}
 use Rattle.time_pred.specs.Marks.{is_at, is_between}
 
--- a predicate, or the parts of one
+-- the two sorts of trees of a predicate: one predicate, and a list of those that `and` or `or` joins
 pub data PredicateSort : Type 0 where
   OnePredicate : PredicateSort
   PredicateParts : PredicateSort
 
--- predicates over the time of the week, and lists of them
+-- the trees of predicates over the time of the week, as `9h-17h and not 2w`, and the lists of parts in them
 pub data PredicateTree : PredicateSort → Type 0 where
   Always : PredicateTree OnePredicate
   Never : PredicateTree OnePredicate
@@ -20,11 +20,11 @@ pub data PredicateTree : PredicateSort → Type 0 where
   no_parts : PredicateTree PredicateParts
   first_part : PredicateTree OnePredicate → PredicateTree PredicateParts → PredicateTree PredicateParts
 
--- one predicate
+-- a predicate over the time of the week, as a switch has one for each child
 abbrev pub Predicate : Type 0
 Predicate = PredicateTree OnePredicate
 
--- the parts of a predicate, from a list of them
+-- a list of predicates as the parts of one, which are joined by `and` or by `or`
 abbrev pub parts_of : List Predicate → PredicateTree PredicateParts
 parts_of [] = no_parts
 parts_of (p ∷ ps) = first_part p (parts_of ps)

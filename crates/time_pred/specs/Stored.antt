@@ -5,12 +5,12 @@ use Rattle.std.proofs.Common.{sym, ap, ◌∙◌}
 use Rattle.fixed_text.specs.declared.time_mark.TimeMark.{TimeMark}
 use Rattle.time_pred.specs.Predicates.{PredicateTree, OnePredicate, PredicateParts, Predicate, Always, Never, At, Between, Negated, All, Any, no_parts, first_part}
 
--- a part of a time mark as a code: nothing or a number
+-- a part of a time mark, as its hour, as a code: the number, or nothing if the mark does not name it
 abbrev part_code : Option ℕ → Gv
 part_code None = gnil
 part_code (Some n) = gnum n
 
--- the part of a time mark that has this code
+-- reads a part of a time mark, as its hour, back from its code
 abbrev part_back : Gv → Option ℕ
 part_back gnil = None
 part_back (gnum n) = Some n
@@ -21,13 +21,13 @@ pub part_same : (o : Option ℕ) → part_back (part_code o) ≡ o
 part_same None = refl
 part_same (Some n) = refl
 
--- the first of a pair; of any other code nothing
+-- the first of a pair in a code; nothing (`gnil`) of any other code
 abbrev first : Gv → Gv
 first gnil = gnil
 first (gnum n) = gnil
 first (gcons a b) = a
 
--- the second of a pair; of any other code nothing
+-- the second of a pair in a code; nothing (`gnil`) of any other code
 abbrev rest : Gv → Gv
 rest gnil = gnil
 rest (gnum n) = gnil
@@ -37,7 +37,7 @@ rest (gcons a b) = b
 abbrev mark_code : TimeMark → Gv
 mark_code m = gcons (part_code m.day) (gcons (part_code m.hour) (gcons (part_code m.minute) (part_code m.second)))
 
--- the time mark that has this code
+-- reads a time mark back from its code, the pairs of its four parts
 abbrev mark_back : Gv → TimeMark
 mark_back g = record {
   day = part_back (first g);
@@ -55,6 +55,8 @@ mark_same m = λ i. record {
   second = part_same m.second i;
 }
 
+-- a predicate as a code, a pair of the number of its form and the codes of what it has; and a list of parts as the
+-- pairs of their codes
 abbrev mutual
   code : PredicateTree OnePredicate → Gv
   code Always = gcons (gnum 0) gnil
@@ -79,7 +81,8 @@ by_tag (suc (suc (suc (suc zero)))) g p ps = Negated p
 by_tag (suc (suc (suc (suc (suc zero))))) g p ps = All ps
 by_tag (suc (suc (suc (suc (suc (suc n)))))) g p ps = Any ps
 
--- the predicate that has this code, and the parts that have it
+-- reads a predicate, and a list of predicate parts, back from a code: a code does not tell which of the two it is of,
+-- so both are given
 abbrev back : Gv → PredicateTree OnePredicate × PredicateTree PredicateParts
 back gnil = (Never, no_parts)
 back (gnum n) = (Never, no_parts)

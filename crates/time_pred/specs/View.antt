@@ -4,6 +4,7 @@ use Rattle.time_pred.specs.declared.pred.Pred as pred
 use Rattle.time_pred.specs.declared.shared.SharedPred.{SharedPred}
 use Rattle.time_pred.specs.Predicates.{PredicateTree, OnePredicate, PredicateParts, Always, Never, At, Between, Negated, All, Any, no_parts, first_part}
 
+-- the plain tree that a predicate of the program stands for, and the one for a list of its parts
 abbrev mutual
   pub view_pred : pred.Pred → PredicateTree OnePredicate
   view_pred pred.Always = Always

@@ -15,7 +15,7 @@ const DAY: u32 = 86_400;
 /// Seconds of a week.
 pub const WEEK: u32 = 604_800;
 
-// Whether a mark alone holds at a second of the week.
+// Whether a time mark of a script, as `9h` or `2w`, that stands alone holds at a second of the week.
 pub fn is_at(mark: TimeMark, at: WeekSecond) -> bool
     ensures { result ≡ is_at mark at.second }
 {
@@ -24,7 +24,7 @@ pub fn is_at(mark: TimeMark, at: WeekSecond) -> bool
     since.rem_euclid(i64::from(period)) < i64::from(finest(mark))
 }
 
-// Whether the interval from one mark to another holds at a second of the week.
+// Whether the interval from one time mark of a script to another, as `9h-17h`, holds at a second of the week.
 pub fn is_between(from: TimeMark, to: TimeMark, at: WeekSecond) -> bool
     ensures { result ≡ is_between from to at.second }
 {
@@ -93,7 +93,7 @@ fn until(since: u32, time: u32, most: u32) -> u32
     }
 }
 
-// The value of a mark: the sum of its parts, in seconds.
+// The time that a mark names, in seconds since its period began: the sum of its day, hour, minute and second.
 fn value(mark: TimeMark) -> u32
     ensures { result ≡ value_of mark }
 {

@@ -70,7 +70,7 @@ impl Pred {
         }
     }
 
-    /// A copy of the predicate.
+    /// A copy of the predicate with all its parts, which shares nothing with it.
     #[cycle(copy)]
     pub fn copy(&self, alloc: Global) -> Result<Pred, Memory>
         ensures { IfOk result (λ copy. view_pred copy ≡ view_pred self.now) }
@@ -149,7 +149,8 @@ fn some_holds(parts: &[Pred], at: WeekSecond) -> bool
     false
 }
 
-// Whether a predicate is always true by its form.
+// Whether a predicate is always true by its form alone, whatever its time marks are: `true`, and what `not`, `and` and
+// `or` make of such.
 #[cycle(form)]
 fn is_always(pred: &Pred) -> bool
     ensures { result ≡ is_always (view_pred pred.now) }
@@ -163,7 +164,8 @@ fn is_always(pred: &Pred) -> bool
     }
 }
 
-// Whether a predicate is never true by its form.
+// Whether a predicate is never true by its form alone, whatever its time marks are: `false`, and what `not`, `and` and
+// `or` make of such.
 #[cycle(form)]
 fn is_never(pred: &Pred) -> bool
     ensures { result ≡ is_never (view_pred pred.now) }

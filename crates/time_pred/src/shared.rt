@@ -18,7 +18,7 @@ pub struct SharedPred {
 }
 
 impl SharedPred {
-    /// The predicate, held in one place alone.
+    /// Takes in a predicate that values and switches can then share; it is held in one place so far.
     pub fn new(alloc: Global, pred: Pred) -> Result<SharedPred, Memory>
         ensures { IfOk result (λ made. view_shared made ≡ view_pred pred) }
     {
@@ -27,7 +27,7 @@ impl SharedPred {
         })
     }
 
-    /// The predicate, held in one more place. It copies no term.
+    /// The same predicate for one more place that holds it. No term is copied.
     pub fn share(&self) -> Result<SharedPred, Memory>
         ensures { IfOk result (λ other. view_shared other ≡ view_shared self.now) }
     {
@@ -36,7 +36,7 @@ impl SharedPred {
         })
     }
 
-    /// The predicate, to be read.
+    /// A view of the predicate itself, to be read.
     pub fn as_pred(&self) -> &Pred
         ensures { view_pred result.now ≡ view_shared self.now }
     {

@@ -2,12 +2,12 @@
 use Rattle.std.specs.List.{list_all}
 use Rattle.std.specs.Prelude.{Bool, false, ◌==◌, ◌||◌, ◌≢◌, ℕ, List, [], ◌∷◌, map, if◌then◌else◌}
 
--- a text has no byte that is `stop`
+-- no byte of a text is `stop`: so a part of a line goes on up to the first such byte
 abbrev pub Lacks : ℕ → List ℕ → Type 0
 Lacks stop [] = Unit {0}
 Lacks stop (b ∷ more) = (b ≢ stop) × Lacks stop more
 
--- whether a byte is one of the two letters
+-- whether a byte is one of the two letters `one` and `other`, which tell the two answers of a put or a take
 abbrev pub is_letter : ℕ → ℕ → ℕ → Bool
 is_letter one other b = b == one || b == other
 
@@ -17,7 +17,8 @@ are_letters one other [] = false
 are_letters one other (b ∷ []) = b == 45 || is_letter one other b
 are_letters one other (b ∷ c ∷ bs) = list_all (is_letter one other) (b ∷ c ∷ bs)
 
--- the answers that letters tell; the letter `one` stands for true
+-- the answers that the letters of a trace's line tell: true for the letter `one` and false for another; none for a
+-- stroke alone
 abbrev pub told_by : ℕ → List ℕ → List Bool
 told_by one [] = []
 told_by one (b ∷ []) = if b == 45 then [] else (b == one) ∷ []

@@ -9,11 +9,12 @@ pub data Lines (many : ℕ) : ℕ → List ℕ → Type 0 where
   one_line_more : (k : ℕ) (text : List ℕ) (log : Answers) → Lines many k text
       → Lines many (suc k) (text ++ line (k / many) (k % many) log)
 
--- the text begins with a line of this window and this buffer
+-- the text begins with a trace's line for this window and this buffer, whatever its answers
 abbrev pub HasLine : ℕ → ℕ → List ℕ → Type 0
 HasLine window buffer text = (log : Answers) × (rest : List ℕ) × (text ≡ line window buffer log ++ rest)
 
--- the text does not begin with a line for place k, where there are `many` buffers
+-- where a trace of `many` buffers has its line number k, counted from the one after line 0, the text does not begin
+-- with such a line, whatever its answers
 abbrev pub NoLine : ℕ → ℕ → List ℕ → Type 0
 NoLine many k text = (log : Answers) (rest : List ℕ) → text ≡ line (k / many) (k % many) log ++ rest → ⊥
 
@@ -27,7 +28,8 @@ pub data StopsAt (text : List ℕ) : ℕ → Type 0 where
       → text ≡ header n w b ++ front ++ rest
       → (rest ≡ [] → ⊥) → StopsAt text (suc (window_count n w * b))
 
--- a text has the form of a trace within the bounds
+-- a text is the text of a trace: line 0 with numbers within the bounds, and then one line for each window of each
+-- buffer
 pub record IsText (text : List ℕ) : Type 0 where
   pub ticks : ℕ
   pub window : ℕ
@@ -37,7 +39,8 @@ pub record IsText (text : List ℕ) : Type 0 where
   pub form : Lines buffers (window_count ticks window * buffers) lines
   pub is : text ≡ header ticks window buffers ++ lines
 
--- the first k lines of a text after line 0 have the form, and `rest` follows them
+-- reading has come past k lines of a text after line 0: they have the form of a trace with these ticks, ticks a window
+-- and buffers, and `rest` follows them
 pub record Stands (text : List ℕ) (ticks window buffers k : ℕ) (rest : List ℕ) : Type 0 where
   pub lines : List ℕ
   pub form : Lines buffers k lines

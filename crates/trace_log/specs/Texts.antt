@@ -7,7 +7,7 @@ use Rattle.trace_log.specs.Values.{TraceValue}
 abbrev pub letter : ℕ → ℕ → Bool → ℕ
 letter one other answer = if answer then one else other
 
--- the letters of answers; a stroke where there is none
+-- the letters of a buffer's answers, `one` for true and `other` for false; a stroke where there is no answer
 unfoldable pub letters : ℕ → ℕ → List Bool → List ℕ
 letters one other [] = codes "-"
 letters one other (a ∷ more) = map (letter one other) (a ∷ more)
@@ -26,7 +26,8 @@ line window buffer log = codes "window " ++ decimal window ++ codes " buffer " +
 abbrev pub window_count : ℕ → ℕ → ℕ
 window_count ticks window = (ticks + (window - 1)) / window
 
--- what a window of a buffer answered, by the windows of each buffer
+-- what buffer number `buffer` answered in window number `window`, by the lists of windows of all buffers; no answers
+-- where there is no such window
 abbrev pub log_at : List (List Answers) → ℕ → ℕ → Answers
 log_at buffers buffer window = slice_index_or (slice_index_or buffers buffer []) window no_answers
 
@@ -47,7 +48,8 @@ places_of t = window_count t.ticks t.window * length t.buffers
 unfoldable pub trace_text : TraceValue → List ℕ
 trace_text t = header t.ticks t.window (length t.buffers) ++ lines_below t.buffers (length t.buffers) (places_of t)
 
--- the numbers of line 0 are such as a trace may have
+-- the numbers in line 0 of a trace are within the bounds: its ticks, the ticks of a window, and how many buffers it
+-- has
 pub record InBounds (ticks window buffers : ℕ) : Type 0 where
   pub ticks_most : ticks ≤ 1000000000
   pub window_least : 1 ≤ window

@@ -9,7 +9,7 @@ pub record TraceValue : Type 0 where
   pub window : ℕ
   pub buffers : List (List Answers)
 
--- a trace as nested pairs, which code to numbers
+-- a code of traces as numbers, by nested pairs: it shows that two traces with one code are equal
 abbrev pub trace_coded : Coded TraceValue
 trace_coded = code_by (ℕ
     × (ℕ × List (List Answers))) (coded× coded_ℕ (coded× coded_ℕ (coded_list (coded_list answers_coded))))

@@ -41,7 +41,8 @@ pub(crate) fn cut_line(text: &[u8], window: u64, buffer: u64) -> Option<(&[u8], 
     Some((puts, takes, rest))
 }
 
-// The text after a word, this number and a space, if it begins with them.
+// Cuts a word, this number and a space from the front of a text: the text after them; `None` where it does not begin
+// so.
 fn cut_counted<'a>(text: &'a [u8], word: &[u8], number: u64) -> Option<&'a [u8]>
     ensures found { IfSome result (λ r. text.now ≡ word.now ++ (decimal number ++ 32 ∷ r.now)) }
     ensures only { (f : List ℕ) → text.now ≡ word.now ++ (decimal number ++ 32 ∷ f)
@@ -55,14 +56,14 @@ fn cut_counted<'a>(text: &'a [u8], word: &[u8], number: u64) -> Option<&'a [u8]>
     Some(rest)
 }
 
-// The place of the first byte that is `stop`.
+// The place of the first byte of a text that is `stop`; `None` where there is none.
 fn first_mark(text: &[u8], stop: u8) -> Option<usize>
     ensures { result ≡ position (λ b. b == stop) text.now }
 {
     text.iter().position(|byte| *byte == stop)
 }
 
-// The text before and after the first byte that is `stop`.
+// Cuts a text at its first byte that is `stop`: the text before it and the text after it; `None` where there is none.
 fn cut_at(text: &[u8], stop: u8) -> Option<(&[u8], &[u8])>
     ensures found { IfSome result (λ p. text.now ≡ p.0.now ++ stop ∷ p.1.now) }
     ensures only { (w f : List ℕ) → Lacks stop w → text.now ≡ w ++ stop ∷ f
@@ -72,7 +73,8 @@ fn cut_at(text: &[u8], stop: u8) -> Option<(&[u8], &[u8])>
     Some((&text[..mark], &text[mark + 1..]))
 }
 
-// The number before the first byte that is `stop`, and the text after it.
+// Cuts a decimal number from the front of a text, up to the first byte that is `stop`: the number, and the text after
+// that byte. `None` where no such number stands there.
 fn cut_number(text: &[u8], stop: u8) -> Option<(u64, &[u8])>
     requires { stop < 48 }
     ensures found { IfSome result (λ p. text.now ≡ decimal p.0 ++ stop ∷ p.1.now) }
@@ -84,7 +86,7 @@ fn cut_number(text: &[u8], stop: u8) -> Option<(u64, &[u8])>
     Some((number, rest))
 }
 
-// The text after a word, if it begins with that.
+// Cuts this word from the front of a text: the text after it; `None` where the text does not begin with it.
 fn cut_word<'a>(text: &'a [u8], word: &[u8]) -> Option<&'a [u8]>
     ensures found { IfSome result (λ r. text.now ≡ word.now ++ r.now) }
     ensures only { (f : List ℕ) → text.now ≡ word.now ++ f → IsSomeAnd result (λ r. r.now ≡ f) }
@@ -92,7 +94,8 @@ fn cut_word<'a>(text: &'a [u8], word: &[u8]) -> Option<&'a [u8]>
     text.strip_prefix(word)
 }
 
-// Whether a text is the letters of some answers, `one` for true and `other` for false, or the stroke for none.
+// Whether a text tells some answers in a trace: a letter for each, `one` for true and `other` for false, or a stroke
+// alone if there is no answer.
 fn are_letters(text: &[u8], one: u8, other: u8) -> bool
     ensures { result ≡ are_letters one other text.now }
 {
@@ -103,7 +106,7 @@ fn are_letters(text: &[u8], one: u8, other: u8) -> bool
     }
 }
 
-// Whether each byte of a text is one of the two letters.
+// Whether each byte of a text is a letter of an answer in a trace, `one` for true or `other` for false.
 fn all_letters(text: &[u8], one: u8, other: u8) -> bool
     ensures { result ≡ list_all (is_letter one other) text.now }
 {

@@ -20,6 +20,7 @@ pub enum TraceFault {
 impl From<Memory> for TraceFault {
     ghost from_gives = { λ _ e. e ≡ faults.Memory };
 
+    // Refused memory, as a fault of reading a trace.
     fn from(_refused: Memory) -> TraceFault {
         TraceFault::Memory
     }

@@ -55,7 +55,7 @@ fn append_place(trace: &Trace, into: &mut Vec<u8>, place: u64) -> Result<(), Mem
     Ok(())
 }
 
-// The answers of a window of a buffer.
+// What this buffer of a trace answered in the window of this number.
 fn log_of(trace: &Trace, buffer: u64, window: u64) -> &WindowLog
     requires trace { IsTrace trace.now }
     requires buffer { buffer < length trace.now.buffers }
@@ -66,7 +66,7 @@ fn log_of(trace: &Trace, buffer: u64, window: u64) -> &WindowLog
     window_at(&log.windows, window)
 }
 
-// The answers of the window of this number.
+// The answers of a buffer in the window of this number, where there is one.
 fn window_at(windows: &[WindowLog], window: u64) -> &WindowLog
     requires { window < length windows.now }
     ensures { result.now ≡ slice_index_or windows.now window no_answers }

@@ -30,7 +30,7 @@ pub fn read(alloc: Global, text: &[u8]) -> Result<Trace, TraceFault>
     Ok(trace)
 }
 
-// The trace of a text that has the form.
+// Reads the trace of a text that is known to have its form.
 fn read_whole(alloc: Global, text: &[u8]) -> Result<Trace, Memory>
     requires { IsText text.now }
     ensures { IfOk result (λ t. IsTrace t × (text.now ≡ trace_text t)) }
@@ -84,7 +84,7 @@ fn read_lines(
     Ok(())
 }
 
-// Adds the answers of a window to the log of a buffer.
+// Adds what a buffer answered in a window to the end of that buffer's log.
 fn add_log(buffers: &mut Vec<BufferLog>, buffer: u64, log: WindowLog) -> Result<(), Memory>
     requires { buffer < length buffers.old.items }
     ensures { OnOk result (buffers.new.items
@@ -110,7 +110,8 @@ fn read_line(
     Ok((WindowLog { puts, takes }, rest))
 }
 
-// The answers that letters tell; the letter `one` stands for true.
+// The answers that the letters of a trace's line tell: true for the letter `one` and false for another; none for a
+// stroke alone.
 fn answers_of(alloc: Global, letters: &[u8], one: u8) -> Result<Vec<bool>, Memory>
     ensures { IfOk result (λ answers. answers.items ≡ told_by one letters.now) }
 {

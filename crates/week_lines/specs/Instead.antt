@@ -10,35 +10,36 @@ use Rattle.plan_core.specs.declared.sink.SinkPlan.{SinkPlan}
 use Rattle.week_lines.specs.declared.above.Instead.{Instead}
 use Rattle.week_lines.specs.declared.above.Instead.TheVariants.{Silence, Next, Unknown}
 
--- an output or a buffer takes this source
+-- whether some sink, an output or the feed of a buffer, plays source `number`
 abbrev pub is_written : List SinkPlan → (number : ℕ) → Bool
 is_written sinks number = list_any (λ sink. nat_eq (sink_node sink) number) sinks
 
--- this source is a child of a node
+-- whether a node plays source `number`: it is one of its children
 abbrev pub plays : (number : ℕ) → Node → Bool
 plays number node = list_any (λ child. nat_eq child number) node.children
 
--- the nodes that play a source
+-- the nodes of a plan that have source `number` among their children
 abbrev pub players_of : List Node → (number : ℕ) → List Node
 players_of nodes number = filter (plays number) nodes
 
--- the first of these that is not this source
+-- the first of these children that is another source than `number`, if there is one
 abbrev pub first_other : (number : ℕ) → List ℕ → Option ℕ
 first_other number [] = None
 first_other number (child ∷ children) = if nat_eq child number then first_other number children else Some child
 
--- the first other child behind this one
+-- the child to which a fallback goes on from source `number`: the first other one that stands behind it
 abbrev pub child_behind : (number : ℕ) → List ℕ → Option ℕ
 child_behind number [] = None
 child_behind number (child ∷ children) =
     if nat_eq child number then first_other number children else child_behind number children
 
--- what plays, if a fallback goes on to a source with this operator
+-- what plays in a switch's place, if a fallback goes on to a source of this operator: silence for a blank, and
+-- otherwise its next source
 abbrev pub instead_by : Op → Instead
 instead_by (Blank track) = Silence
 instead_by _ = Next
 
--- what plays, if a fallback goes on to this node; not known without one
+-- what plays in a switch's place, if a fallback goes on to this node; not known where there is no node
 abbrev pub instead_found : Option Node → Instead
 instead_found None = Unknown
 instead_found (Some node) = instead_by node.op

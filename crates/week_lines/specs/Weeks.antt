@@ -18,24 +18,24 @@ use Rattle.week_lines.specs.Lines.{hole_line, sum_line, switch_text}
 use Rattle.week_lines.specs.declared.above.Instead.{Instead}
 use Rattle.week_lines.specs.declared.above.Instead.TheVariants.{Silence, Next, Unknown}
 
--- the line of the holes of a switch, if it has some
+-- the line about the holes of a switch, the spans of the week in which no case of it holds; nothing if it has none
 abbrev pub holes_text : (number : ℕ) → List Span → (daily : Bool) → Instead → (sensitive below : Bool) → List ℕ
 holes_text number [] daily instead sensitive below = []
 holes_text number (span ∷ spans) daily instead sensitive below =
     hole_line number (span ∷ spans) daily instead sensitive below
 
--- the front of the line of a case, which is counted from 1 there
+-- how a line about a case of a switch begins; cases are counted from 0 here, and from 1 in the text
 abbrev pub case_text : (number case : ℕ) → List ℕ
 case_text number case = switch_text number ++ (codes "case " ++ decimal (case + 1))
 
--- the line of a case that is never chosen
+-- the line about a case of a switch, if it is never chosen, and why; nothing for a case that is chosen at some time
 abbrev pub fate_text : (number case : ℕ) → Fate → List ℕ
 fate_text number case Chosen = []
 fate_text number case Hidden = case_text number case
     ++ codes " is never chosen: where it holds, an earlier case does that always plays\n"
 fate_text number case Never = case_text number case ++ codes " never holds\n"
 
--- the lines of the cases, the first of them being this one
+-- the lines about the cases of a switch that are never chosen; `case` is the number of the first of these
 abbrev pub fates_text : (number case : ℕ) → List Fate → List ℕ
 fates_text number case [] = []
 fates_text number case (fate ∷ fates) = fate_text number case fate ++ fates_text number (suc case) fates
@@ -58,13 +58,14 @@ IsOfSwitch plan mark number sensitive preds children text =
     (below : Bool) × ((below ≡ true) ↔ IsBelow plan.nodes number)
     × IsSwitchText number (instead_of plan number) sensitive below preds (map mark children) text
 
--- what is told of a source: nothing unless it is a switch
+-- this text is what is told of source `number`: nothing unless it is a switch
 abbrev pub IsOfSource : Plan → (mark : ℕ → Bool) → (number : ℕ) → Op → (children : List ℕ) → (text : List ℕ) → Type 0
 IsOfSource plan mark number (Switch sensitive preds) children text =
     IsOfSwitch plan mark number sensitive preds children text
 IsOfSource plan mark number _ children text = text ≡ []
 
--- what is told of each source, in their order
+-- this text is what is told of the switches of a plan, in the order of its sources; `mark` says whether a source never
+-- falls silent
 pub record AreLines (plan : Plan) (mark : ℕ → Bool) (text : List ℕ) : Type 0 where
   pub parts : List (List ℕ)
   pub size : length parts ≡ length plan.nodes
@@ -72,21 +73,24 @@ pub record AreLines (plan : Plan) (mark : ℕ → Bool) (text : List ℕ) : Type
       → IsOfSource plan mark number node.op node.children (get_or parts number [])
   pub joined : text ≡ concat parts
 
+-- whether what plays in the place of a switch is known to be silence
 abbrev pub is_silence : Instead → Bool
 is_silence Silence = true
 is_silence Next = false
 is_silence Unknown = false
 
--- a source is a switch none of whose cases holds at a second, and silence plays in its place
+-- whether a source with this operator is known to be silent at second `at` of the week: it is a switch, no case of it
+-- holds then, and silence plays in its place
 abbrev pub is_silent_by : Plan → (number : ℕ) → Op → (at : ℕ) → Bool
 is_silent_by plan number (Switch sensitive preds) at =
     is_silence (instead_of plan number) && not (some_case_holds preds at)
 is_silent_by plan number _ at = false
 
+-- whether source `number` of a plan is a switch that is known to be silent at second `at` of the week
 abbrev pub is_silent : Plan → (number at : ℕ) → Bool
 is_silent plan number at = option_map_or (λ node. is_silent_by plan number node.op at) (slice_get plan.nodes number) false
 
--- one of the first n sources is
+-- whether one of the first n sources of a plan is a switch that is known to be silent at second `at` of the week
 abbrev pub some_silent : Plan → (n at : ℕ) → Bool
 some_silent plan zero at = false
 some_silent plan (suc n) at = some_silent plan n at || is_silent plan n at

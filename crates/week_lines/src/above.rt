@@ -30,7 +30,7 @@ pub fn instead_of(plan: &Plan, number: usize) -> Instead
     instead_among(plan.nodes.as_slice(), number)
 }
 
-// Whether an output or a buffer takes this source.
+// Whether some sink, an output or the feed of a buffer, plays source `number`.
 fn is_written(sinks: &[SinkPlan], number: usize) -> bool
     ensures { result ≡ is_written sinks.now number }
 {
@@ -42,7 +42,7 @@ fn is_written(sinks: &[SinkPlan], number: usize) -> bool
     false
 }
 
-// The node that a sink takes.
+// The number of the node that a sink, an output or the feed of a buffer, plays.
 fn taken(sink: &SinkPlan) -> u32
     ensures { result ≡ sink_node sink.now }
 {
@@ -83,7 +83,8 @@ fn plays(children: &[u32], number: usize) -> bool
     false
 }
 
-// What plays in the place of source `number`, which `player` alone plays.
+// What plays in the place of source `number`, which `player` alone plays: the next child if that is a fallback; else
+// it is not known.
 fn instead_below(nodes: &[Node], number: usize, player: &Node) -> Instead
     ensures { result ≡ instead_below nodes.now number player.now.op player.now.children }
 {
@@ -103,7 +104,7 @@ fn next_of(nodes: &[Node], children: &[u32], number: usize) -> Instead
     }
 }
 
-// The first other child behind source `number`; nothing if it is the last.
+// The child to which a fallback goes on from source `number`: the first other one behind it; `None` if it is the last.
 fn child_behind(children: &[u32], number: usize) -> Option<u32>
     ensures { result ≡ child_behind number children.now }
 {
@@ -118,7 +119,8 @@ fn child_behind(children: &[u32], number: usize) -> Option<u32>
     None
 }
 
-// What source n is, as what plays in another one's place.
+// What a line says plays if a fallback goes on to source n: silence if that is a blank, and otherwise its next source;
+// not known where there is no such source.
 fn kind_of(nodes: &[Node], n: u32) -> Instead
     ensures { result ≡ instead_at nodes.now (Some n) }
 {
@@ -128,7 +130,8 @@ fn kind_of(nodes: &[Node], n: u32) -> Instead
     }
 }
 
-// What a node with this operator is, as what plays in another one's place.
+// What a line says plays if a fallback goes on to a source of this operator: silence if that is a blank, and otherwise
+// its next source.
 fn kind_by(op: &Op) -> Instead
     ensures { result ≡ instead_by op.now }
 {

@@ -54,7 +54,7 @@ fn is_crossfade(op: &Op) -> bool
     }
 }
 
-// Marks these children.
+// Marks these children of a source as lying below a crossfade.
 fn mark_all(below: &mut [bool], children: &[u32])
     ensures size { length below.new ≡ length below.old }
     ensures marked { (n : ℕ) → n < length below.old → get_or below.new n false
@@ -68,7 +68,7 @@ fn mark_all(below: &mut [bool], children: &[u32])
     }
 }
 
-/// The mark of a source, or `false` where there is none.
+/// Whether source n is marked in a list that has a mark for each source; `false` where there is no such source.
 pub fn is_marked(marks: &[bool], n: usize) -> bool
     ensures { result ≡ get_or marks.now n false }
 {

@@ -37,7 +37,7 @@ fn push_case(into: &mut Vec<u8>, number: usize, case: usize, fate: Fate) -> Resu
     }
 }
 
-// Appends the front of a case's line. Cases are counted from 1 there.
+// Appends how a line about a case of a switch begins: the numbers of both. Cases are counted from 1 there.
 fn push_case_number(into: &mut Vec<u8>, number: usize, case: usize) -> Result<(), Memory>
     requires { case < 2 ^ 63 }
     ensures { OnOk result (into.new.items ≡ into.old.items ++ case_text number case) }

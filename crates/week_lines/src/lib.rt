@@ -22,7 +22,8 @@ use std::alloc::Global;
 use switches::push_switches;
 use week_plan::{filled, seconds_told};
 
-/// The lines of a plan, whose marks say of each source whether it never falls silent.
+/// What is told of a plan's week, as text: the lines about its switches, and how long it is silent in all. `marks`
+/// says of each source whether it never falls silent.
 pub fn week(alloc: Global, plan: &Plan, marks: &[bool]) -> Result<Vec<u8>, Memory>
     requires { IsWellFormed plan.now }
     ensures { IfOk result (λ text. IsWeek plan.now (mark_at marks.now) text.items) }
@@ -32,7 +33,7 @@ pub fn week(alloc: Global, plan: &Plan, marks: &[bool]) -> Result<Vec<u8>, Memor
     Ok(text)
 }
 
-// Appends the lines of a plan.
+// Appends the lines about each switch of a plan, and then for how long in the week it is silent in all.
 fn push_plan(alloc: Global, into: &mut Vec<u8>, plan: &Plan, marks: &[bool]) -> Result<(), Memory>
     requires plan { IsWellFormed plan.now }
     requires empty { into.old.items ≡ [] }
@@ -44,7 +45,8 @@ fn push_plan(alloc: Global, into: &mut Vec<u8>, plan: &Plan, marks: &[bool]) -> 
     Ok(())
 }
 
-// Appends what is told of each source, and adds to `silent` the seconds of the week at which one of them is silent.
+// Appends what is told of each source, and adds to `silent`, a table of bits, the seconds of the week at which one of
+// them is silent.
 fn push_lines(
     alloc: Global,
     into: &mut Vec<u8>,

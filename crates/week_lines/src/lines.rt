@@ -9,7 +9,7 @@ use liq_base::Memory;
 use std::alloc::Global;
 use week_plan::{Span, push_plain, push_when};
 
-/// Appends the number of a switch.
+/// Appends how a line about a switch begins: the word `switch`, its number and a colon.
 pub fn push_switch(into: &mut Vec<u8>, number: usize) -> Result<(), Memory>
     ensures { OnOk result (into.new.items ≡ into.old.items ++ switch_text number) }
 {
@@ -17,7 +17,7 @@ pub fn push_switch(into: &mut Vec<u8>, number: usize) -> Result<(), Memory>
     push_plain(into, b": ")
 }
 
-/// Appends a text and a number.
+/// Appends a text and then a number in decimal.
 pub fn push_number(into: &mut Vec<u8>, text: &[u8], number: u64) -> Result<(), Memory>
     ensures { OnOk result (into.new.items ≡ into.old.items ++ (text.now ++ decimal number)) }
 {
@@ -26,7 +26,8 @@ pub fn push_number(into: &mut Vec<u8>, text: &[u8], number: u64) -> Result<(), M
     Ok(())
 }
 
-/// Appends the line of a switch whose holes are these spans.
+/// Appends the line about the holes of a switch: the spans of the week in which no case of it holds, and what plays
+/// then. `daily` tells that they are the same each day.
 pub fn push_hole(
     alloc: Global,
     into: &mut Vec<u8>,
@@ -50,7 +51,7 @@ pub fn push_hole(
     Ok(())
 }
 
-// What a line says of what plays in the place of a switch.
+// How a line tells what plays in the place of a switch while no case of it holds.
 fn words_of(instead: Instead) -> &'static [u8]
     ensures { result.now ≡ instead_text instead }
 {
@@ -72,7 +73,7 @@ fn push_track(into: &mut Vec<u8>, sensitive: bool) -> Result<(), Memory>
     }
 }
 
-// Appends, if a crossfade is above, that its clock counts.
+// Appends, if the switch lies below a crossfade, that its times are those of the crossfade's clock.
 fn push_clock(into: &mut Vec<u8>, below: bool) -> Result<(), Memory>
     ensures { OnOk result (into.new.items ≡ into.old.items ++ below_text below) }
 {

@@ -32,7 +32,8 @@ pub struct Switch {
     pub below: bool,
 }
 
-/// Appends what is told of each source, in their order, and adds to a table the seconds at which one is silent.
+/// Appends what is told of each switch, in the order of sources, and adds to `silent` the seconds of the week at which
+/// one is silent.
 pub fn push_switches(
     alloc: Global,
     into: &mut Vec<u8>,
@@ -53,8 +54,8 @@ pub fn push_switches(
     Ok(())
 }
 
-// Appends what is told of each source, and adds the seconds at which one is silent. What was told of switches is kept
-// in `looked`, since a later one may have the same cases.
+// Appends what is told of each switch, and adds to `silent` the seconds at which one is silent. What was found of
+// switches is held in `kept`, since a later one may have the same cases.
 fn push_each<'a>(
     alloc: Global,
     into: &mut Vec<u8>,
@@ -89,6 +90,8 @@ fn push_each<'a>(
     Ok(())
 }
 
+// Appends what is told of source `number`, whose node this is, if it is a switch, and adds to `silent` the seconds at
+// which it is silent.
 fn push_node<'a>(
     alloc: Global,
     into: &mut Vec<u8>,
@@ -135,7 +138,8 @@ fn push_node<'a>(
     }
 }
 
-// Appends what is told of a switch with these cases.
+// Appends what is told of a switch with these cases, and adds its silence: what is found of the cases is looked up in
+// `kept`, or computed and held there.
 fn push_looked<'a>(
     alloc: Global,
     into: &mut Vec<u8>,
@@ -163,7 +167,7 @@ fn push_looked<'a>(
     Ok(())
 }
 
-// Of each child whether it never falls silent.
+// Of each child of a switch whether it never falls silent, by the marks of all sources.
 fn sure_of(alloc: Global, marks: &[bool], children: &[u32]) -> Result<Vec<bool>, Memory>
     ensures { IfOk result (λ sure. sure.items ≡ map (mark_at marks.now) children.now) }
 {
@@ -174,7 +178,8 @@ fn sure_of(alloc: Global, marks: &[bool], children: &[u32]) -> Result<Vec<bool>,
     Ok(sure)
 }
 
-// Appends what was seen of a switch.
+// Appends the lines of a switch by what was found of its cases, the holes and the cases never chosen, and adds the
+// holes to `silent` if silence plays then.
 fn push_seen(
     alloc: Global,
     into: &mut Vec<u8>,
@@ -199,7 +204,7 @@ fn push_seen(
     Ok(())
 }
 
-// Appends the line of the holes of a switch, if it has some.
+// Appends the line about the holes of a switch, the spans of the week in which no case of it holds, if it has some.
 fn push_holes(
     alloc: Global,
     into: &mut Vec<u8>,
@@ -225,7 +230,8 @@ fn push_holes(
     }
 }
 
-// Adds the holes of a switch, where they are silence.
+// Adds the holes of a switch, the seconds of the week at which no case of it holds, to `silent`, if silence plays in
+// its place.
 fn add_silence(silent: &mut [u64], instead: Instead, holes: &[u64])
     requires silent { IsTable silent.old }
     requires holes { IsTable holes.now }
