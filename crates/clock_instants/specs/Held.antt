@@ -19,19 +19,20 @@ use Rattle.clock_nodes.specs.Nodes.{lies_at}
 abbrev pub given_by : (demanded : Bool) → Part → Part
 given_by demanded part = if demanded && is_some part.slot then part else silent
 
--- whether node i gave; `held` is what each node gave at the latest instant of its clock
+-- whether node i gave a cell at the latest instant of its clock; `held` has what each node gave there
 abbrev pub gave_at : List Part → ℕ → Bool
 gave_at held i = is_some (part_at held i).slot
 
--- whether cells pass through node i
+-- whether node i is a crossfade through which its child's cells pass one for one: it holds one overlap of a track,
+-- and each cell more settles one item that it plays
 abbrev pub passes_at : List NodeState → ℕ → Bool
 passes_at states i = option_map_or passes (slice_get states i) false
 
--- whether node i gave at an instant, and cells pass through it
+-- whether node i gave at this instant, and is a crossfade through which its child's cells pass one for one
 abbrev pub goes_through : Moment → List NodeState → ℕ → Bool
 goes_through moment states i = gives moment i && passes_at states i
 
--- `held` has what each node of a clock gave at the instant after this past
+-- `held` has what each node of a clock gave at the instant after this past: its part, or silence where it gave nothing
 pub record IsHeld (setting : Setting) (sub : ℕ → ℕ
     → List Slot) (clock : NodeClock) (past : List Moment) (held : List Part) : Type 0 where
   pub each : (i : ℕ) → i < length setting.plan.nodes → lies_in setting clock i ≡ true

@@ -27,17 +27,18 @@ use Rattle.clock_instants.specs.Resting.{AreReadTo}
 use Rattle.clock_nodes.specs.Scenes.{IsScene, setting_over}
 use Rattle.clock_nodes.specs.States.{AllFit, ClockStands}
 
--- node i has a lane on each side, with room for any stretch
+-- node i has room on each side for the samples of a stretch, the instants that are made at once
 pub record HasLanes (left right : Lanes) (i : ℕ) : Type 0 where
   pub on_left : HasLane left i
   pub on_right : HasLane right i
 
--- there is spare room for any stretch on each side
+-- the spare room of each side, in which a node's samples are made, holds any stretch: at most 2048 instants at once
 pub record IsSpare (spare : Spare) : Type 0 where
   pub on_left : 2048 ≤ length spare.left.items
   pub on_right : 2048 ≤ length spare.right.items
 
--- room for the stretches of so many nodes; between two stretches the part of each node is silent
+-- the room has a place for each of so many nodes, and spare room; between two stretches (instants made at once) no
+-- node has a part in it
 pub record HasStretchRoom (nodes : ℕ) (room : StretchRoom) : Type 0 where
   pub in_left : length room.left.items ≡ nodes
   pub in_right : length room.right.items ≡ nodes
@@ -47,14 +48,14 @@ pub record HasStretchRoom (nodes : ℕ) (room : StretchRoom) : Type 0 where
   pub in_parts : length room.parts.items ≡ nodes
   pub clear : (j : ℕ) → part_at room.parts.items j ≡ silent
 
--- there are `count` lanes, one for each of the first nodes; it has room for any stretch unless the node's state is idle
+-- of the first `count` nodes each has a lane, its list of samples, with room for any stretch unless its state is idle
 pub record HaveLanes (states : List NodeState) (count : ℕ) (lanes : Lanes) : Type 0 where
   pub size : length lanes ≡ count
   pub each : (i : ℕ) (state : NodeState) → i < count → slice_get states i ≡ Some state → (state ≡ Idle → ⊥)
       → HasLane lanes i
 
--- the next `count` cells or items of each node of a clock that gave are there, and none begins a track; crossfades
--- through which cells pass are left out
+-- each node of a clock that gave can play `count` instants more from what it has: its next cells or items are there,
+-- and none begins a track; a crossfade through which cells pass gets them from its child
 pub record AllLieAhead (scene : Scene) (clock : NodeClock) (held : List Part) (states : List NodeState)
     (count : ℕ) : Type 0 where
   pub each : (i : ℕ) (state : NodeState) → i < length scene.clocks.now → lies_at scene.clocks.now clock i ≡ true
@@ -100,8 +101,8 @@ pub record IsGoing (setting : Setting) (sub : ℕ → ℕ
   pub laned : (i : ℕ) (node : Node) → IsNode setting clock i node → HasLanes left right i
   pub supplied : AreSupplied setting sub clock past many filled held states left right
 
--- by node, how many instants a reader has begun, or slots a crossfade was given, after `many` instants more of a clock:
--- as many more for its readers, and for its crossfades through which cells pass
+-- how many instants a reader, or slots a crossfade, has got (`filled`, by node) after `many` instants more of a clock:
+-- as many more for its readers, and for its crossfades through which cells pass; no more for any other node
 abbrev pub begun_on : Setting → NodeClock → (through : ℕ → Bool) → (many : ℕ) → (filled : ℕ → ℕ) → ℕ → ℕ
 begun_on setting clock through many filled i = filled_on (lies_in setting clock i
     && (through i || reads_at setting i)) many (filled i)
@@ -124,7 +125,8 @@ IsSupplied history many filled k held sides =
     LaneFills (history.sub k) filled many (title_of (part_at held child).slot)
     (samples_of sides.left child many) (samples_of sides.right child many)
 
--- the samples of node k are those that it plays in the `many` instants after the next one
+-- the samples of node k on both sides are those that it plays in the `many` instants after the next one of this
+-- history, the instants that its clock made so far
 abbrev pub HasMadeLane : History → (many k : ℕ) → Sides Lanes → Type 0
 HasMadeLane history many k sides = IsLaneOf history k many
     (samples_of sides.left k many) (samples_of sides.right k many)
@@ -163,13 +165,13 @@ pub record AreAtOnce (many : ℕ) : Type 0 where
   pub some : 0 < many
   pub short : many ≤ 2048
 
--- the first `many` samples of node i stayed as they were
+-- the first `many` samples of node i are on both sides the same as before
 pub record HasKeptSamples (left_old right_old left right : Lanes) (many i : ℕ) : Type 0 where
   pub on_left : samples_of left i many ≡ samples_of left_old i many
   pub on_right : samples_of right i many ≡ samples_of right_old i many
 
--- for so many nodes there is what they gave, a part each, which is silent, and a lane on each side; and there is spare
--- room
+-- there is room to make a stretch of so many nodes: a place for what each gave (`held`), a silent part for each, its
+-- samples on each side, and spare room
 pub record HasRoomToRun (nodes : ℕ) (held parts : List Part) (left right : Lanes) (spare : Spare) : Type 0 where
   pub in_held : length held ≡ nodes
   pub in_parts : length parts ≡ nodes
@@ -187,7 +189,8 @@ pub record CanRunNodes (over : Scene) (nodes : ClockNodes) (clock : NodeClock) (
   pub fit : AllFit over states
   pub ahead : AllLieAhead over clock held states count
 
--- node i of a plan can make `many` instants at once, by the parts of all nodes: its state fits it
+-- node i of a plan can be asked for `many` instants at once: it is there, its state fits it, the number is no more
+-- than a stretch has, and `parts` has a part for each node
 pub record IsNodeToRun (over : Scene) (i many : ℕ) (parts : List Part) (state : NodeState) : Type 0 where
   pub scene : IsScene over
   pub within : i < length over.plan.now.nodes

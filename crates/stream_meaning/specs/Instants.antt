@@ -29,7 +29,7 @@ pub record Setting : Type 0 where
   pub start : ℕ
   pub answers : ℕ → List Answer
 
--- a setting, with other answers
+-- the setting with `answers` in the place of what its buffers answer
 abbrev pub answered : Setting → (ℕ → List Answer) → Setting
 answered setting answers = record {
   plan = setting.plan;
@@ -39,7 +39,7 @@ answered setting answers = record {
   answers = answers;
 }
 
--- a setting with these answers, and behind them any others
+-- the setting whose buffers answer first with `answers`, and behind them with `rest`
 abbrev pub with_rest : Setting → (answers rest : ℕ → List Answer) → Setting
 with_rest setting answers rest = answered setting (λ buffer. answers buffer ++ rest buffer)
 
@@ -66,7 +66,7 @@ second_at setting n = (setting.start + n / setting.plan.rate) % 604800
 abbrev pub prefill : Setting → ℕ → ℕ
 prefill setting buffer = option_map_or (λ plan. plan.pre) (slice_get setting.plan.buffers buffer) 0
 
--- a reader, and how many answers of its buffer it has taken
+-- the reader of a buffer, and how many of the buffer's answers it has taken so far
 pub record Reading : Type 0 where
   pub reader : Reader
   pub taken : ℕ
@@ -76,7 +76,7 @@ pub record Moment : Type 0 where
   pub parts : List Part
   pub demands : List Bool
 
--- what a node does that offers nothing and uses no child
+-- the part of a node, what it does at an instant, that offers no cell and uses no child
 abbrev pub silent : Part
 silent = record { slot = None; pick = None }
 
@@ -112,7 +112,8 @@ abbrev pub choices : List Moment → ℕ → ℕ
 choices [] i = 0
 choices (moment ∷ past) i = if gives moment i && is_first (offer moment i) then suc (choices past i) else choices past i
 
--- how many items crossfade i has gone on by: one at each instant at which it gave or offered nothing
+-- how many items crossfade i has gone on by, in the list of cells and gaps that it plays: one at each instant at
+-- which it gave or offered nothing
 abbrev pub position : List Moment → ℕ → ℕ
 position [] i = 0
 position (moment ∷ past) i = if gives moment i || not (is_some (offer moment i)) then suc (position past i)
@@ -125,7 +126,7 @@ new_reading setting buffer = record {
   taken = 0;
 }
 
--- the answers for a buffer which its reader has not taken
+-- the answers of a buffer that its reader has not taken yet
 abbrev pub next_answers : List Answer → Reading → List Answer
 next_answers answers reading = drop reading.taken answers
 
@@ -155,11 +156,12 @@ reading_after setting i buffer (moment ∷ past) =
 abbrev pub slots_at : List Part → List ℕ → List Slot
 slots_at parts children = map (λ child. (part_at parts child).slot) children
 
--- what a node does that offers this slot and uses no child
+-- the part of a node that offers this slot and picks no child
 abbrev pub unpicked : Slot → Part
 unpicked slot = record { slot = slot; pick = None }
 
--- what a node does that offers the cell which was picked, and uses its child; nothing where none was picked
+-- the part of a node that passes on the cell of the child that it picked, with that child's place; silence where it
+-- picked none
 abbrev pub picked_part : Option Picked → Part
 picked_part None = silent
 picked_part (Some picked) = record { slot = Some picked.cell; pick = Some picked.child }
@@ -232,7 +234,7 @@ demands_from roots i [] = []
 demands_from roots i (used ∷ uses) =
     let later = demands_from roots (suc i) uses in (roots i || is_used later uses i) ∷ later
 
--- the child of crossfade k
+-- the number of the one child of crossfade k, a node that lies in the crossfade's sub-clock; 0 without one
 abbrev pub crossfaded : List Node → ℕ → ℕ
 crossfaded nodes k = option_map_or (λ node. slice_index_or node.children 0 0) (slice_get nodes k) 0
 

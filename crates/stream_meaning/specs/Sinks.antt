@@ -56,13 +56,13 @@ abbrev pub ticks_bytes : Setting → (wide : Bool) → (i ticks : ℕ) → List 
 ticks_bytes setting wide i zero = []
 ticks_bytes setting wide i (suc ticks) = ticks_bytes setting wide i ticks ++ tick_bytes setting wide i ticks
 
--- how many of these slots are empty
+-- how many of these slots have no cell
 abbrev pub missing : List Slot → ℕ
 missing [] = 0
 missing (None ∷ slots) = suc (missing slots)
 missing (Some cell ∷ slots) = missing slots
 
--- the gaps in the first so many ticks of an output of node i
+-- how many instants of an output of node i were without a cell in its first so many ticks
 abbrev pub gaps : Setting → (i ticks : ℕ) → ℕ
 gaps setting i zero = 0
 gaps setting i (suc ticks) = gaps setting i ticks + missing (tick_slots setting i ticks)

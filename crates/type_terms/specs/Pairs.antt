@@ -16,7 +16,7 @@ abbrev pub AllEqual : Assignment → List (Term × Term) → Type 0
 AllEqual a [] = Unit {0}
 AllEqual a (p ∷ ps) = (meaning a p.0 ≡ meaning a p.1) × AllEqual a ps
 
--- the variables of each pair are there
+-- each type of each pair has only variables of the substitution s
 abbrev pub AllOver : Table → List (Term × Term) → Type 0
 AllOver s [] = Unit {0}
 AllOver s (p ∷ ps) = (IsOver s p.0 × IsOver s p.1) × AllOver s ps
@@ -38,7 +38,7 @@ abbrev pub part_count : Terms → ℕ
 part_count no_terms = 0
 part_count (one_more t ts) = suc (part_count ts)
 
--- two lists, or two tuples of one length
+-- the two types can be compared part by part: both are lists, or both are tuples of one length
 abbrev pub IsSplit : Term → Term → Type 0
 IsSplit (list_term t) (list_term u) = Unit {0}
 IsSplit (tuple_term ts) (tuple_term us) = part_count ts ≡ part_count us

@@ -16,7 +16,7 @@ IsFreeKind s k = (k < length s.kinds) × (kind_at s.kinds k ≡ None)
 abbrev pub IsUnbound : Table → Term → Type 0
 IsUnbound s t = InTerm (IsFreeType s) (IsFreeKind s) t
 
--- u has free variables alone, and means what t means at each solution
+-- u is the type t with all bindings put in: its variables are all free, and it is the same type as t at each solution
 pub record IsResolved (s : Table) (t u : Term) : Type 0 where
   pub unbound : IsUnbound s u
   pub same : (a : Assignment) → Solves a s → meaning a u ≡ meaning a t

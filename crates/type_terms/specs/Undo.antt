@@ -9,7 +9,8 @@ abbrev pub Among : ℕ → List ℕ → Type 0
 Among k [] = ⊥
 Among k (x ∷ xs) = (k ≡ x) ⊎ Among k xs
 
--- the old variables are the new ones, where those of the trail are free
+-- the trail, a list of type variables, leads back from the new variables to the old ones: they differ only in
+-- variables of the trail, which were free before
 pub record IsTrail (trail : List ℕ) (old new : List Variable) : Type 0 where
   pub same_length : length new ≡ length old
   pub same_numbers : (k : ℕ) → number_at new k ≡ number_at old k
@@ -17,7 +18,8 @@ pub record IsTrail (trail : List ℕ) (old new : List Variable) : Type 0 where
   pub free : (k : ℕ) → Among k trail → bound_at old k ≡ None
   pub inside : (k : ℕ) → Among k trail → k < length old
 
--- the old kind variables are the new ones, where those of the trail are free
+-- the trail, a list of kind variables, leads back from the new ones to the old ones: they differ only in variables of
+-- the trail, which were free before
 pub record IsKindTrail (trail : List ℕ) (old new : List (Option KindTerm)) : Type 0 where
   pub same_length : length new ≡ length old
   pub bound : (k : ℕ) → (kind_at new k ≡ kind_at old k) ⊎ Among k trail
