@@ -22,12 +22,13 @@ use Rattle.builtin_calls.specs.Builtins.{builtin}
 use Rattle.eval_meaning.specs.Preds.{or_pred}
 use Rattle.script_values.specs.Slots.{Argument, SlotValue, value_at_token}
 
--- what a call of the def at a token makes, with these open kinds and arguments
+-- what a call of a def makes of the state: by the token of the def's name, the kinds that its open kinds have in this
+-- call, and the arguments
 abbrev pub Caller : Type 0
 Caller = ℕ → List Kind → List Argument → Machine → Outcome
 
--- what is known where an expression stands: what names stand for, the values of bindings, the open kinds of the def
--- around, and what a call of a def makes
+-- all that the value of an expression depends on besides the state: what names stand for, the values of bindings, the
+-- kinds that the open kinds of the def around have, and what a call of a def makes
 pub record Surroundings : Type 0 where
   pub uses : List Use
   pub slots : List SlotValue
@@ -75,11 +76,12 @@ format at (Some n) =
       ]
     ]
 
--- an operator on the value v to its left and on what the operand to its right gave; it counts 1
+-- an operator applied to the value v on its left and to what the operand on its right gave; it counts as one step of
+-- work, and the first fault ends it
 abbrev pub operator_applied : (Value → Value → Result Value Stop) → Value → Outcome → Outcome
 operator_applied operator v right = right >>= λ x. count_work 1 x.1 >>= λ c. operator v x.0 >>= λ u. Ok (u, c)
 
--- Operands are evaluated from the left. Work is counted when a Prim begins, and when an operator is about to be
+-- Operands are evaluated from the left. Work is counted when an operand begins, and when an operator is about to be
 -- applied.
 unfoldable mutual
   -- the value of an expression, or of a number behind a minus
@@ -159,7 +161,7 @@ unfoldable mutual
   operand s (Braces at pred) m = count_work 1 m >>= λ c. Ok (value.PredValue (or_pred pred), c)
   operand s (PlaceFormat at bits) m = count_work 1 m >>= λ c. format at bits >>= λ v. Ok (v, c)
 
-  -- the values vs and behind them those of further parts
+  -- the values of further parts of a tuple or list, evaluated from the left: vs are those that were evaluated already
   pub fulls : Surroundings → Tree (Many AFull) → List Value → Machine → Result (List Value × Machine) Stop
   fulls s none vs m = Ok (vs, m)
   fulls s (more f rest) vs m = full s f m >>= λ x. fulls s rest (vs ++ x.0 ∷ []) x.1
@@ -173,22 +175,23 @@ unfoldable mutual
   pub call : Surroundings → Tree ACall → Machine → Outcome
   call s (NamedCall at name args) m = arguments s args [] m >>= λ x. applied s (use_at at s.uses) at x.0 x.1
 
-  -- the arguments `given` and behind them those of further parts
+  -- the arguments of a call, evaluated from the left: `given` are those that were evaluated already
   pub arguments : Surroundings → Tree (Many AnArg) → List Argument → Machine → Result (List Argument × Machine) Stop
   arguments s none given m = Ok (given, m)
   arguments s (more a rest) given m = argued s a m >>= λ x. arguments s rest (given ++ x.0 ∷ []) x.1
 
-  -- an argument with its label
+  -- the value of one argument of a call, with its label
   pub argued : Surroundings → Tree AnArg → Machine → Result (Argument × Machine) Stop
   argued s (Arg at label f) m = full s f m >>= λ x. Ok ((label, x.0), x.1)
 
--- values in parentheses, behind the count of 1: none is the value of `()`, one is itself, several are a tuple
+-- the value of an operand in parentheses: without parts the value of `()`, with one part its value, with several a
+-- tuple of theirs; the step of work for the operand was counted before
 abbrev pub grouped : Surroundings → Tree (Many AFull) → Machine → Outcome
 grouped s none m = Ok (value.UnitValue, m)
 grouped s (more f none) m = full s f m
 grouped s (more f (more g rest)) m = fulls s (more f (more g rest)) [] m >>= λ z. Ok (value.TupleValue (many z.0), z.1)
 
--- a list of values, behind the count of 1
+-- the list of the values of these parts; the step of work for the operand was counted before
 abbrev pub all_of : Surroundings → Tree (Many AFull) → Machine → Outcome
 all_of s parts m = fulls s parts [] m >>= λ z. Ok (value.ListValue (many z.0), z.1)
 
@@ -218,7 +221,7 @@ unfoldable pub parameters : Surroundings → Tree (Many AParam) → List Argumen
 parameters s none given slots m = Ok (slots, m)
 parameters s (more p ps) given slots m = parameter s p given m >>= λ x. parameters s ps x.0.1 (slots ++ x.0.0 ∷ []) x.1
 
--- the same surroundings with these bindings before the others
+-- the surroundings s, in which these values of bindings hide older ones of the same names
 abbrev pub with_slots : Surroundings → List SlotValue → Surroundings
 with_slots s slots = record s { slots = slots ++ s.slots }
 
@@ -232,18 +235,20 @@ unfoldable pub inners : Surroundings → Tree (Many AnInner) → List SlotValue 
 inners s none slots m = Ok (slots, m)
 inners s (more i is) slots m = inner s i slots m >>= λ x. inners s is (slots ++ x.0 ∷ []) x.1
 
--- the result of a def for a call with these arguments, among the names before the def
+-- the value of a call of a def with these arguments: its parameters are bound to them, then its inner bindings are
+-- made, and then its result is evaluated; names around it are those before the def
 unfoldable pub body : Surroundings → Tree ADef → List Argument → Machine → Outcome
 body s (Def at name params equals bindings result) given m =
     parameters s params given [] m >>= λ x. inners s bindings x.0 x.1 >>= λ y. expr (with_slots s y.0) result y.1
 
--- what no call changes: the script, what its names stand for, and the bindings of the statements before
+-- what stays the same in all calls of defs within a statement: the script, what its names stand for, and the values
+-- of the statements before
 pub record World : Type 0 where
   pub script : Script
   pub uses : List Use
   pub globals : List SlotValue
 
--- the result of a def for a call with these arguments; stuck without a def
+-- the value of a call of a def, if there is one, with these arguments; stuck without a def
 abbrev pub run : Surroundings → Option (Tree ADef) → List Argument → Machine → Outcome
 run s None given m = Err Stuck
 run s (Some d) given m = body s d given m

@@ -9,7 +9,7 @@ abbrev pub any_of : Predicate → pred.PredicateTree pred.PredicateParts → Pre
 any_of p pred.no_parts = p
 any_of p (pred.first_part q qs) = pred.Any (pred.first_part p (pred.first_part q qs))
 
--- a predicate alone, or with further parts one that holds where all of them hold
+-- a predicate of time that holds where p and all further parts hold; p alone without further parts
 abbrev pub all_of : Predicate → pred.PredicateTree pred.PredicateParts → Predicate
 all_of p pred.no_parts = p
 all_of p (pred.first_part q qs) = pred.All (pred.first_part p (pred.first_part q qs))

@@ -14,7 +14,7 @@ use Rattle.eval_meaning.specs.BuiltinSafety.{AreA, Grows, IsA, Of, Safe}
 use Rattle.eval_meaning.specs.Meaning.{Surroundings}
 use Rattle.eval_meaning.specs.Scripts.{Ending}
 
--- each binding that has a type also has a value of this type over the nodes ns
+-- evaluation has a value for each binding that typing has a type for, and it is of this type over the nodes ns
 abbrev pub HaveValues : List Node → TypesByToken → List SlotValue → Type 0
 HaveValues ns types slots = (at : ℕ) (g : Ground) → type_at at types ≡ Some g
     → (v : Value) × (value_at_token at slots ≡ Some v) × IsA ns v g

@@ -2,16 +2,16 @@
 use Rattle.std.specs.Prelude.{ℕ, ◌*◌, ℤ, pos, negsuc, ◌+ℤ◌, ◌*ℤ◌, ◌≤ℤ◌, int_div, neg_ℤ}
 use Rattle.std.specs.Int.{int_max, int_min}
 
--- a number, cut to the range of a sample
+-- a number cut to the range of a 16-bit sample, -32768 to 32767
 abbrev pub clamped : ℤ → ℤ
 clamped number = int_max (negsuc 32767) (int_min number (pos 32767))
 
--- a number that may be the sum of this many samples
+-- the number lies in the range that a sum of `parts` 16-bit samples can have
 pub record IsSumOf (parts : ℕ) (sum : ℤ) : Type 0 where
   pub low : neg_ℤ (pos (32768 * parts)) ≤ℤ sum
   pub high : sum ≤ℤ pos (32767 * parts)
 
--- the mean of `parts` samples by their sum, rounded toward zero
+-- the mean of `parts` samples that have this sum, rounded toward zero
 abbrev pub mean_of : ℤ → ℕ → ℤ
 mean_of sum parts = int_div sum (pos parts)
 

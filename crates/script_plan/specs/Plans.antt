@@ -26,7 +26,7 @@ pub record Spells (text : List ℕ) (script : Script) : Type 0 where
   pub placed : IsPlaced 0 script
   pub shallow : IsShallow (kinds tokens)
 
--- the text spells this script, whose names stand for this in a typing
+-- the text spells this script, and typing gives its names these meanings, its uses
 pub record Types (text : List ℕ) (script : Script) (uses : List Use) : Type 0 where
   pub spelled : Spells text script
   pub typed : IsTyped script uses

@@ -49,7 +49,8 @@ pub record EndsBy (script : Script) (f : EvalFault) : Type 0 where
   pub typed : IsTyped script uses
   pub told : evaluation script uses ≡ Err (Some f)
 
--- what the typing of a script may answer in place of one: its fault, or want of memory
+-- what the stage of typing may answer of a script in place of its uses: the script's fault of types, or want of
+-- memory
 abbrev pub IsOfTyping : Script → ScriptFault → Type 0
 IsOfTyping script (fault.Lex f) = ⊥
 IsOfTyping script (fault.Parse f) = ⊥
@@ -57,8 +58,8 @@ IsOfTyping script (fault.Type f) = (f ≢ type_fault.Memory) × IsTypeFault scri
 IsOfTyping script (fault.Eval f) = ⊥
 IsOfTyping script fault.Memory = ⊤
 
--- what the evaluation of a script whose names stand for this may answer in place of a plan: its fault, or want of
--- memory
+-- what the stage of evaluation may answer of a script with these uses, in place of a plan: the fault with which it
+-- ends, or want of memory
 abbrev pub IsOfEvaluation : Script → List Use → ScriptFault → Type 0
 IsOfEvaluation script uses (fault.Lex f) = ⊥
 IsOfEvaluation script uses (fault.Parse f) = ⊥

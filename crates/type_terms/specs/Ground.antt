@@ -28,7 +28,7 @@ IsNumberBase Int = Unit {0}
 IsNumberBase Decimal = Unit {0}
 IsNumberBase _ = ⊥
 
--- what a number variable can stand for
+-- the type is a number type, int or decimal, which alone a number variable can stand for
 abbrev pub IsNumber : Ground → Type 0
 IsNumber (base_type b) = IsNumberBase b
 IsNumber _ = ⊥

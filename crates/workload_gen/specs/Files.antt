@@ -15,20 +15,22 @@ File = List ℕ × List ℕ
 abbrev pub file_of : String Global × Vec ℕ Global → File
 file_of file = (string_bytes file.0, file.1.items)
 
--- the sample of a word, from -10000 to 10000
+-- the sample, from -10000 to 10000, that a word (a random number) stands for
 abbrev pub sample_of : (word : ℕ) → ℤ
 sample_of word = pos (word % 20001) -ℤ pos 10000
 
--- how many samples an audio file has, from 1 to 4000, by the word at which it begins
+-- how many samples an audio file has, from 1 to 4000, by its first word: `begin` is that word's place among the
+-- random numbers of the seed
 abbrev pub length_at : (seed begin : ℕ) → ℕ
 length_at seed begin = 1 + word seed begin % 4000
 
--- the word at which audio file i begins: each takes one for its length, and one for each sample
+-- the place, among the random numbers of the seed, of the first word of audio file i: each file takes one word for
+-- its length, and one for each sample
 unfoldable pub begin_of : (seed i : ℕ) → ℕ
 begin_of seed zero = 0
 begin_of seed (suc i) = begin_of seed i + 1 + length_at seed (begin_of seed i)
 
--- the bytes of so many samples, from word `from` on
+-- the bytes of `count` samples, drawn from the random numbers of the seed from place `from` on
 abbrev pub drawn_bytes : (seed from count : ℕ) → List ℕ
 drawn_bytes seed from zero = []
 drawn_bytes seed from (suc count) = drawn_bytes seed from count ++ sample_bytes (sample_of (word seed (from + count)))
@@ -45,7 +47,8 @@ samples_of seed i = map (sample_at seed i) (range_with_len 0 (length_at seed (be
 abbrev pub track_name : (i : ℕ) → List ℕ
 track_name i = codes "t" ++ decimal i ++ codes ".wav"
 
--- the audio file whose words begin with this one: mono, 8000 samples a second
+-- the bytes of the audio file whose first word is at place `begin` of the seed's random numbers: a header, and drawn
+-- samples; mono, 8000 samples a second
 abbrev pub track_bytes : (seed begin : ℕ) → List ℕ
 track_bytes seed begin = header_bytes Mono 8000 (length_at seed begin)
     ++ drawn_bytes seed (begin + 1) (length_at seed begin)
