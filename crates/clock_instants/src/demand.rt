@@ -98,7 +98,7 @@ fn demand_picked(children: &[u32], parts: &[Part], pick: Option<u32>, demanded: 
     }
 }
 
-// Demands the children that offer a cell.
+// Demands all children that offer a cell: sets them in `demanded`.
 fn demand_offering(children: &[u32], parts: &[Part], demanded: &mut [bool])
     requires in_demanded { All (λ child. child < length demanded.old) children.now }
     requires in_parts { All (λ child. child < length parts.now) children.now }
@@ -113,7 +113,7 @@ fn demand_offering(children: &[u32], parts: &[Part], demanded: &mut [bool])
     }
 }
 
-// Demands the children that a demanded node uses.
+// Demands the children that a demanded node uses: sets them in `demanded`.
 fn demand_used(
     demand: Demand,
     children: &[u32],

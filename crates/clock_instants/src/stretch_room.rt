@@ -104,7 +104,8 @@ impl StretchRoom {
     }
 }
 
-// A lane for each node that is not idle.
+// Room for the samples of one side: a lane (a list of samples) for each node, with zeros for any stretch, and empty
+// where the node is idle.
 fn lanes_of(alloc: Global, states: &[NodeState]) -> Result<Vec<Vec<i16>>, Memory>
     ensures { IfOk result (λ lanes. HaveLanes states.now (length states.now) lanes.items) }
 {

@@ -171,7 +171,8 @@ unfoldable mutual
   choice s (If at c t e) m = full s c m >>= λ x. truth_of x.0 >>= λ b. elim b
       [ true ↦ full s t x.1 | false ↦ full s e x.1 ]
 
-  -- arguments are evaluated as written
+  -- the value of a call: its arguments are evaluated in the order in which they are written, and then what its name
+  -- stands for is applied to them
   pub call : Surroundings → Tree ACall → Machine → Outcome
   call s (NamedCall at name args) m = arguments s args [] m >>= λ x. applied s (use_at at s.uses) at x.0 x.1
 
@@ -221,7 +222,7 @@ unfoldable pub parameters : Surroundings → Tree (Many AParam) → List Argumen
 parameters s none given slots m = Ok (slots, m)
 parameters s (more p ps) given slots m = parameter s p given m >>= λ x. parameters s ps x.0.1 (slots ++ x.0.0 ∷ []) x.1
 
--- the surroundings s, in which these values of bindings hide older ones of the same names
+-- the surroundings s, with these values of bindings, each by its token, before those that were there
 abbrev pub with_slots : Surroundings → List SlotValue → Surroundings
 with_slots s slots = record s { slots = slots ++ s.slots }
 

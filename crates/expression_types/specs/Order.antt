@@ -69,7 +69,8 @@ kinds_count ds (Some (target.Builtin b)) = Some (signature b).kinds
 abbrev pub said_at : Names → ℕ → Said
 said_at ns t = (t, (env_of ns).targets t, kinds_count ns.defs.now ((env_of ns).targets t))
 
--- the uses at these tokens were added to the old ones
+-- the list of uses grew by those of the names at these tokens, in this order, each with what its name means and as
+-- many kinds as that has
 abbrev pub AreAdded : Names → List ℕ → List Found → List Found → Type 0
 AreAdded ns ts old new = map said_of new ≡ map said_of old ++ map (said_at ns) ts
 

@@ -44,7 +44,7 @@ abbrev pub meaning_at : ℕ → Option Target → List Meaning
 meaning_at at None = []
 meaning_at at (Some t) = (at, Some t) ∷ []
 
--- what is noted, with one more name that is used
+-- what was found of names so far, with one more use of a name: its meaning, or its faults
 abbrev pub with_name : Noted → Name → Noted
 with_name n x = record {
   found = n.found ++ meaning_at x.at (target_of x.meant);

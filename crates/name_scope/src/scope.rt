@@ -42,7 +42,7 @@ impl<'a> Scope<'a> {
     ghost use Rattle.typing_rules.specs.Scoping.{bound as the_bound};
     ghost use Rattle.name_scope.specs.Seen.{seen_bound, in_scope};
 
-    /// No names. It takes no memory.
+    /// A scope in which no name is bound. It takes no memory.
     pub fn new(alloc: Global) -> Scope<'a>
         ensures empty { in_scope result ≡ [] }
     {
