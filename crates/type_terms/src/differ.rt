@@ -144,7 +144,8 @@ pub fn differ<'a>(
     Ok(difference)
 }
 
-/// What has to be bound to make two kinds of sources equal: nothing, one of two variables, or nothing can.
+/// What has to be bound to make two kinds of sources equal: nothing where they are the same, or a kind variable; a
+/// clash where no binding does it.
 fn differ_kinds<'a>(kinds: &[Option<KindTerm>], left: KindTerm, right: KindTerm) -> Difference<'a>
     requires falls { FallsByNumber kinds.now }
     requires left { InKind (λ n. n < length kinds.now) left }
