@@ -28,19 +28,19 @@ abbrev pub IsUnder : List NodeClock → NodeClock → (rank i : ℕ) → Type 0
 IsUnder clocks clock zero i = slice_index_or clocks i (Main 0) ≡ clock
 IsUnder clocks clock (suc rank) i = (k : ℕ) × (slice_index_or clocks i (Main 0) ≡ Sub k) × IsUnder clocks clock rank k
 
--- a node in a clock or below it reads a buffer
+-- a clock, or a sub-clock below it, has a reader: a node that plays what was put to a buffer
 pub record HasReader (plan : Plan) (clocks : List NodeClock) (clock : NodeClock) : Type 0 where
   pub rank : ℕ
   pub i : ℕ
   pub under : IsUnder clocks clock rank i
   pub reader : IsReader plan i
 
--- each reader of a plan reads one of `buffers` buffers
+-- each reader of a plan reads one of the first `buffers` buffers, so that its buffer is there
 pub record ReadersAreIn (plan : Plan) (buffers : ℕ) : Type 0 where
   pub each : (i buffer : ℕ) (node : Node) → slice_get plan.nodes i ≡ Some node → node.op ≡ Buffer buffer
       → buffer < buffers
 
--- no buffer has two readers
+-- no buffer has two readers: two nodes that read the same buffer are one
 pub record HasOwnReaders (setting : Setting) : Type 0 where
   pub each : (i j buffer : ℕ) (one other : Node) → slice_get setting.plan.nodes i ≡ Some one
       → slice_get setting.plan.nodes j ≡ Some other

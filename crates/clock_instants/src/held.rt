@@ -25,7 +25,7 @@ fn child_of(nodes: &[Node], k: usize) -> u32
     }
 }
 
-// The first of some numbers, or 0.
+// The first of a node's children, by their numbers, or 0 without any.
 fn first_of(numbers: &[u32]) -> u32
     ensures { result ≡ slice_index_or numbers.now 0 0 }
 {

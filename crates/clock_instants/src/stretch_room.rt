@@ -44,7 +44,7 @@ pub struct Spare {
 }
 
 impl Spare {
-    /// Room for any stretch. No later call takes memory.
+    /// Room for the samples of one node in any stretch (instants made at once). No later call takes memory.
     pub fn new(alloc: Global) -> Result<Spare, Memory>
         ensures { IfOk result IsSpare }
     {

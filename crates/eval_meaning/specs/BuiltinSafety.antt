@@ -34,12 +34,12 @@ abbrev mutual
   IsA ns (value.ListValue vs) g = (t : Ground) × (g ≡ list t) × AllAre ns vs t
   IsA ns (value.TupleValue vs) g = (ts : Grounds) × (g ≡ tuple ts) × EachIs ns vs ts
 
-  -- each of these values has the type t over the nodes ns
+  -- each of these values, the items of a list, has the type t, where the plan has the nodes ns
   pub AllAre : List Node → value.ValueTree value.ManyValues → Ground → Type 0
   AllAre ns value.no_values t = ⊤
   AllAre ns (value.more_values v vs) t = IsA ns v t × AllAre ns vs t
 
-  -- the values have these types in order over the nodes ns
+  -- these values, the parts of a tuple, have these types one for one, where the plan has the nodes ns
   pub EachIs : List Node → value.ValueTree value.ManyValues → Grounds → Type 0
   EachIs ns value.no_values ts = ts ≡ ground.no_more
   EachIs ns (value.more_values v vs) ts = (t : Ground) × (us : Grounds) × (ts ≡ ground.and_more t us) × IsA ns v t

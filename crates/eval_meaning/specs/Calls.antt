@@ -38,7 +38,7 @@ abbrev pub is_set : Builtin → Bool
 is_set builtin.Set = true
 is_set b = false
 
--- whether a name means the builtin `set`
+-- whether a name, by what it stands for, means the builtin `set`
 abbrev pub means_set : Option Target → Bool
 means_set (Some (target.Builtin b)) = is_set b
 means_set (Some (target.Def t)) = false

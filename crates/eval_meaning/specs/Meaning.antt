@@ -35,7 +35,7 @@ pub record Surroundings : Type 0 where
   pub kinds : List Kind
   pub call : Caller
 
--- the value of a binding, if it has one; its size counts as work
+-- the value of a binding, whose size counts as work; stuck without a value
 abbrev pub value_at : Option Value → Machine → Outcome
 value_at None m = Err Stuck
 value_at (Some v) m = count_work (size v) m >>= λ c. Ok (v, c)
@@ -84,30 +84,30 @@ operator_applied operator v right = right >>= λ x. count_work 1 x.1 >>= λ c. o
 -- Operands are evaluated from the left. Work is counted when an operand begins, and when an operator is about to be
 -- applied.
 unfoldable mutual
-  -- the value of an expression, or of a number behind a minus
+  -- the value of a full value, an expression or a number behind a minus, and the state after it
   pub full : Surroundings → Tree AFull → Machine → Outcome
   full s (Negative at n) m = count_work 1 m >>= λ c. negative at n >>= λ v. Ok (v, c)
   full s (Plain e) m = expr s e m
 
-  -- the value of an expression
+  -- the value of an expression, parts joined by `or`, and the state after it
   pub expr : Surroundings → Tree AnExpr → Machine → Outcome
   expr s (Expr a rest) m = conjunction s a m >>= λ x. ors s rest x.0 x.1
 
-  -- the value v with further parts joined to it by `or`
+  -- the value of an `or`: v is that of the parts before, and these are the parts behind them
   pub ors : Surroundings → Tree (Many AnAnd) → Value → Machine → Outcome
   ors s none v m = Ok (v, m)
   ors s (more a rest) v m = operator_applied either v (conjunction s a m) >>= λ x. ors s rest x.0 x.1
 
-  -- the value of a part of an `or`
+  -- the value of one part of an `or`, parts joined by `and`
   pub conjunction : Surroundings → Tree AnAnd → Machine → Outcome
   conjunction s (And n rest) m = negation s n m >>= λ x. ands s rest x.0 x.1
 
-  -- the value v with further parts joined to it by `and`
+  -- the value of an `and`: v is that of the parts before, and these are the parts behind them
   pub ands : Surroundings → Tree (Many ANot) → Value → Machine → Outcome
   ands s none v m = Ok (v, m)
   ands s (more n rest) v m = operator_applied both v (negation s n m) >>= λ x. ands s rest x.0 x.1
 
-  -- the value of a comparison, or with `not` its opposite
+  -- the value of one part of an `and`: a comparison, or behind `not` its opposite
   pub negation : Surroundings → Tree ANot → Machine → Outcome
   negation s (Not true inner) m = compare s inner m >>= λ x. count_work 1 x.1 >>= λ c. opposite x.0 >>= λ u. Ok (u, c)
   negation s (Not false inner) m = compare s inner m
@@ -118,33 +118,35 @@ unfoldable mutual
   compare s (Compared left at o right) m = sum s left m >>= λ x. sum s right x.1 >>= λ y. count_work 1 y.1 >>= λ c.
       compared o x.0 y.0 >>= λ u. Ok (u, c)
 
-  -- the value of a sum
+  -- the value of a sum: products joined by `+` and `-`
   pub sum : Surroundings → Tree ASum → Machine → Outcome
   sum s (Sum p rest) m = product s p m >>= λ x. addends s rest x.0 x.1
 
-  -- the value v with further terms of a sum added or subtracted
+  -- the value of a sum: v is that of the terms before, and these are added or subtracted one after another
   pub addends : Surroundings → Tree (Many AnAdded) → Value → Machine → Outcome
   addends s none v m = Ok (v, m)
   addends s (more a rest) v m = plus s a v m >>= λ x. addends s rest x.0 x.1
 
-  -- the value v with one term of a sum added or subtracted
+  -- the value v, that of a sum so far, with one more term added or subtracted
   pub plus : Surroundings → Tree AnAdded → Value → Machine → Outcome
   plus s (Added at minus p) v m = operator_applied (added minus at) v (product s p m)
 
-  -- the value of a product
+  -- the value of a product: operands joined by `*` and `/`
   pub product : Surroundings → Tree AProduct → Machine → Outcome
   product s (Product p rest) m = operand s p m >>= λ x. factors s rest x.0 x.1
 
-  -- the value v multiplied or divided by further factors
+  -- the value of a product: v is that of the factors before, and by these it is multiplied or divided one after
+  -- another
   pub factors : Surroundings → Tree (Many AMultiplied) → Value → Machine → Outcome
   factors s none v m = Ok (v, m)
   factors s (more a rest) v m = times s a v m >>= λ x. factors s rest x.0 x.1
 
-  -- the value v multiplied or divided by one factor
+  -- the value v, that of a product so far, multiplied or divided by one more factor
   pub times : Surroundings → Tree AMultiplied → Value → Machine → Outcome
   times s (Multiplied at divide p) v m = operator_applied (multiplied divide at) v (operand s p m)
 
-  -- the value of an operand
+  -- the value of an operand: a literal, a name, a call, an `if`, parentheses, a tuple, a list, a predicate or a
+  -- format
   pub operand : Surroundings → Tree AnOperand → Machine → Outcome
   operand s (Constant at n) m = count_work 1 m >>= λ c. Ok (literal_value n, c)
   operand s (Quoted at text) m = count_work 1 m >>= λ c. Ok (value.TextValue text, c)

@@ -20,7 +20,7 @@ unfoldable mutual
   pub or_pred : Tree APOr → Predicate
   or_pred (POr first rest) = any_of (and_pred first) (and_preds rest)
 
-  -- the predicates of the parts of an `or`
+  -- the predicates of further parts of an `or`, as a list
   pub and_preds : Tree (Many APAnd) → pred.PredicateTree pred.PredicateParts
   and_preds none = pred.no_parts
   and_preds (more p ps) = pred.first_part (and_pred p) (and_preds ps)
@@ -29,7 +29,7 @@ unfoldable mutual
   pub and_pred : Tree APAnd → Predicate
   and_pred (PAnd first rest) = all_of (not_pred first) (not_preds rest)
 
-  -- the predicates of the parts of an `and`
+  -- the predicates of further parts of an `and`, as a list
   pub not_preds : Tree (Many APNot) → pred.PredicateTree pred.PredicateParts
   not_preds none = pred.no_parts
   not_preds (more p ps) = pred.first_part (not_pred p) (not_preds ps)

@@ -30,7 +30,7 @@ pub record Knows (s : Surroundings) (t : Sight) (ns : List Node) : Type 0 where
       → (given : List Argument) (m : Machine) → Grows ns m.plan.nodes → AreA m.plan.nodes given gs
       → Safe m.plan.nodes (Of g) (s.call u ks given m)
 
--- evaluation ends with a plan or with a fault that is told
+-- evaluation ends with a plan or with a fault that is told, never at a value of a wrong type
 abbrev pub IsNotStuck : {A : Type 0} → Result A Ending → Type 0
 IsNotStuck (Ok x) = ⊤
 IsNotStuck (Err (Some fault)) = ⊤

@@ -109,7 +109,7 @@ plan_of m =
 abbrev pub ran : Script → List Use → Result Machine Ending
 ran script uses = statements script uses script 0 [] first_machine
 
--- the plan of a script, or its first fault
+-- what a script means, where its names stand for these uses: its plan, or its first fault
 abbrev pub evaluation : Script → List Use → Result Plan Ending
 evaluation script uses = and_then (ran script uses) plan_of
 

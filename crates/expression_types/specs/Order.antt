@@ -10,7 +10,8 @@ use Rattle.expression_types.specs.Seen.{def_seen, env_of}
 use Rattle.expression_types.specs.declared.environment.KnownDef.{KnownDef}
 use Rattle.expression_types.specs.declared.environment.Names.{Names}
 
--- the tokens of the names that a tree uses, in order
+-- the tokens of all names that the text of a tree uses, in the order of the text; a name that is bound there isn't
+-- used
 abbrev pub tokens_used : {s : Sort} → Tree s → List ℕ
 tokens_used none = []
 tokens_used (more x xs) = tokens_used x ++ tokens_used xs

@@ -23,7 +23,7 @@ abbrev pub newest_number : ℕ → List Known → Option ℕ
 newest_number t [] = None
 newest_number t (k ∷ ks) = option_or (newest_number t ks) (number_known t k)
 
--- the first def whose name stands at a token
+-- the first of these defs whose name stands at token t, if there is one
 abbrev pub def_seen : ℕ → List KnownDef → Option KnownDef
 def_seen t [] = None
 def_seen t (d ∷ ds) = cond (nat_eq d.at t) (Some d) (def_seen t ds)

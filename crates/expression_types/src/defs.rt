@@ -60,14 +60,14 @@ impl<'a> Defs<'a> {
         }
     }
 
-    /// How many defs there are.
+    /// How many defs statements have bound.
     pub fn len(&self) -> usize
         ensures { result ≡ length self.now }
     {
         self.all.len()
     }
 
-    /// All defs, the oldest first.
+    /// All defs that statements have bound, the oldest first.
     pub fn as_slice(&self) -> &[KnownDef<'a>]
         ensures { result.now ≡ self.now }
     {

@@ -60,7 +60,7 @@ with_names n (x ∷ xs) = with_names (with_name n x) xs
 abbrev pub names_each : {s : Sort} → Scope → List (Tree s) → List Name
 names_each sc ts = flat_map (names sc) ts
 
--- a name and what it stands for, as plain data
+-- a name that the program has resolved, as plain data: its token, and what it stands for
 abbrev pub resolved : Resolved → Meaning
 resolved r = (r.at, Some r.target)
 

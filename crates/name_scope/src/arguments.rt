@@ -35,7 +35,7 @@ pub fn parameters<'a>(alloc: Global, params: &'a [Param]) -> Result<Vec<Paramete
     Ok(seen)
 }
 
-/// The arguments of a call by their labels and tokens, in order.
+/// The arguments of a call as untaken ones, in order: the label of each, and its first token.
 pub(crate) fn given_arguments<'a>(alloc: Global, args: &'a [Arg]) -> Result<Untaken<'a>, Memory>
     ensures same { IfOk result (λ r. map seen_given r.items ≡ tokens_given (listed (map view_arg args.now))) }
 {
@@ -50,7 +50,7 @@ pub(crate) fn given_arguments<'a>(alloc: Global, args: &'a [Arg]) -> Result<Unta
     Ok(given)
 }
 
-/// The label that the argument of a parameter has, if it has one.
+/// The label by which a parameter takes its argument; none where it takes one without a label.
 pub fn label_of<'a>(param: Parameter<'a>) -> Option<&'a str>
     ensures same { seen_label result ≡ the_label_of (seen_parameter param.entry) }
 {
@@ -61,7 +61,7 @@ pub fn label_of<'a>(param: Parameter<'a>) -> Option<&'a str>
     }
 }
 
-/// Whether a parameter of this form must have an argument.
+/// Whether a parameter of this form must have an argument: each but one with a default.
 pub fn is_needed(form: Form) -> bool
     ensures same { result ≡ is_wanted form }
 {
@@ -174,7 +174,7 @@ fn form_of(form: &ParamForm) -> Form
     }
 }
 
-/// Whether an argument has a label.
+/// Whether one of these arguments of a call has a label.
 fn has_label(args: &[Arg]) -> bool
     ensures same { result ≡ has_a_label (tokens_given (listed (map view_arg args.now))) }
 {

@@ -96,7 +96,7 @@ impl<'a> Labels<'a> {
     }
 }
 
-/// The label of the argument at a place.
+/// The label of the argument at this place of a call, if it has one.
 fn label_at<'a>(labels: &[Option<&'a str>], place: usize) -> Option<&'a str>
     requires inside { place < length labels.now }
     ensures at { result ≡ get_or labels.now place result }

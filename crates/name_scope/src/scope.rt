@@ -52,7 +52,7 @@ impl<'a> Scope<'a> {
         }
     }
 
-    /// Binds a name, which hides an older one.
+    /// Binds a name in this scope, which hides an older binding of the name.
     pub fn bind(&mut self, name: &'a str, bound: Bound<'a>) -> Result<(), Memory>
         ensures bound { OnOk result (in_scope self.new ≡ (name.entry.now, seen_bound bound.entry) ∷ in_scope self.old) }
     {

@@ -112,7 +112,7 @@ fn note_defaults(
     Ok(())
 }
 
-/// Binds the names of a def's parameters in the scope of its body.
+/// Binds the names of a def's parameters in `inner`, the scope of its body.
 fn bind_params<'a>(inner: &mut Scope<'a>, params: &'a [Param]) -> Result<(), Memory>
     ensures bound { OnOk result (in_scope inner.new
         ≡ with_params (listed (map view_param params.entry.now)) (in_scope inner.old)) }

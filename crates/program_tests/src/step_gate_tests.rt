@@ -65,7 +65,7 @@ fn behind_others<R: Threads + Wait + Sync>(rt: &R) -> u64 {
     100
 }
 
-// Lets one clock and then another enter the gate at this tick.
+// Lets first one clock and then another come to the gate at this tick, as one thread that runs both.
 fn pass_both<G: Gate>(gate: &G, first: u32, second: u32, tick: u64) -> u64 {
     gate.enter(first, tick);
     gate.enter(second, tick);

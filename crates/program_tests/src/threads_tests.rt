@@ -42,7 +42,7 @@ impl Turns {
         }
     }
 
-    // Waits until a clock has come to so many ticks.
+    // Waits until a clock has come to so many ticks; after too many tries notes that it is late.
     fn wait_for(&self, clock: &AtomicU64, ticks: u64) {
         for _ in 0..TURNS {
             if clock.load(Ordering::SeqCst) >= ticks || self.late.load(Ordering::SeqCst) {

@@ -36,7 +36,7 @@ fn status_of<R: Threads + Wait + Sync>(
     Ok(status)
 }
 
-// Whether both outputs are whole.
+// Whether both outputs have all bytes of one tick.
 fn are_whole(shelf: &MemShelf) -> bool {
     held(shelf, "A").len() == OUTPUT_BYTES && held(shelf, "C").len() == OUTPUT_BYTES
 }
@@ -126,7 +126,7 @@ const TRACE: &[u8] = b"liq trace 1 1 16 1\nwindow 0 buffer 0 puts A takes GE\n";
 
 const AUDIO_AND_TRACE: &[(&str, &[u8])] = &[("B", ONE_TWO_THREE), ("T", TRACE)];
 
-// The status of a replay; nothing if its words would take threads.
+// The status with which a replay of these words ends; nothing if the words are those of a call that takes threads.
 fn replayed(alloc: Global, words: &[String], shelf: &mut MemShelf) -> Result<Option<u8>, Fail> {
     let mut out = sink(alloc)?;
     let mut err = sink(alloc)?;

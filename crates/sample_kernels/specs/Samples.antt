@@ -19,6 +19,6 @@ mean_of sum parts = int_div sum (pos parts)
 abbrev pub scaled : ℤ → ℤ → ℤ
 scaled millionths sample = clamped (int_div (sample *ℤ millionths) (pos 1000000))
 
--- half the sum of two samples, rounded toward zero
+-- half the sum of a left and a right sample, rounded toward zero: the mono sample of a stereo one
 abbrev pub half_of : ℤ → ℤ → ℤ
 half_of left right = int_div (left +ℤ right) (pos 2)

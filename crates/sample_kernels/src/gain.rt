@@ -150,7 +150,7 @@ fn halve_eight(left: &[i16], right: &[i16], into: &mut [i16], at: usize)
     halves.cast::<i16>().copy_to_slice(&mut into[at..]);
 }
 
-// Half the sum of two samples, rounded toward zero.
+// Half the sum of a left and a right sample, rounded toward zero: the mono sample of a stereo one.
 fn half_of(left: i16, right: i16) -> i16
     ensures { result ≡ half_of left right }
 {

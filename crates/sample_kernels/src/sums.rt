@@ -99,7 +99,7 @@ fn clamp_eight(sum: &[i32], into: &mut [i16], at: usize)
     cut.cast::<i16>().copy_to_slice(&mut into[at..]);
 }
 
-// The mean of `parts` samples by their sum, rounded toward zero.
+// The mean of `parts` samples that have this sum, rounded toward zero.
 fn mean_of(sum: i32, parts: u16) -> i16
     requires some { 0 < parts }
     requires sum { IsSumOf parts sum }

@@ -19,7 +19,7 @@ pub record IsParsed (tokens : List TokenKind) (script : program.Script) : Type 0
   pub placed : IsPlaced 0 (view_script script)
   pub whole : IsWhole script
 
--- no token nests too deep
+-- brackets, `if` and `def` nest at no token deeper than they may
 abbrev pub IsShallow : List TokenKind → Type 0
 IsShallow tokens = (k : ℕ) → k < length tokens → IsDeepAt tokens k → ⊥
 

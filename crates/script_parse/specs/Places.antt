@@ -20,7 +20,7 @@ pub record IsSyntaxPlace (tokens : List TokenKind) (k : ℕ) : Type 0 where
   pub no_more : k < length tokens → Begins (take (k + 1) tokens) → ⊥
   pub no_script : (s : Script) → spelling s ≡ tokens → ⊥
 
--- a token that goes one level deeper
+-- whether a token begins one more level of nesting: an opening bracket, a name with one, `if` or `def`
 abbrev pub opens : TokenKind → Bool
 opens (NameOpen name) = true
 opens (Symbol sign.OpenRound) = true
@@ -30,7 +30,7 @@ opens (Keyword word.If) = true
 opens (Keyword word.Def) = true
 opens k = false
 
--- a token that comes back from one level
+-- whether a token ends a level of nesting: a closing bracket, or `end`
 abbrev pub closes : TokenKind → Bool
 closes (Symbol sign.CloseRound) = true
 closes (Symbol sign.CloseSquare) = true

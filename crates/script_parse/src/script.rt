@@ -45,7 +45,7 @@ pub fn parse(alloc: Global, _text: &[u8], tokens: &[Token]) -> Result<Script, Pa
     answer(alloc, tokens)
 }
 
-// Whether a token goes one level deeper: a bracket, `if` or `def`.
+// Whether a token begins one more level of nesting: an opening bracket, a name with one, `if` or `def`.
 fn opens(kind: &TokenKind) -> bool
     ensures { result ≡ opens kind.now }
 {
@@ -57,7 +57,7 @@ fn opens(kind: &TokenKind) -> bool
     )
 }
 
-// Whether a token comes back from one level: a bracket or `end`.
+// Whether a token ends a level of nesting: a closing bracket, or `end`.
 fn closes(kind: &TokenKind) -> bool
     ensures { result ≡ closes kind.now }
 {

@@ -37,13 +37,13 @@ abbrev pub of_evaluation : EvalFault → ScriptFault
 of_evaluation eval_fault.Memory = fault.Memory
 of_evaluation f = fault.Eval f
 
--- the evaluation of this script ends with this plan
+-- the script has a typing, and with the uses that it finds its evaluation ends with this plan
 pub record HasPlan (script : Script) (plan : Plan) : Type 0 where
   pub uses : List Use
   pub typed : IsTyped script uses
   pub evaluated : evaluation script uses ≡ Ok plan
 
--- the evaluation of this script ends without a plan, for this fault
+-- the script has a typing, and with the uses that it finds its evaluation ends without a plan, for this fault
 pub record EndsBy (script : Script) (f : EvalFault) : Type 0 where
   pub uses : List Use
   pub typed : IsTyped script uses

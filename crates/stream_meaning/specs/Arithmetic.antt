@@ -64,7 +64,8 @@ changed Halves cell = halved cell
 changed Doubles cell = doubled cell
 changed Passes cell = cell
 
--- the first of these cells, changed; nothing where there is none
+-- what a node that works on one cell makes of these, those of its children: the first of them, changed; nothing
+-- without any
 abbrev pub changed_slot : Mixing → List Cell → Slot
 changed_slot mixing [] = None
 changed_slot mixing (cell ∷ cells) = Some (changed mixing cell)

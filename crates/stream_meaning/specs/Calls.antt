@@ -96,7 +96,7 @@ give_by setting accepted m t (Feed buffer node) =
 abbrev pub gives_of_tick : Setting → (accepted : ℕ → Bool) → (m t : ℕ) → List Call
 gives_of_tick setting accepted m t = flat_map (give_by setting accepted m t) setting.plan.sinks
 
--- the takes of main clock m during tick t, its sub-clocks' with them
+-- all takes from buffers during tick t of main clock m, in their order, also those of its sub-clocks
 abbrev pub takes_of_tick : Setting → (m t : ℕ) → List Call
 takes_of_tick setting m t = joined_upto
     (λ j. calls_of setting (sub_of setting) (Main m)
@@ -107,7 +107,7 @@ takes_of_tick setting m t = joined_upto
 abbrev pub calls_of_tick : Setting → (accepted : ℕ → Bool) → (m t : ℕ) → List Call
 calls_of_tick setting accepted m t = takes_of_tick setting m t ++ gives_of_tick setting accepted m t
 
--- the answers that the takes of a buffer got in these calls
+-- the answers that the takes of this buffer got among these calls, in their order
 abbrev pub answers_in : ℕ → List Call → List Answer
 answers_in buffer [] = []
 answers_in buffer (Took other answer ∷ calls) = if nat_eq other buffer then answer ∷ answers_in buffer calls
@@ -123,7 +123,7 @@ pub record HasAnswers (setting : Setting) (answers : ℕ → List Answer) : Type
   pub rest : ℕ → List Answer
   pub are : (buffer : ℕ) → setting.answers buffer ≡ answers buffer ++ rest buffer
 
--- the calls `made` are the first ones of `calls`
+-- the calls `made` are the beginning of the list `calls`, or all of it
 pub record IsBegin (made calls : List Call) : Type 0 where
   pub rest : List Call
   pub are : calls ≡ made ++ rest
@@ -142,7 +142,7 @@ abbrev pub IsBelow : Setting → NodeClock → (rank i : ℕ) → Type 0
 IsBelow setting clock zero i = clock_of setting i ≡ clock
 IsBelow setting clock (suc rank) i = (k : ℕ) × (clock_of setting i ≡ Sub k) × IsBelow setting clock rank k
 
--- no node in a clock, nor in a sub-clock below it, reads this buffer
+-- no reader of this buffer lies in the clock, nor in any sub-clock below it
 pub record IsUnread (setting : Setting) (clock : NodeClock) (buffer : ℕ) : Type 0 where
   pub none : (rank i : ℕ) (node : Node) → slice_get setting.plan.nodes i ≡ Some node
       → work_at setting i node ≡ Reads buffer → IsBelow setting clock rank i → ⊥

@@ -49,7 +49,7 @@ pub data Work : Type 0 where
   Fades : ℕ → Work
   Reads : ℕ → Work
 
--- the work of node i, in a plan of so many samples a second
+-- the work of node i, by its operator and by whether it is mono or stereo, in a plan of `rate` samples a second
 abbrev pub work_of : (rate i : ℕ) → Kind → Op → Work
 work_of rate i kind (Single file) = Plays (Files i true kind)
 work_of rate i kind (Playlist file again) = Plays (Files i again kind)

@@ -10,12 +10,12 @@ use Rattle.type_terms.specs.declared.differ.Difference.{Difference}
 use Rattle.type_terms.specs.declared.differ.Difference.TheVariants.{Same, Clash, Bind, BindKind}
 use Rattle.type_terms.specs.declared.ty.Ty.{Ty}
 
--- the plain data of pairs of types
+-- pairs of types of the program, which are to be compared, as plain data
 abbrev pub pairs_of : List (Ty × Ty) → List (Term × Term)
 pairs_of [] = []
 pairs_of (p ∷ ps) = (term_of p.0, term_of p.1) ∷ pairs_of ps
 
--- pairs of variables, by their numbers
+-- pairs of type variables, given by their numbers, as pairs of types
 abbrev pub variable_pairs : List (ℕ × ℕ) → List (Term × Term)
 variable_pairs [] = []
 variable_pairs (p ∷ ps) = (variable p.0, variable p.1) ∷ variable_pairs ps
@@ -45,7 +45,7 @@ agenda work seen = record { todo = pairs_of work; seen = variable_pairs seen }
 abbrev pub agenda_of : AgendaLists → Agenda
 agenda_of lists = agenda lists.work.items lists.seen.keys
 
--- nothing is to be compared, and nothing was
+-- the agenda of unification at its start: nothing is to be compared, and nothing was taken apart
 abbrev pub empty_agenda : Agenda
 empty_agenda = record { todo = []; seen = [] }
 

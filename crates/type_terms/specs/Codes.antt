@@ -45,7 +45,7 @@ number_of_base UnitType = 4
 number_of_base Format = 5
 number_of_base Pred = 6
 
--- the base type that has this number
+-- the base type that this number stands for: the way back from `number_of_base`
 abbrev pub base_of_number : ℕ → Base
 base_of_number zero = Int
 base_of_number (suc zero) = Decimal

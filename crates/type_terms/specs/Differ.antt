@@ -46,7 +46,7 @@ Settles s left right Clash = AreNeverSame s left right
 Settles s left right (Bind x t) = IsForced s left right x (term_of t.now)
 Settles s left right (BindKind x t) = IsKindForced s left right x t
 
--- a base type, if there is one, is int or decimal
+-- whether a base type, if there is one, is a number type: int or decimal
 abbrev pub is_number_base : Option Base → Bool
 is_number_base (Some Int) = true
 is_number_base (Some Decimal) = true

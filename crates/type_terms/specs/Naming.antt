@@ -38,7 +38,7 @@ abbrev mutual
   all_kind_variables no_terms = []
   all_kind_variables (one_more t ts) = kind_variables t ++ all_kind_variables ts
 
--- a number, or n where there is none
+-- the number that is there, or n where there is none
 abbrev pub number_or : ℕ → Option ℕ → ℕ
 number_or n None = n
 number_or n (Some m) = m

@@ -41,7 +41,7 @@ pub record Tells (trail : Trail) (old new : Table) : Type 0 where
   pub types : IsTrail trail.types.items old.types new.types
   pub kinds : IsKindTrail trail.kinds.items old.kinds new.kinds
 
--- how many variables a trail tells of
+-- how many variables, of types and of kinds, a trail tells to be bound
 abbrev pub trail_len : Trail → ℕ
 trail_len trail = length trail.types.items + length trail.kinds.items
 
@@ -51,7 +51,8 @@ pub record IsTrailed (old new : Table) (trail trail' : Trail) : Type 0 where
   pub told : (s : Table) → Tells trail s old → Tells trail' s new
   pub free : free_count new + trail_len trail' ≡ free_count old + trail_len trail
 
--- an answer is right: the two are equal at each solution, or at none
+-- what unification answers is right for two types: true, they are now equal at each solution; false, they are equal
+-- at none
 abbrev pub IsAnswer : Table → Term → Term → Bool → Type 0
 IsAnswer s left right true = AreSame s left right
 IsAnswer s left right false = AreNeverSame s left right

@@ -41,17 +41,17 @@ pub record IsKept (s : Table) (marks : List Bool) (free : ℕ) : Type 0 where
 pub record IsUnnested (vs : List Variable) (x : ℕ) : Type 0 where
   pub apart : (k : ℕ) (t : Term) → bound_at vs k ≡ Some t → InTerm (λ j. j ≢ x) (λ _. Unit {0}) t
 
--- the plain data of references to types
+-- references to types of the program as a list of plain types
 abbrev pub terms : List (Bor Ty) → List Term
 terms [] = []
 terms (p ∷ ps) = term_of p.now ∷ terms ps
 
--- the parts of a tuple, as a list
+-- the types of a tuple's parts, as a list
 abbrev pub parts : Terms → List Term
 parts no_terms = []
 parts (one_more t ts) = t ∷ parts ts
 
--- what a variable is bound to, as a list of one term or none
+-- what a variable is bound to, as a list of one type, or of none if it is free
 abbrev pub bound_list : Option Term → List Term
 bound_list None = []
 bound_list (Some t) = t ∷ []
@@ -82,7 +82,7 @@ IsAmong m n (variable k) = k < m
 IsAmong m n (source_term k) = InKind (λ j. j < n) k
 IsAmong m n _ = Unit {0}
 
--- the number is one of the list
+-- the number of a variable, k, is one of this list
 abbrev pub IsIn : List ℕ → ℕ → Type 0
 IsIn ks k = list_any (nat_eq k) ks ≡ true
 

@@ -4,12 +4,12 @@ use Rattle.type_terms.specs.Term.{Term, height}
 use Rattle.type_terms.specs.Variables.{Variable}
 use Rattle.type_terms.specs.Table.{bound_at}
 
--- 1 for a variable that is bound, else 0
+-- 1 for a variable that is bound to something, else 0, to be added up
 abbrev pub one_if_bound : Option Term → ℕ
 one_if_bound None = 0
 one_if_bound (Some t) = 1
 
--- how many variables are bound
+-- how many of these type variables are bound to something
 abbrev pub bound_count : List Variable → ℕ
 bound_count [] = 0
 bound_count (v ∷ vs) = one_if_bound v.bound + bound_count vs

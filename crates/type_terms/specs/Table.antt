@@ -11,7 +11,7 @@ pub record Table : Type 0 where
   pub types : List Variable
   pub kinds : List (Option KindTerm)
 
--- the substitution of these type variables and kind variables
+-- the substitution that has these type variables and these kind variables
 abbrev pub table : List Variable → List (Option KindTerm) → Table
 table vs ks = record { types = vs; kinds = ks }
 

@@ -24,12 +24,12 @@ mutual
     no_terms : Terms
     one_more : Term → Terms → Terms
 
--- a list of terms as the parts of a tuple
+-- a list of types as the parts of a tuple
 abbrev pub terms_of : List Term → Terms
 terms_of [] = no_terms
 terms_of (t ∷ ts) = one_more t (terms_of ts)
 
--- one node of a `Ty` as plain data; its parts are plain data already
+-- one node of a type of the program as plain data, where the types inside it are plain data already
 abbrev pub term_step : ty.Ty-F Term → Term
 term_step ty.Int = base_term base.Int
 term_step ty.Decimal = base_term base.Decimal
@@ -47,12 +47,12 @@ term_step (ty.Var n) = variable n
 abbrev pub term_of : Ty → Term
 term_of = fold-Ty Term term_step
 
--- the base type that a term is
+-- the base type that a type is, such as int; none for a list, a tuple, a source or a variable
 abbrev pub base_of : Term → Option Base
 base_of (base_term b) = Some b
 base_of _ = None
 
--- the kind that a term of kinds is under an assignment
+-- the kind of a source, mono or stereo, which a kind over variables is under the assignment a
 abbrev pub kind_meaning : Assignment → KindTerm → Kind
 kind_meaning a (Fixed k) = k
 kind_meaning a (Var n) = a.kind_of n

@@ -4,7 +4,7 @@ use Rattle.type_terms.specs.Variables.{Variable}
 use Rattle.type_terms.specs.Table.{bound_at, number_at, kind_at}
 use Rattle.type_terms.specs.declared.ty.KindTerm.{KindTerm}
 
--- the number is one of the list
+-- the number of a variable, k, is one of this list
 abbrev pub Among : ℕ → List ℕ → Type 0
 Among k [] = ⊥
 Among k (x ∷ xs) = (k ≡ x) ⊎ Among k xs
@@ -33,7 +33,7 @@ pub record Frees (x : ℕ) (old new : List Variable) : Type 0 where
   pub here : bound_at new x ≡ None
   pub elsewhere : (k : ℕ) → k ≢ x → bound_at new k ≡ bound_at old k
 
--- kind variable x is free now, and the others are as before
+-- the new kind variables are the old ones, but that variable x is bound to nothing now
 pub record FreesKind (x : ℕ) (old new : List (Option KindTerm)) : Type 0 where
   pub same_length : length new ≡ length old
   pub here : kind_at new x ≡ None

@@ -166,7 +166,7 @@ fn is_variable(ty: &Ty, x: u64) -> bool
     }
 }
 
-/// Whether the type has no parts and is no variable.
+/// Whether the type has no parts and is no variable: a base type or a source.
 fn is_leaf(ty: &Ty) -> bool
     ensures { OnTrue result (InTerm (λ _. ⊥) (λ _. Unit {0}) (term_of ty.now)) }
 {

@@ -173,14 +173,14 @@ impl Subst {
         }
     }
 
-    /// How many type variables there are.
+    /// How many type variables the substitution has handed out.
     pub fn type_count(&self) -> usize
         ensures { result ≡ length self.now.types }
     {
         self.bindings.types.len()
     }
 
-    /// How many kind variables there are.
+    /// How many kind variables the substitution has handed out.
     pub fn kind_count(&self) -> usize
         ensures { result ≡ length self.now.kinds }
     {
