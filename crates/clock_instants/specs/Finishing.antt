@@ -40,8 +40,8 @@ pub record CanFinish (setting : Setting) (sub : ℕ → ℕ → List Slot) (cloc
   pub settled : AreSettled setting sub clock past filled
   pub roots : AreRoots setting clock own
 
--- the instant after this past was made: `parts` are its parts, `held` is what was given there, and the states stand for
--- it too
+-- the program has made the instant after this past: `parts` has what its nodes do there, `held` what they gave, and
+-- the states stand for it too
 pub record HasFinished (setting : Setting) (sub : ℕ → ℕ
     → List Slot) (clock : NodeClock) (past : List Moment) (filled : ℕ → ℕ)
     (states : List NodeState) (parts held : List Part) : Type 0 where

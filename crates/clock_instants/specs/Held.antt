@@ -15,7 +15,8 @@ use Rattle.node_states.specs.Passing.{LaneFills, asked, given_part, passes}
 use Rattle.clock_nodes.specs.declared.scene.Scene.{Scene}
 use Rattle.clock_nodes.specs.Nodes.{lies_at}
 
--- what a node with this part gave: the part if it is demanded and offers a cell, and otherwise silence
+-- what a node with this part (slot and picked child) gave at an instant: the part if it is demanded and offers a
+-- cell, and otherwise silence
 abbrev pub given_by : (demanded : Bool) → Part → Part
 given_by demanded part = if demanded && is_some part.slot then part else silent
 
@@ -38,8 +39,8 @@ pub record IsHeld (setting : Setting) (sub : ℕ → ℕ
   pub each : (i : ℕ) → i < length setting.plan.nodes → lies_in setting clock i ≡ true
       → part_at held i ≡ given_part (moment_after setting sub clock past) i
 
--- the crossfades of a clock that gave at the instant after this past, and through which cells pass, get cells of one
--- track for as many instants as `rests` says; `held` has their children's titles
+-- the crossfades of a clock that gave at the instant after this past, and through which cells pass, get from their
+-- sub-clocks cells of one track for as many instants as `rests` says; `held` has the titles of their children
 pub record AreFilledOn (setting : Setting) (sub : ℕ → ℕ
     → List Slot) (clock : NodeClock) (past : List Moment) (filled : ℕ → ℕ) (held : List Part) (states : List NodeState)
     (rests : List ℕ) : Type 0 where
@@ -48,8 +49,8 @@ pub record AreFilledOn (setting : Setting) (sub : ℕ → ℕ
       → AreFilled setting sub k (filled k) (slice_index_or rests k 0)
       (title_of (part_at held (crossfaded setting.plan.nodes k)).slot)
 
--- the sub-clock of each crossfade of a clock that gave, and through which cells pass, goes on for `count` instants at
--- least, by `rests`
+-- by `rests`, the sub-clock of each crossfade of a clock that gave, and through which cells pass, goes on as it did
+-- for at least `count` instants
 pub record AllPassOn (scene : Scene) (clock : NodeClock) (held : List Part) (states : List NodeState) (rests : List ℕ)
     (count : ℕ) : Type 0 where
   pub each : (i : ℕ) (state : NodeState) → i < length scene.clocks.now → lies_at scene.clocks.now clock i ≡ true

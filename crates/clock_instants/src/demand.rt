@@ -63,7 +63,8 @@ pub fn find_demanded(
     }
 }
 
-// Which children a demanded node of this operator uses.
+// Which children a demanded node of this operator uses: none (a leaf, a crossfade, a reader), all that offer (a mix),
+// or the one that it picked.
 fn demand_of(op: &Op) -> Demand
     ensures { (rate i : ℕ) (kind : TheKind) (parts : List Part) (children : List ℕ) (pick : Option ℕ)
         → offering parts (child_at children pick) ≡ child_at children pick

@@ -1,4 +1,4 @@
-// What is held of what nodes gave.
+// The title of what the child of a crossfade gave last.
 ghost use Rattle.std.specs.Prelude.{◌≡◌, slice_index_or};
 ghost use Rattle.frame_core.specs.Slots.{title_of};
 ghost use Rattle.stream_meaning.specs.Instants.{crossfaded, part_at};

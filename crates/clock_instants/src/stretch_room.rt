@@ -116,7 +116,8 @@ fn lanes_of(alloc: Global, states: &[NodeState]) -> Result<Vec<Vec<i16>>, Memory
     Ok(lanes)
 }
 
-// The lane of a node: `MAX_STRETCH` samples, all of them 0; empty where it is idle.
+// The lane of a node, its list of samples of one side: `MAX_STRETCH` samples, all of them 0; empty where the node is
+// idle.
 fn lane_for(alloc: Global, state: &NodeState) -> Result<Vec<i16>, Memory>
     ensures { IfOk result (λ lane. (state.now ≡ Idle → ⊥) → length lane.items ≡ 2048) }
 {

@@ -44,7 +44,7 @@ pub record IsSyntaxFault (text : List ℕ) (f : ParseFault) : Type 0 where
   pub lexed : AreTokens text tokens
   pub told : IsFault (kinds tokens) f
 
--- this is the text's fault of types: the text spells a script, which has no typing; want of memory is none
+-- this is the text's fault of types: the text spells a script, which has no typing; want of memory is no such fault
 pub record IsTypingFault (text : List ℕ) (f : TypeFault) : Type 0 where
   pub script : Script
   pub spelled : Spells text script

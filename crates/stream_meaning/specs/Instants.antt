@@ -142,7 +142,7 @@ abbrev pub reading_at : Setting → (buffer instant : ℕ) → Reading → Readi
 reading_at setting buffer instant before =
     if nat_eq (instant % setting.plan.frame) 0 then started (setting.answers buffer) before else before
 
--- the reader after an instant: where it gave a cell, this one is gone; else it is as it was
+-- the reader of a buffer after an instant: moved on by one cell where it gave one, else as it was
 abbrev pub read_on : Bool → Reading → Reading
 read_on gave reading = if gave then record reading { reader = after_cell reading.reader } else reading
 
@@ -264,7 +264,7 @@ first_instants setting sub clock zero = []
 first_instants setting sub clock (suc n) =
     let past = first_instants setting sub clock n in moment_after setting sub clock past ∷ past
 
--- what node i offered at each of these instants, the earliest first, though the instants have the latest first
+-- what node i offered at each of these instants, the earliest first; the list of instants has the latest first
 abbrev pub slots_of : List Moment → ℕ → List Slot
 slots_of [] i = []
 slots_of (moment ∷ past) i = slots_of past i ++ offer moment i ∷ []

@@ -26,7 +26,7 @@ pub record IsKindTrail (trail : List ℕ) (old new : List (Option KindTerm)) : T
   pub free : (k : ℕ) → Among k trail → kind_at old k ≡ None
   pub inside : (k : ℕ) → Among k trail → k < length old
 
--- type variable x is free now, and the others are as before
+-- the new type variables are the old ones, but that variable x is bound to nothing now
 pub record Frees (x : ℕ) (old new : List Variable) : Type 0 where
   pub same_length : length new ≡ length old
   pub same_numbers : (k : ℕ) → number_at new k ≡ number_at old k

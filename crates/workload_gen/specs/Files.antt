@@ -67,7 +67,7 @@ abbrev pub list_text : (n : ℕ) → List ℕ
 list_text zero = []
 list_text (suc n) = list_text n ++ track_name n ++ codes "\n"
 
--- the name of the source that plays audio file i
+-- the name in the script of the source that plays audio file i, such as `x7`
 abbrev pub source_name : (i : ℕ) → List ℕ
 source_name i = codes "x" ++ decimal i
 
@@ -76,7 +76,7 @@ abbrev pub players : (n : ℕ) → List ℕ
 players zero = []
 players (suc n) = players n ++ source_name n ++ codes " = amplify(0.5, single(\"" ++ track_name n ++ codes "\"))\n"
 
--- the names of the first n + 1 sources, with a comma and a blank between two
+-- the text of the names of the first n + 1 sources, with a comma and a blank between two
 abbrev pub source_names : (n : ℕ) → List ℕ
 source_names zero = source_name 0
 source_names (suc n) = source_names n ++ codes ", " ++ source_name (suc n)
