@@ -56,7 +56,8 @@ begun_by reading filled = if reading then suc filled else filled
 abbrev pub begun_in : Setting → NodeClock → (filled : ℕ → ℕ) → ℕ → ℕ
 begun_in setting clock filled i = begun_by (lies_in setting clock i && reads_at setting i) (filled i)
 
--- the readers of a clock have taken the answers `front` in the instants of this past, and have begun no instant more
+-- before the readers of a clock begin an instant: they have begun those of this past, and of each buffer they have
+-- taken just the answers in `front`
 pub record HaveTaken (setting : Setting) (clock : NodeClock) (past : List Moment) (filled : ℕ → ℕ) (front : ℕ
     → List Answer) : Type 0 where
   pub even : (i : ℕ) → lies_in setting clock i ≡ true → reads_at setting i ≡ true → filled i ≡ length past
