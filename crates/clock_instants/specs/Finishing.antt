@@ -15,9 +15,9 @@ use Rattle.clock_instants.specs.Held.{IsHeld}
 use Rattle.clock_nodes.specs.Scenes.{IsScene, setting_over}
 use Rattle.clock_nodes.specs.States.{AllFit, AreRoots, AreSettled, ClockStands, HasRoomFor}
 
--- what the program needs to make an instant after the latest one, `before`: states that fit the nodes, room for the
--- `most` children that a node may have, and a place for each node in `own` (whether it is demanded of itself) and in
--- `held` (what it gave last)
+-- What the program needs to make an instant after the latest one, `before`: states that fit the nodes, and room for
+-- the `most` children that a node may have. There is also a place for each node in `own`, whether it is demanded of
+-- itself, and in `held`, what it gave last.
 pub record CanMakeNext (over : Scene) (nodes : ClockNodes) (own : List Bool) (before : Latest) (states : List NodeState)
     (held : List Part) (most : ℕ) : Type 0 where
   pub scene : IsScene over
@@ -28,9 +28,9 @@ pub record CanMakeNext (over : Scene) (nodes : ClockNodes) (own : List Bool) (be
   pub room : HasRoomFor over.plan.now most
   pub in_held : length held ≡ length over.plan.now.nodes
 
--- the states are ready for the instant after this past, in this second: they stand for the past, each crossfade and
--- reader of the clock has what it plays next, and `own` says which of its nodes are demanded of themselves (`filled`
--- counts by node the slots that a crossfade got and the instants that a reader began)
+-- The states are ready for the instant after this past, in this second: they stand for the past, and each crossfade
+-- and reader of the clock has what it plays next. `filled` counts by node the slots that a crossfade got and the
+-- instants that a reader began; `own` says which nodes are demanded of themselves.
 pub record CanFinish (setting : Setting) (sub : ℕ → ℕ → List Slot) (clock : NodeClock) (past : List Moment) (filled : ℕ
     → ℕ)
     (own : List Bool) (second : ℕ) (states : List NodeState) : Type 0 where

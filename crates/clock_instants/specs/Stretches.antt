@@ -89,9 +89,9 @@ pub record ClockGoesOn (scene : Scene) (clock : NodeClock) (time : WeekTime) (pa
       IsBehind setting sub clock past filled time parts held states rests
       → AllAsk setting sub clock past filled states (length scene.clocks.now) rest
 
--- a clock is about to make `many` instants at once, behind the one that follows this past: they are a stretch with
--- it, `held` is what was given there, each node has room for its samples, and crossfades through which cells pass
--- have the samples of their children
+-- A clock is about to make `many` instants at once, behind the one that follows this past, at which `held` was given.
+-- They are a stretch with it, each node has room for its samples, and crossfades through which cells pass have the
+-- samples of their children.
 pub record IsGoing (setting : Setting) (sub : ℕ → ℕ
     → List Slot) (clock : NodeClock) (past : List Moment) (many : ℕ) (filled : ℕ → ℕ)
     (held : List Part) (states : List NodeState) (left right : Lanes) : Type 0 where
@@ -133,9 +133,9 @@ abbrev pub HasMadeLane : History → (many k : ℕ) → Sides Lanes → Type 0
 HasMadeLane history many k sides = IsLaneOf history k many
     (samples_of sides.left k many) (samples_of sides.right k many)
 
--- what node i needs to make the `many` instants after the next one of this history, the instants of its clock so far:
--- its state stands for the next one, the nodes before it have made their samples, and the parts of all up to it are
--- known; `held` is what all nodes gave
+-- What node i needs to make the `many` instants after the next one of this history, the instants of its clock so far.
+-- Its state stands for the next one, the nodes before it have made their samples, and `parts` has what all up to it
+-- gave; `held` is what all nodes gave.
 pub record NodeGivesOn (history : History) (many filled i : ℕ) (node : Node) (held parts : List Part)
     (sides : Sides Lanes) (state : NodeState) : Type 0 where
   pub long : AreLong history.sub

@@ -143,9 +143,9 @@ pub record HaveBegun {T : Type 0} (stands : T → List Call
       → ClockStands setting sub clock past filled old → HaveTaken setting clock past filled front
       → AreBegun setting sub clock past filled front more new
 
--- memory ran out while the readers of a clock began a tick: they made the first of the takes that are due there, and
--- the taps, which stand for the calls made so far, have these behind the earlier ones; whatever instants the states
--- stood for
+-- Memory ran out while the readers of a clock began a tick, and they made only the first of the takes that are due
+-- there. The taps, which stand for the calls made so far, have these behind the earlier ones; whatever instants the
+-- states stood for.
 pub record HaveTakenSome {T : Type 0} (stands : T → List Call
     → Type 0) (scene : Scene) (clock : NodeClock)
     (old : List NodeState) (taps_old taps_new : T) : Type 0 where
