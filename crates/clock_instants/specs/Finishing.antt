@@ -15,8 +15,9 @@ use Rattle.clock_instants.specs.Held.{IsHeld}
 use Rattle.clock_nodes.specs.Scenes.{IsScene, setting_over}
 use Rattle.clock_nodes.specs.States.{AllFit, AreRoots, AreSettled, ClockStands, HasRoomFor}
 
--- an instant can be made after the latest one, `before`: there are states for the nodes of a plan, room for `most`
--- children, and for each node whether it is demanded of itself and what it gave
+-- What the program needs to make an instant after the latest one, `before`: states that fit the nodes, and room for
+-- the `most` children that a node may have. There is also a place for each node in `own`, whether it is demanded of
+-- itself, and in `held`, what it gave last.
 pub record CanMakeNext (over : Scene) (nodes : ClockNodes) (own : List Bool) (before : Latest) (states : List NodeState)
     (held : List Part) (most : ℕ) : Type 0 where
   pub scene : IsScene over
@@ -27,8 +28,9 @@ pub record CanMakeNext (over : Scene) (nodes : ClockNodes) (own : List Bool) (be
   pub room : HasRoomFor over.plan.now most
   pub in_held : length held ≡ length over.plan.now.nodes
 
--- the instant after this past lies in this second, the states stand for the past, the items of the clock's crossfades
--- are settled, and `own` says which of its nodes are demanded of themselves
+-- The states are ready for the instant after this past, in this second: they stand for the past, and each crossfade
+-- and reader of the clock has what it plays next. `filled` counts by node the slots that a crossfade got and the
+-- instants that a reader began; `own` says which nodes are demanded of themselves.
 pub record CanFinish (setting : Setting) (sub : ℕ → ℕ → List Slot) (clock : NodeClock) (past : List Moment) (filled : ℕ
     → ℕ)
     (own : List Bool) (second : ℕ) (states : List NodeState) : Type 0 where
@@ -38,8 +40,8 @@ pub record CanFinish (setting : Setting) (sub : ℕ → ℕ → List Slot) (cloc
   pub settled : AreSettled setting sub clock past filled
   pub roots : AreRoots setting clock own
 
--- the instant after this past was made: `parts` are its parts, `held` is what was given there, and the states stand for
--- it too
+-- the program has made the instant after this past: `parts` has what its nodes do there, `held` what they gave, and
+-- the states stand for it too
 pub record HasFinished (setting : Setting) (sub : ℕ → ℕ
     → List Slot) (clock : NodeClock) (past : List Moment) (filled : ℕ → ℕ)
     (states : List NodeState) (parts held : List Part) : Type 0 where
@@ -47,7 +49,8 @@ pub record HasFinished (setting : Setting) (sub : ℕ → ℕ
   pub held_are : IsHeld setting sub clock past held
   pub stands : ClockStands setting sub clock (moment_after setting sub clock past ∷ past) filled states
 
--- an instant of a clock was made in this second, whatever instants the states stood for
+-- the program made one instant of a clock in this second: for every past for which the old states stood, the new ones
+-- stand for one instant more, with its parts and with what the nodes gave
 pub record InstantFinished (scene : Scene) (own : List Bool) (clock : NodeClock) (second : ℕ) (old new : List NodeState)
     (parts held : List Part) : Type 0 where
   pub made : (other : Setting) (sub : ℕ → ℕ → List Slot) (past : List Moment) (filled : ℕ → ℕ) →

@@ -15,30 +15,32 @@ use Rattle.node_states.specs.Passing.{LaneFills, asked, given_part, passes}
 use Rattle.clock_nodes.specs.declared.scene.Scene.{Scene}
 use Rattle.clock_nodes.specs.Nodes.{lies_at}
 
--- what a node with this part gave: the part if it is demanded and offers a cell, and otherwise silence
+-- what a node with this part (slot and picked child) gave at an instant: the part if it is demanded and offers a
+-- cell, and otherwise silence
 abbrev pub given_by : (demanded : Bool) → Part → Part
 given_by demanded part = if demanded && is_some part.slot then part else silent
 
--- whether node i gave; `held` is what each node gave at the latest instant of its clock
+-- whether node i gave a cell at the latest instant of its clock; `held` has what each node gave there
 abbrev pub gave_at : List Part → ℕ → Bool
 gave_at held i = is_some (part_at held i).slot
 
--- whether cells pass through node i
+-- whether node i is a crossfade through which its child's cells pass one for one: it holds one overlap of a track,
+-- and each cell more settles one item that it plays
 abbrev pub passes_at : List NodeState → ℕ → Bool
 passes_at states i = option_map_or passes (slice_get states i) false
 
--- whether node i gave at an instant, and cells pass through it
+-- whether node i gave at this instant, and is a crossfade through which its child's cells pass one for one
 abbrev pub goes_through : Moment → List NodeState → ℕ → Bool
 goes_through moment states i = gives moment i && passes_at states i
 
--- `held` has what each node of a clock gave at the instant after this past
+-- `held` has what each node of a clock gave at the instant after this past: its part, or silence where it gave nothing
 pub record IsHeld (setting : Setting) (sub : ℕ → ℕ
     → List Slot) (clock : NodeClock) (past : List Moment) (held : List Part) : Type 0 where
   pub each : (i : ℕ) → i < length setting.plan.nodes → lies_in setting clock i ≡ true
       → part_at held i ≡ given_part (moment_after setting sub clock past) i
 
--- the crossfades of a clock that gave at the instant after this past, and through which cells pass, get cells of one
--- track for as many instants as `rests` says; `held` has their children's titles
+-- the crossfades of a clock that gave at the instant after this past, and through which cells pass, get from their
+-- sub-clocks cells of one track for as many instants as `rests` says; `held` has the titles of their children
 pub record AreFilledOn (setting : Setting) (sub : ℕ → ℕ
     → List Slot) (clock : NodeClock) (past : List Moment) (filled : ℕ → ℕ) (held : List Part) (states : List NodeState)
     (rests : List ℕ) : Type 0 where
@@ -47,8 +49,8 @@ pub record AreFilledOn (setting : Setting) (sub : ℕ → ℕ
       → AreFilled setting sub k (filled k) (slice_index_or rests k 0)
       (title_of (part_at held (crossfaded setting.plan.nodes k)).slot)
 
--- the sub-clock of each crossfade of a clock that gave, and through which cells pass, goes on for `count` instants at
--- least, by `rests`
+-- by `rests`, the sub-clock of each crossfade of a clock that gave, and through which cells pass, goes on as it did
+-- for at least `count` instants
 pub record AllPassOn (scene : Scene) (clock : NodeClock) (held : List Part) (states : List NodeState) (rests : List ℕ)
     (count : ℕ) : Type 0 where
   pub each : (i : ℕ) (state : NodeState) → i < length scene.clocks.now → lies_at scene.clocks.now clock i ≡ true

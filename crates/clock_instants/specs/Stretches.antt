@@ -27,17 +27,18 @@ use Rattle.clock_instants.specs.Resting.{AreReadTo}
 use Rattle.clock_nodes.specs.Scenes.{IsScene, setting_over}
 use Rattle.clock_nodes.specs.States.{AllFit, ClockStands}
 
--- node i has a lane on each side, with room for any stretch
+-- node i has room on each side for the samples of a stretch, the instants that are made at once
 pub record HasLanes (left right : Lanes) (i : ℕ) : Type 0 where
   pub on_left : HasLane left i
   pub on_right : HasLane right i
 
--- there is spare room for any stretch on each side
+-- the spare room of each side, in which a node's samples are made, holds any stretch: at most 2048 instants at once
 pub record IsSpare (spare : Spare) : Type 0 where
   pub on_left : 2048 ≤ length spare.left.items
   pub on_right : 2048 ≤ length spare.right.items
 
--- room for the stretches of so many nodes; between two stretches the part of each node is silent
+-- the room has a place for each of so many nodes, and spare room; between two stretches (instants made at once) no
+-- node has a part in it
 pub record HasStretchRoom (nodes : ℕ) (room : StretchRoom) : Type 0 where
   pub in_left : length room.left.items ≡ nodes
   pub in_right : length room.right.items ≡ nodes
@@ -47,21 +48,22 @@ pub record HasStretchRoom (nodes : ℕ) (room : StretchRoom) : Type 0 where
   pub in_parts : length room.parts.items ≡ nodes
   pub clear : (j : ℕ) → part_at room.parts.items j ≡ silent
 
--- there are `count` lanes, one for each of the first nodes; it has room for any stretch unless the node's state is idle
+-- of the first `count` nodes each has a lane, its list of samples, with room for any stretch unless its state is idle
 pub record HaveLanes (states : List NodeState) (count : ℕ) (lanes : Lanes) : Type 0 where
   pub size : length lanes ≡ count
   pub each : (i : ℕ) (state : NodeState) → i < count → slice_get states i ≡ Some state → (state ≡ Idle → ⊥)
       → HasLane lanes i
 
--- the next `count` cells or items of each node of a clock that gave are there, and none begins a track; crossfades
--- through which cells pass are left out
+-- each node of a clock that gave can play `count` instants more from what it has: its next cells or items are there,
+-- and none begins a track; a crossfade through which cells pass gets them from its child
 pub record AllLieAhead (scene : Scene) (clock : NodeClock) (held : List Part) (states : List NodeState)
     (count : ℕ) : Type 0 where
   pub each : (i : ℕ) (state : NodeState) → i < length scene.clocks.now → lies_at scene.clocks.now clock i ≡ true
       → slice_get states i ≡ Some state → gave_at held i ≡ true → LiesAhead scene.library.now state count
 
--- the latest instant of a clock is the one after this past, at this time: `parts` are its parts, `held` is what was
--- given there, the states stand for it too, and sub-clocks go on for as long as `rests` says
+-- the program stands right after the instant that follows this past, at this time: `parts` are its parts, `held` is
+-- what was given there, the states stand for it too, and sub-clocks go on as they did for as many instants as `rests`
+-- says
 pub record IsBehind (setting : Setting) (sub : ℕ → ℕ → List Slot) (clock : NodeClock) (past : List Moment) (filled : ℕ
     → ℕ) (time : WeekTime)
     (parts held : List Part) (states : List NodeState) (rests : List ℕ) : Type 0 where
@@ -73,8 +75,9 @@ pub record IsBehind (setting : Setting) (sub : ℕ → ℕ → List Slot) (clock
   pub time_is : TimeStands setting.start (length past) time
   pub filled_on : AreFilledOn setting sub clock past filled held states rests
 
--- `rest` instants go on as the latest one of a clock did, whatever instants the states stood for: they are a stretch
--- with it, and in each of them a crossfade that gave asks for one slot where cells pass, and otherwise for none
+-- A clock can make `rest` instants at once behind its latest one, whatever instants the states stood for: they form a
+-- stretch with it, instants that differ in their samples alone. In each of them a crossfade that gave asks for one
+-- slot where cells pass, and otherwise for none.
 pub record ClockGoesOn (scene : Scene) (clock : NodeClock) (time : WeekTime) (parts held : List Part)
     (states : List NodeState) (rests : List ℕ)
     (rest : ℕ) : Type 0 where
@@ -86,9 +89,9 @@ pub record ClockGoesOn (scene : Scene) (clock : NodeClock) (time : WeekTime) (pa
       IsBehind setting sub clock past filled time parts held states rests
       → AllAsk setting sub clock past filled states (length scene.clocks.now) rest
 
--- the instant after this past was made, and `many` instants are a stretch with it: `held` is what was given there, the
--- states stand for it too, the nodes of the clock have lanes, and the crossfades through which cells pass have the
--- samples of their children
+-- A clock is about to make `many` instants at once, behind the one that follows this past, at which `held` was given.
+-- They are a stretch with it, each node has room for its samples, and crossfades through which cells pass have the
+-- samples of their children.
 pub record IsGoing (setting : Setting) (sub : ℕ → ℕ
     → List Slot) (clock : NodeClock) (past : List Moment) (many : ℕ) (filled : ℕ → ℕ)
     (held : List Part) (states : List NodeState) (left right : Lanes) : Type 0 where
@@ -100,14 +103,14 @@ pub record IsGoing (setting : Setting) (sub : ℕ → ℕ
   pub laned : (i : ℕ) (node : Node) → IsNode setting clock i node → HasLanes left right i
   pub supplied : AreSupplied setting sub clock past many filled held states left right
 
--- by node, how many instants a reader has begun, or slots a crossfade was given, after `many` instants more of a clock:
--- as many more for its readers, and for its crossfades through which cells pass
+-- how many instants a reader, or slots a crossfade, has got (`filled`, by node) after `many` instants more of a clock:
+-- as many more for its readers, and for its crossfades through which cells pass; no more for any other node
 abbrev pub begun_on : Setting → NodeClock → (through : ℕ → Bool) → (many : ℕ) → (filled : ℕ → ℕ) → ℕ → ℕ
 begun_on setting clock through many filled i = filled_on (lies_in setting clock i
     && (through i || reads_at setting i)) many (filled i)
 
--- `many` instants were made that go on as the one after this past did: the states stand for them too, and the nodes
--- that give have left their samples
+-- a clock has made `many` instants at once, behind the one that follows this past: the states stand for them too, and
+-- each node that gives has left its samples in its lanes, one list a side
 pub record HasGoneOn (setting : Setting) (sub : ℕ → ℕ
     → List Slot) (clock : NodeClock) (past : List Moment) (many : ℕ) (filled : ℕ → ℕ)
     (old : List NodeState) (left right : Lanes) (states : List NodeState) : Type 0 where
@@ -116,21 +119,23 @@ pub record HasGoneOn (setting : Setting) (sub : ℕ → ℕ
   pub lanes : (i : ℕ) → gives (moment_after setting sub clock past) i ≡ true
       → IsLane (λ j. lane setting sub clock past (suc j) i) many (samples_of left i many) (samples_of right i many)
 
--- crossfade k, which was given `filled` slots, has the samples of its child for `many` instants; `held` has the child's
--- title
+-- crossfade k, which was given `filled` slots of its child before, has the child's samples for `many` instants more;
+-- `held` has the child's title
 abbrev pub IsSupplied : History → (many filled k : ℕ) → (held : List Part) → Sides Lanes → Type 0
 IsSupplied history many filled k held sides =
     let child = crossfaded history.setting.plan.nodes k in
     LaneFills (history.sub k) filled many (title_of (part_at held child).slot)
     (samples_of sides.left child many) (samples_of sides.right child many)
 
--- the samples of node k are those that it plays in the `many` instants after the next one
+-- the samples of node k on both sides are those that it plays in the `many` instants after the next one of this
+-- history, the instants that its clock made so far
 abbrev pub HasMadeLane : History → (many k : ℕ) → Sides Lanes → Type 0
 HasMadeLane history many k sides = IsLaneOf history k many
     (samples_of sides.left k many) (samples_of sides.right k many)
 
--- before node i makes the `many` instants after the next one: what it and the nodes before it gave, and the samples of
--- those that gave; `held` is what all nodes gave
+-- What node i needs to make the `many` instants after the next one of this history, the instants of its clock so far.
+-- Its state stands for the next one, the nodes before it have made their samples, and `parts` has what all up to it
+-- gave; `held` is what all nodes gave.
 pub record NodeGivesOn (history : History) (many filled i : ℕ) (node : Node) (held parts : List Part)
     (sides : Sides Lanes) (state : NodeState) : Type 0 where
   pub long : AreLong history.sub
@@ -143,14 +148,16 @@ pub record NodeGivesOn (history : History) (many filled i : ℕ) (node : Node) (
   pub lanes : (k : ℕ) → k < i → gives (next_of history) k ≡ true → HasMadeLane history many k sides
   pub supplied : gives (next_of history) i ≡ true → passes state ≡ true → IsSupplied history many filled i held sides
 
--- after node i made the `many` instants after the next one: what its state stands for, and if it gives, its samples
+-- node i has made the `many` instants after the next one of this history, the instants of its clock so far: its new
+-- state stands for them too, and if it gives, its samples are in its lanes
 pub record NodeHasGone (history : History) (many filled i : ℕ) (node : Node) (old : NodeState) (sides : Sides Lanes)
     (state : NodeState) : Type 0 where
   pub stands : StandsOn history (suc many) (filled_on ((gives (next_of history) i && passes old)
       || reads (work_at history.setting i node)) many filled) i node state
   pub lane_is : gives (next_of history) i ≡ true → HasMadeLane history many i sides
 
--- after node i, which gives, made the `many` instants after the next one with these samples: what its state stands for
+-- node i, which gives, has made the `many` instants after the next one of this history, the instants of its clock so
+-- far: these are its samples on both sides, and its new state stands for them too
 pub record NodeHasMade (history : History) (many filled i : ℕ) (node : Node) (old : NodeState)
     (samples : Sides (List ℤ)) (state : NodeState) : Type 0 where
   pub gave : gives (next_of history) i ≡ true
@@ -158,18 +165,18 @@ pub record NodeHasMade (history : History) (many filled i : ℕ) (node : Node) (
       || reads (work_at history.setting i node)) many filled) i node state
   pub lane_is : IsLaneOf history i many samples.left samples.right
 
--- so many instants can be made at once: at least one, and at most as many as a stretch has
+-- a number of instants that may be made at once: at least 1, and at most 2048, the longest stretch
 pub record AreAtOnce (many : ℕ) : Type 0 where
   pub some : 0 < many
   pub short : many ≤ 2048
 
--- the first `many` samples of node i stayed as they were
+-- the first `many` samples of node i are on both sides the same as before
 pub record HasKeptSamples (left_old right_old left right : Lanes) (many i : ℕ) : Type 0 where
   pub on_left : samples_of left i many ≡ samples_of left_old i many
   pub on_right : samples_of right i many ≡ samples_of right_old i many
 
--- for so many nodes there is what they gave, a part each, which is silent, and a lane on each side; and there is spare
--- room
+-- there is room to make a stretch of so many nodes: a place for what each gave (`held`), a silent part for each, its
+-- samples on each side, and spare room
 pub record HasRoomToRun (nodes : ℕ) (held parts : List Part) (left right : Lanes) (spare : Spare) : Type 0 where
   pub in_held : length held ≡ nodes
   pub in_parts : length parts ≡ nodes
@@ -178,7 +185,8 @@ pub record HasRoomToRun (nodes : ℕ) (held parts : List Part) (left right : Lan
   pub in_right : length right ≡ nodes
   pub in_spare : IsSpare spare
 
--- the nodes of a clock can make `count` instants that go on as its latest one, at which `held` was given
+-- the nodes of a clock can make `count` instants at once that go on as its latest one, at which `held` was given: the
+-- states fit the nodes, and all that they play is there
 pub record CanRunNodes (over : Scene) (nodes : ClockNodes) (clock : NodeClock) (count : ℕ) (held : List Part)
     (states : List NodeState) : Type 0 where
   pub scene : IsScene over
@@ -187,7 +195,8 @@ pub record CanRunNodes (over : Scene) (nodes : ClockNodes) (clock : NodeClock) (
   pub fit : AllFit over states
   pub ahead : AllLieAhead over clock held states count
 
--- node i of a plan can make `many` instants at once, by the parts of all nodes: its state fits it
+-- node i of a plan can be asked for `many` instants at once: it is there, its state fits it, the number is no more
+-- than a stretch has, and `parts` has a part for each node
 pub record IsNodeToRun (over : Scene) (i many : ℕ) (parts : List Part) (state : NodeState) : Type 0 where
   pub scene : IsScene over
   pub within : i < length over.plan.now.nodes
@@ -196,8 +205,8 @@ pub record IsNodeToRun (over : Scene) (i many : ℕ) (parts : List Part) (state 
   pub fits : (node : Node) → slice_get over.plan.now.nodes i ≡ Some node
       → Fits over.library.now (length node.children) state
 
--- node i can make `many` instants at once: there are lanes for all nodes and spare ones, and if it gave, its next cells
--- or items are there
+-- node i can make `many` instants at once: there is room for the samples of all nodes and spare room, and if it gave,
+-- its next cells or items are there
 pub record CanRunNode (scene : Scene) (i many : ℕ) (parts : List Part) (left right : Lanes) (spares : Spare)
     (state : NodeState) : Type 0 where
   pub node : IsNodeToRun scene i many parts state
@@ -206,7 +215,8 @@ pub record CanRunNode (scene : Scene) (i many : ℕ) (parts : List Part) (left r
   pub spare : IsSpare spares
   pub ahead : is_some (part_at parts i).slot ≡ true → LiesAhead scene.library.now state many
 
--- the nodes of a clock have made `many` instants that go on as its latest one, whatever instants the states stood for
+-- the nodes of a clock have made `many` instants at once that go on as its latest one: whatever instants the old
+-- states stood for, the new ones stand for so many more, and the samples are those of these instants
 pub record NodesRun (scene : Scene) (clock : NodeClock) (many : ℕ) (held : List Part) (old : List NodeState)
     (left_old right_old left right : Lanes)
     (states : List NodeState) : Type 0 where
@@ -215,7 +225,8 @@ pub record NodesRun (scene : Scene) (clock : NodeClock) (many : ℕ) (held : Lis
       IsGoing setting sub clock past many filled held old left_old right_old
       → HasGoneOn setting sub clock past many filled old left right states
 
--- node i has made `many` instants that go on as its latest one, whatever instants its state stood for
+-- node i has made `many` instants at once that go on as the latest one of its clock: whatever instants its old state
+-- stood for, the new one stands for so many more, and if it gives, its samples are in its lanes
 pub record NodeRun (scene : Scene) (i many : ℕ) (held parts : List Part) (old : NodeState) (before after : Sides Lanes)
     (state : NodeState) : Type 0 where
   pub run : (other : Setting) (sub : ℕ → ℕ → List Slot) (clock : NodeClock) (past : List Moment) (filled : ℕ)
@@ -224,8 +235,8 @@ pub record NodeRun (scene : Scene) (i many : ℕ) (held parts : List Part) (old 
       NodeGivesOn history many filled i node held parts before old
       → NodeHasGone history many filled i node old after state
 
--- node i, which gave, has made `many` instants that go on as its latest one, with these samples: whatever instants its
--- state stood for
+-- node i, which gave, has made `many` instants at once that go on as the latest one of its clock, with these samples:
+-- whatever instants its old state stood for, the new one stands for so many more
 pub record NodeMade (scene : Scene) (i many : ℕ) (held parts : List Part) (old : NodeState) (before : Sides Lanes)
     (samples : Sides (List ℤ)) (state : NodeState) : Type 0 where
   pub made : (other : Setting) (sub : ℕ → ℕ → List Slot) (clock : NodeClock) (past : List Moment) (filled : ℕ)

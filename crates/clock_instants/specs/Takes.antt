@@ -16,52 +16,56 @@ use Rattle.clock_nodes.specs.declared.scene.Scene.{Scene}
 use Rattle.clock_nodes.specs.Scenes.{setting_over}
 use Rattle.clock_nodes.specs.States.{ClockStands, IsIn}
 
--- node i of a plan reads a buffer
+-- node i of a plan is a reader: it plays the cells that others have put to a buffer
 pub record IsReader (plan : Plan) (i : ℕ) : Type 0 where
   pub buffer : ℕ
   pub node : Node
   pub found : slice_get plan.nodes i ≡ Some node
   pub reads : node.op ≡ Buffer buffer
 
--- node i lies in a clock, or in a sub-clock `rank` ranks below it
+-- node i lies in a clock, or below it: `rank` says through how many crossfades, each of which drives a sub-clock
 abbrev pub IsUnder : List NodeClock → NodeClock → (rank i : ℕ) → Type 0
 IsUnder clocks clock zero i = slice_index_or clocks i (Main 0) ≡ clock
 IsUnder clocks clock (suc rank) i = (k : ℕ) × (slice_index_or clocks i (Main 0) ≡ Sub k) × IsUnder clocks clock rank k
 
--- a node in a clock or below it reads a buffer
+-- a clock, or a sub-clock below it, has a reader: a node that plays what was put to a buffer
 pub record HasReader (plan : Plan) (clocks : List NodeClock) (clock : NodeClock) : Type 0 where
   pub rank : ℕ
   pub i : ℕ
   pub under : IsUnder clocks clock rank i
   pub reader : IsReader plan i
 
--- each reader of a plan reads one of `buffers` buffers
+-- each reader of a plan reads one of the first `buffers` buffers, so that its buffer is there
 pub record ReadersAreIn (plan : Plan) (buffers : ℕ) : Type 0 where
   pub each : (i buffer : ℕ) (node : Node) → slice_get plan.nodes i ≡ Some node → node.op ≡ Buffer buffer
       → buffer < buffers
 
--- no buffer has two readers
+-- no buffer has two readers: two nodes that read the same buffer are one
 pub record HasOwnReaders (setting : Setting) : Type 0 where
   pub each : (i j buffer : ℕ) (one other : Node) → slice_get setting.plan.nodes i ≡ Some one
       → slice_get setting.plan.nodes j ≡ Some other
       → work_at setting i one ≡ Reads buffer → work_at setting j other ≡ Reads buffer → i ≡ j
 
--- how many instants a node has begun after one more of its clock: a reader one more, and any other node none more
+-- how many instants a node has begun after one more of its clock, of `filled` before: a reader one more, any other node
+-- none more
 abbrev pub begun_by : Bool → ℕ → ℕ
 begun_by reading filled = if reading then suc filled else filled
 
--- by node, how many instants it has begun after the readers of a clock began one more
+-- by node, how many instants it has begun after the readers of a clock have begun one more, of those in `filled`
+-- before
 abbrev pub begun_in : Setting → NodeClock → (filled : ℕ → ℕ) → ℕ → ℕ
 begun_in setting clock filled i = begun_by (lies_in setting clock i && reads_at setting i) (filled i)
 
--- the readers of a clock have taken the answers `front` in the instants of this past, and have begun no instant more
+-- before the readers of a clock begin an instant: they have begun those of this past, and of each buffer they have
+-- taken just the answers in `front`
 pub record HaveTaken (setting : Setting) (clock : NodeClock) (past : List Moment) (filled : ℕ → ℕ) (front : ℕ
     → List Answer) : Type 0 where
   pub even : (i : ℕ) → lies_in setting clock i ≡ true → reads_at setting i ≡ true → filled i ≡ length past
   pub taken : (i buffer : ℕ) (node : Node) → IsIn setting clock i node → work_at setting i node ≡ Reads buffer
       → (reading_after setting i buffer past).taken ≡ length (front buffer)
 
--- node i, which does this work, has begun the instant after this past, with the calls `more`
+-- node i, which does this work, has begun the instant after this past with the calls `more` of its buffer: its state
+-- stands for it, the calls are the takes that it is to make, and they got the answers behind `front`
 pub record HasBegun (setting : Setting) (sub : ℕ → ℕ
     → List Slot) (past : List Moment) (filled i : ℕ) (work : Work) (front : ℕ → List Answer)
     (more : List Call) (state : NodeState) : Type 0 where
@@ -71,7 +75,8 @@ pub record HasBegun (setting : Setting) (sub : ℕ → ℕ
       → (reading_by setting i buffer past (suc (length past))).taken ≡ length (after_calls front more buffer)
   pub others : (buffer : ℕ) → (work ≡ Reads buffer → ⊥) → answers_in buffer more ≡ []
 
--- node i has begun an instant that begins a tick, whatever instants its state stood for, with calls that the taps got
+-- node i has begun a tick: whatever instants its state stood for, it made all the takes of its buffer that are due
+-- there, and the taps, which stand for the calls made so far, have these behind the earlier ones
 pub record NodeBegan {T : Type 0} (stands : T → List Call
     → Type 0) (scene : Scene) (i : ℕ)
     (old new : NodeState) (taps_old taps_new : T) : Type 0 where
@@ -88,8 +93,8 @@ pub record NodeBegan {T : Type 0} (stands : T → List Call
       → (reading_after setting i buffer past).taken ≡ length (front buffer))
       → HasBegun setting sub past filled i (work_at setting i node) front more new
 
--- node i has made some of the takes with which it begins a tick, from the first on, whatever instants its state stood
--- for
+-- memory ran out while node i began a tick: it made the first of the takes that are due there, and the taps, which
+-- stand for the calls made so far, have these behind the earlier ones; whatever instants its state stood for
 pub record NodeTookSome {T : Type 0} (stands : T → List Call
     → Type 0) (scene : Scene) (i : ℕ)
     (old : NodeState) (taps_old taps_new : T) : Type 0 where
@@ -105,12 +110,14 @@ pub record NodeTookSome {T : Type 0} (stands : T → List Call
       → (reading_after setting i buffer past).taken ≡ length (front buffer))
       → IsBegin made (takes_in setting true past i (Some node))
 
--- the takes of a clock's readers at the instant after this past, in node order, up to node n
+-- the takes, at the instant after this past, of those readers of a clock that are among the first n nodes of the
+-- plan, in node order
 abbrev pub takes_below : Setting → NodeClock → List Moment → (n : ℕ) → List Call
 takes_below setting clock past n = joined_upto
     (λ i. takes_in setting (lies_in setting clock i) past i (slice_get setting.plan.nodes i)) n
 
--- the readers of a clock have begun the instant after this past with the calls `more`, after the answers `front`
+-- the readers of a clock have begun the instant after this past: the calls `more` are all of their takes in node order,
+-- with answers behind those of `front`, and the states stand for what they took
 pub record AreBegun (setting : Setting) (sub : ℕ → ℕ → List Slot) (clock : NodeClock) (past : List Moment) (filled : ℕ
     → ℕ) (front : ℕ → List Answer)
     (more : List Call) (states : List NodeState) : Type 0 where
@@ -121,7 +128,8 @@ pub record AreBegun (setting : Setting) (sub : ℕ → ℕ → List Slot) (clock
   pub others : (buffer : ℕ) → ((i : ℕ) (node : Node) → IsIn setting clock i node → work_at setting i node ≡ Reads buffer
       → ⊥) → answers_in buffer more ≡ []
 
--- the readers of a clock have begun a tick, whatever instants the states stood for, with calls that the taps got
+-- the readers of a clock have begun a tick, whatever instants the states stood for: they made all the takes that are
+-- due there, and the taps, which stand for the calls made so far, have these behind the earlier ones
 pub record HaveBegun {T : Type 0} (stands : T → List Call
     → Type 0) (scene : Scene) (clock : NodeClock)
     (old new : List NodeState) (taps_old taps_new : T) : Type 0 where
@@ -135,8 +143,9 @@ pub record HaveBegun {T : Type 0} (stands : T → List Call
       → ClockStands setting sub clock past filled old → HaveTaken setting clock past filled front
       → AreBegun setting sub clock past filled front more new
 
--- the readers of a clock have made some of the takes with which they begin a tick, from the first on, whatever instants
--- the states stood for
+-- Memory ran out while the readers of a clock began a tick, and they made only the first of the takes that are due
+-- there. The taps, which stand for the calls made so far, have these behind the earlier ones; whatever instants the
+-- states stood for.
 pub record HaveTakenSome {T : Type 0} (stands : T → List Call
     → Type 0) (scene : Scene) (clock : NodeClock)
     (old : List NodeState) (taps_old taps_new : T) : Type 0 where

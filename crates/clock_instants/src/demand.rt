@@ -63,7 +63,8 @@ pub fn find_demanded(
     }
 }
 
-// Which children a demanded node of this operator uses.
+// Which children a demanded node of this operator uses: none (a leaf, a crossfade, a reader), all that offer (a mix),
+// or the one that it picked.
 fn demand_of(op: &Op) -> Demand
     ensures { (rate i : ℕ) (kind : TheKind) (parts : List Part) (children : List ℕ) (pick : Option ℕ)
         → offering parts (child_at children pick) ≡ child_at children pick
@@ -98,7 +99,7 @@ fn demand_picked(children: &[u32], parts: &[Part], pick: Option<u32>, demanded: 
     }
 }
 
-// Demands the children that offer a cell.
+// Demands all children that offer a cell: sets them in `demanded`.
 fn demand_offering(children: &[u32], parts: &[Part], demanded: &mut [bool])
     requires in_demanded { All (λ child. child < length demanded.old) children.now }
     requires in_parts { All (λ child. child < length parts.now) children.now }
@@ -113,7 +114,7 @@ fn demand_offering(children: &[u32], parts: &[Part], demanded: &mut [bool])
     }
 }
 
-// Demands the children that a demanded node uses.
+// Demands the children that a demanded node uses: sets them in `demanded`.
 fn demand_used(
     demand: Demand,
     children: &[u32],

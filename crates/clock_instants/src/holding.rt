@@ -33,7 +33,7 @@ pub fn hold(
     }
 }
 
-// What a node with this part gave: the part if it is demanded and offers a cell, and otherwise silence.
+// What a node gave at an instant: its part, if it was demanded and offers a cell, and otherwise silence.
 fn given(part: Part, demanded: bool) -> Part
     ensures { result ≡ given_by demanded part }
 {

@@ -69,7 +69,7 @@ impl Latest {
     }
 }
 
-// Clears what the nodes of a clock did; no other node did anything.
+// Makes the parts of a clock's nodes silent and demands none of them; nodes of other clocks are so already.
 fn clear(
     scene: &Scene<'_>,
     nodes: &ClockNodes,

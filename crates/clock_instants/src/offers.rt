@@ -16,8 +16,8 @@ use fixed_text::WeekSecond;
 use node_states::{Desk, NodeState};
 use stream_meaning::Part;
 
-/// Writes to `parts`, where each part is silent, what the nodes of a clock do at an instant in second `at` of the week.
-/// `desk` has room for the children of a node.
+/// Makes the first step of an instant in second `at` of the week: writes to `parts`, where each part is silent, what
+/// each node of a clock offers and which child it picks. `desk` has room for the children of a node.
 pub fn make_parts(
     scene: &Scene<'_>,
     nodes: &ClockNodes,
@@ -48,7 +48,8 @@ pub fn make_parts(
     }
 }
 
-// What node i does at an instant in second `at` of the week; `parts` are those of the nodes before it.
+// What node i offers, and which child it picks, at an instant in second `at` of the week; `parts` has the same of the
+// nodes before it, among them its children.
 fn offer_of(
     scene: &Scene<'_>,
     state: &NodeState,

@@ -63,8 +63,8 @@ pub fn run_nodes(
     forget(scene, nodes, clock, &mut stretch_room.parts);
 }
 
-// Makes `many` instants of the clock's nodes, node by node: their states go on, and each that gives leaves its samples.
-// `parts` is silent before; afterwards it has the held parts of these nodes.
+// Makes `many` instants at once of all nodes of a clock, node by node: their states go on, and each that gives leaves
+// its samples. `parts` is silent before; afterwards it has the held parts of these nodes.
 fn run_each(
     scene: &Scene<'_>,
     nodes: &ClockNodes,
@@ -196,7 +196,7 @@ fn make_samples(
     );
 }
 
-// Whether node i has a lane with room for any stretch.
+// Whether node i has a lane, its list of samples of one side, with room for any stretch (instants made at once).
 fn has_lane(lanes: &[Vec<i16>], i: usize) -> bool
     requires within { i < length lanes.now }
     ensures there { result ≡ true → HasLane lanes.now i }
@@ -205,7 +205,7 @@ fn has_lane(lanes: &[Vec<i16>], i: usize) -> bool
     lanes[i].len() >= MAX_STRETCH as usize
 }
 
-// Clears the parts of a clock's nodes; no other node has any.
+// Makes the parts of a clock's nodes silent again after a stretch; those of other nodes are so already.
 fn forget(scene: &Scene<'_>, nodes: &ClockNodes, clock: NodeClock, parts: &mut [Part])
     requires chains { AreNodesOf scene.now.clocks.now nodes.now }
     requires in_parts { length parts.old ≡ length scene.now.clocks.now }

@@ -110,8 +110,8 @@ fn node_rest(
     )
 }
 
-// How many instants after the one at `time` a switch goes on before its eligible children may change, and a reader
-// before a tick begins, of which `tick` instants are left; `most` for every other node.
+// The bound that time sets to how long a node goes on after the instant at `time`: for a switch, until its eligible
+// children may change; for a reader, the `tick` instants until a tick begins; `most` for every other node.
 fn border(op: &Op, time: WeekTime, tick: u32, most: u32) -> u32
     ensures marks { MarksStay op.now time result }
     ensures tick { (rate i buffer : ℕ) (kind : TheKind) → work_of rate i kind op.now ≡ Reads buffer → result ≡ tick }
@@ -123,8 +123,8 @@ fn border(op: &Op, time: WeekTime, tick: u32, most: u32) -> u32
     }
 }
 
-// How many instants after the one at `time` the eligible children of a switch stay the same; `most` if its second lasts
-// as long. The predicates are asked only if it ends before.
+// For how many instants after the one at `time` the predicates of a switch choose the same children; `most` if its
+// second lasts as long. The predicates are asked only if it ends before.
 fn steady_left(op: &Op, time: WeekTime, most: u32) -> u32
     ensures { MarksStay op.now time result }
 {
@@ -134,7 +134,7 @@ fn steady_left(op: &Op, time: WeekTime, most: u32) -> u32
     time.seconds_left(steady_seconds(op, time.second))
 }
 
-// Whether the child at `place` among a node's children begins a track; without a place, no.
+// Whether the child at `place` in a node's list of children offers the first cell of a track; without a place, no.
 fn begins(parts: &[Part], children: &[u32], place: Option<u32>) -> bool
     ensures { result ≡ begins_at parts.now children.now place }
 {

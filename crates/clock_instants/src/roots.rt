@@ -5,8 +5,8 @@ ghost use Rattle.clock_nodes.specs.Nodes.{AreNodesOf, lies_at};
 use clock_infer::NodeClock;
 use clock_nodes::{ClockNodes, Scene};
 
-/// Sets in `demanded`, where none is set, which nodes of a clock are demanded of themselves; `own` says so of each node
-/// in its own clock.
+/// Begins the search for what is demanded: sets in `demanded`, where none is set, the nodes of a clock that are
+/// demanded of themselves, by a sink or as a crossfade's child. `own` says so of each node in its own clock.
 pub fn demand_roots(
     scene: &Scene<'_>,
     nodes: &ClockNodes,

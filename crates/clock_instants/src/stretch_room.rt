@@ -44,7 +44,7 @@ pub struct Spare {
 }
 
 impl Spare {
-    /// Room for any stretch. No later call takes memory.
+    /// Room for the samples of one node in any stretch (instants made at once). No later call takes memory.
     pub fn new(alloc: Global) -> Result<Spare, Memory>
         ensures { IfOk result IsSpare }
     {
@@ -104,7 +104,8 @@ impl StretchRoom {
     }
 }
 
-// A lane for each node that is not idle.
+// Room for the samples of one side: a lane (a list of samples) for each node, with zeros for any stretch, and empty
+// where the node is idle.
 fn lanes_of(alloc: Global, states: &[NodeState]) -> Result<Vec<Vec<i16>>, Memory>
     ensures { IfOk result (λ lanes. HaveLanes states.now (length states.now) lanes.items) }
 {
@@ -115,7 +116,8 @@ fn lanes_of(alloc: Global, states: &[NodeState]) -> Result<Vec<Vec<i16>>, Memory
     Ok(lanes)
 }
 
-// The lane of a node: `MAX_STRETCH` samples, all of them 0; empty where it is idle.
+// The lane of a node, its list of samples of one side: `MAX_STRETCH` samples, all of them 0; empty where the node is
+// idle.
 fn lane_for(alloc: Global, state: &NodeState) -> Result<Vec<i16>, Memory>
     ensures { IfOk result (λ lane. (state.now ≡ Idle → ⊥) → length lane.items ≡ 2048) }
 {

@@ -14,8 +14,8 @@ use frame_core::Taps;
 use liq_base::Memory;
 use node_states::NodeState;
 
-/// Lets the readers of a clock take, in node order, at an instant that begins a tick of it. Where memory is refused
-/// some of these takes were made.
+/// Begins a tick of a clock: lets its readers, in node order, take chunks from their buffers, the taps. Where memory
+/// is refused some of these takes were made.
 pub fn begin_readers<T: Taps>(
     scene: &Scene<'_>,
     nodes: &ClockNodes,
@@ -44,7 +44,7 @@ pub fn begin_readers<T: Taps>(
     Ok(())
 }
 
-// Lets node i take from its buffer, if it is a reader.
+// Lets node i take chunks from its buffer, if it is a reader, at an instant that begins a tick.
 fn take_at<T: Taps>(
     scene: &Scene<'_>,
     i: usize,

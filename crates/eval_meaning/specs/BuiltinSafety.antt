@@ -16,7 +16,7 @@ use Rattle.script_values.specs.Values as value
 use Rattle.script_values.specs.Values.{Value}
 use Rattle.builtin_calls.specs.Builtins.{builtin}
 
--- the nodes of `before` are in `after` with the same numbers
+-- evaluation has only added nodes: each node of the list `before` is in `after` under the same number
 abbrev pub Grows : List Node → List Node → Type 0
 Grows before after = (n : ℕ) (node : Node) → slice_get before n ≡ Some node → slice_get after n ≡ Some node
 
@@ -34,25 +34,27 @@ abbrev mutual
   IsA ns (value.ListValue vs) g = (t : Ground) × (g ≡ list t) × AllAre ns vs t
   IsA ns (value.TupleValue vs) g = (ts : Grounds) × (g ≡ tuple ts) × EachIs ns vs ts
 
-  -- each of these values has the type t over the nodes ns
+  -- each of these values, the items of a list, has the type t, where the plan has the nodes ns
   pub AllAre : List Node → value.ValueTree value.ManyValues → Ground → Type 0
   AllAre ns value.no_values t = ⊤
   AllAre ns (value.more_values v vs) t = IsA ns v t × AllAre ns vs t
 
-  -- the values have these types in order over the nodes ns
+  -- these values, the parts of a tuple, have these types one for one, where the plan has the nodes ns
   pub EachIs : List Node → value.ValueTree value.ManyValues → Grounds → Type 0
   EachIs ns value.no_values ts = ts ≡ ground.no_more
   EachIs ns (value.more_values v vs) ts = (t : Ground) × (us : Grounds) × (ts ≡ ground.and_more t us) × IsA ns v t
       × EachIs ns vs us
 
--- arguments with these labels, whose values have these types over the nodes ns
+-- the arguments given in a call are of these types, one for one: each has the label that its type comes with, and a
+-- value of this type over the nodes ns
 abbrev pub AreA : List Node → List Argument → List (arguments.GivenArgument Ground) → Type 0
 AreA ns [] [] = ⊤
 AreA ns [] (h ∷ hs) = ⊥
 AreA ns (g ∷ gs) [] = ⊥
 AreA ns (g ∷ gs) (h ∷ hs) = (g.0 ≡ h.0) × IsA ns g.1 h.1 × AreA ns gs hs
 
--- a stop that a script's author is told of: any but that of a value of a wrong type
+-- a stop of evaluation that a script's author is told of: any but that of a value of a wrong type, which no typed
+-- script comes to
 abbrev pub IsTold : Stop → Type 0
 IsTold faults.Memory = ⊤
 IsTold faults.BadSetting = ⊤
@@ -63,18 +65,19 @@ IsTold (faults.SameOutput name) = ⊤
 IsTold (faults.TooLarge limit) = ⊤
 IsTold faults.Stuck = ⊥
 
--- a step that has no state is not stuck: it gives a value for which P holds, or a fault that is told
+-- a step of evaluation that leaves the state alone meets no value of a wrong type: it gives a value for which P
+-- holds, or a fault that is told
 abbrev pub NotStuck : {A : Type 0} → (A → Type 0) → Result A Stop → Type 0
 NotStuck P (Ok x) = P x
 NotStuck P (Err e) = IsTold e
 
--- a step is not stuck: it gives a fault that is told, or something for which Q holds over the nodes behind it, and none
--- of the nodes ns is lost
+-- a step of evaluation meets no value of a wrong type: it gives a fault that is told, or something for which Q holds
+-- over the plan's nodes after it, and none of the nodes ns from before is lost
 abbrev pub Safe : {A : Type 0} → List Node → (List Node → A → Type 0) → Result (A × Machine) Stop → Type 0
 Safe ns Q (Ok x) = Grows ns x.1.plan.nodes × Q x.1.plan.nodes x.0
 Safe ns Q (Err e) = IsTold e
 
--- a value has the type g over the nodes ns
+-- the value v has the type g, where the plan that is being built has the nodes ns
 abbrev pub Of : Ground → List Node → Value → Type 0
 Of g ns v = IsA ns v g
 

@@ -33,19 +33,19 @@ holds_call (Arg at label f) = holds_call f
 -- numbers, texts, names, predicates, formats
 holds_call t = false
 
--- whether a builtin is `set`
+-- whether a builtin is `set`, by whose calls a script makes its settings
 abbrev pub is_set : Builtin → Bool
 is_set builtin.Set = true
 is_set b = false
 
--- whether a name means the builtin `set`
+-- whether a name, by what it stands for, means the builtin `set`
 abbrev pub means_set : Option Target → Bool
 means_set (Some (target.Builtin b)) = is_set b
 means_set (Some (target.Def t)) = false
 means_set (Some (target.Slot t)) = false
 means_set None = false
 
--- whether a statement is a call of `set` in whose arguments nothing is called
+-- whether a statement is a setting: a call of the builtin `set` in whose arguments nothing is called
 abbrev pub is_setting : List Use → Tree APart → Bool
 is_setting uses (CallPart (NamedCall at name args)) = means_set (target_said (use_at at uses)) && not (holds_call args)
 is_setting uses (BindPart b) = false

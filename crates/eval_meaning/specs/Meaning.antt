@@ -22,19 +22,20 @@ use Rattle.builtin_calls.specs.Builtins.{builtin}
 use Rattle.eval_meaning.specs.Preds.{or_pred}
 use Rattle.script_values.specs.Slots.{Argument, SlotValue, value_at_token}
 
--- what a call of the def at a token makes, with these open kinds and arguments
+-- what a call of a def makes of the state: by the token of the def's name, the kinds that its open kinds have in this
+-- call, and the arguments
 abbrev pub Caller : Type 0
 Caller = ℕ → List Kind → List Argument → Machine → Outcome
 
--- what is known where an expression stands: what names stand for, the values of bindings, the open kinds of the def
--- around, and what a call of a def makes
+-- all that the value of an expression depends on besides the state: what names stand for, the values of bindings, the
+-- kinds that the open kinds of the def around have, and what a call of a def makes
 pub record Surroundings : Type 0 where
   pub uses : List Use
   pub slots : List SlotValue
   pub kinds : List Kind
   pub call : Caller
 
--- the value of a binding, if it has one; its size counts as work
+-- the value of a binding, whose size counts as work; stuck without a value
 abbrev pub value_at : Option Value → Machine → Outcome
 value_at None m = Err Stuck
 value_at (Some v) m = count_work (size v) m >>= λ c. Ok (v, c)
@@ -75,37 +76,38 @@ format at (Some n) =
       ]
     ]
 
--- an operator on the value v to its left and on what the operand to its right gave; it counts 1
+-- an operator applied to the value v on its left and to what the operand on its right gave; it counts as one step of
+-- work, and the first fault ends it
 abbrev pub operator_applied : (Value → Value → Result Value Stop) → Value → Outcome → Outcome
 operator_applied operator v right = right >>= λ x. count_work 1 x.1 >>= λ c. operator v x.0 >>= λ u. Ok (u, c)
 
--- Operands are evaluated from the left. Work is counted when a Prim begins, and when an operator is about to be
+-- Operands are evaluated from the left. Work is counted when an operand begins, and when an operator is about to be
 -- applied.
 unfoldable mutual
-  -- the value of an expression, or of a number behind a minus
+  -- the value of a full value, an expression or a number behind a minus, and the state after it
   pub full : Surroundings → Tree AFull → Machine → Outcome
   full s (Negative at n) m = count_work 1 m >>= λ c. negative at n >>= λ v. Ok (v, c)
   full s (Plain e) m = expr s e m
 
-  -- the value of an expression
+  -- the value of an expression, parts joined by `or`, and the state after it
   pub expr : Surroundings → Tree AnExpr → Machine → Outcome
   expr s (Expr a rest) m = conjunction s a m >>= λ x. ors s rest x.0 x.1
 
-  -- the value v with further parts joined to it by `or`
+  -- the value of an `or`: v is that of the parts before, and these are the parts behind them
   pub ors : Surroundings → Tree (Many AnAnd) → Value → Machine → Outcome
   ors s none v m = Ok (v, m)
   ors s (more a rest) v m = operator_applied either v (conjunction s a m) >>= λ x. ors s rest x.0 x.1
 
-  -- the value of a part of an `or`
+  -- the value of one part of an `or`, parts joined by `and`
   pub conjunction : Surroundings → Tree AnAnd → Machine → Outcome
   conjunction s (And n rest) m = negation s n m >>= λ x. ands s rest x.0 x.1
 
-  -- the value v with further parts joined to it by `and`
+  -- the value of an `and`: v is that of the parts before, and these are the parts behind them
   pub ands : Surroundings → Tree (Many ANot) → Value → Machine → Outcome
   ands s none v m = Ok (v, m)
   ands s (more n rest) v m = operator_applied both v (negation s n m) >>= λ x. ands s rest x.0 x.1
 
-  -- the value of a comparison, or with `not` its opposite
+  -- the value of one part of an `and`: a comparison, or behind `not` its opposite
   pub negation : Surroundings → Tree ANot → Machine → Outcome
   negation s (Not true inner) m = compare s inner m >>= λ x. count_work 1 x.1 >>= λ c. opposite x.0 >>= λ u. Ok (u, c)
   negation s (Not false inner) m = compare s inner m
@@ -116,33 +118,35 @@ unfoldable mutual
   compare s (Compared left at o right) m = sum s left m >>= λ x. sum s right x.1 >>= λ y. count_work 1 y.1 >>= λ c.
       compared o x.0 y.0 >>= λ u. Ok (u, c)
 
-  -- the value of a sum
+  -- the value of a sum: products joined by `+` and `-`
   pub sum : Surroundings → Tree ASum → Machine → Outcome
   sum s (Sum p rest) m = product s p m >>= λ x. addends s rest x.0 x.1
 
-  -- the value v with further terms of a sum added or subtracted
+  -- the value of a sum: v is that of the terms before, and these are added or subtracted one after another
   pub addends : Surroundings → Tree (Many AnAdded) → Value → Machine → Outcome
   addends s none v m = Ok (v, m)
   addends s (more a rest) v m = plus s a v m >>= λ x. addends s rest x.0 x.1
 
-  -- the value v with one term of a sum added or subtracted
+  -- the value v, that of a sum so far, with one more term added or subtracted
   pub plus : Surroundings → Tree AnAdded → Value → Machine → Outcome
   plus s (Added at minus p) v m = operator_applied (added minus at) v (product s p m)
 
-  -- the value of a product
+  -- the value of a product: operands joined by `*` and `/`
   pub product : Surroundings → Tree AProduct → Machine → Outcome
   product s (Product p rest) m = operand s p m >>= λ x. factors s rest x.0 x.1
 
-  -- the value v multiplied or divided by further factors
+  -- the value of a product: v is that of the factors before, and by these it is multiplied or divided one after
+  -- another
   pub factors : Surroundings → Tree (Many AMultiplied) → Value → Machine → Outcome
   factors s none v m = Ok (v, m)
   factors s (more a rest) v m = times s a v m >>= λ x. factors s rest x.0 x.1
 
-  -- the value v multiplied or divided by one factor
+  -- the value v, that of a product so far, multiplied or divided by one more factor
   pub times : Surroundings → Tree AMultiplied → Value → Machine → Outcome
   times s (Multiplied at divide p) v m = operator_applied (multiplied divide at) v (operand s p m)
 
-  -- the value of an operand
+  -- the value of an operand: a literal, a name, a call, an `if`, parentheses, a tuple, a list, a predicate or a
+  -- format
   pub operand : Surroundings → Tree AnOperand → Machine → Outcome
   operand s (Constant at n) m = count_work 1 m >>= λ c. Ok (literal_value n, c)
   operand s (Quoted at text) m = count_work 1 m >>= λ c. Ok (value.TextValue text, c)
@@ -159,7 +163,7 @@ unfoldable mutual
   operand s (Braces at pred) m = count_work 1 m >>= λ c. Ok (value.PredValue (or_pred pred), c)
   operand s (PlaceFormat at bits) m = count_work 1 m >>= λ c. format at bits >>= λ v. Ok (v, c)
 
-  -- the values vs and behind them those of further parts
+  -- the values of further parts of a tuple or list, evaluated from the left: vs are those that were evaluated already
   pub fulls : Surroundings → Tree (Many AFull) → List Value → Machine → Result (List Value × Machine) Stop
   fulls s none vs m = Ok (vs, m)
   fulls s (more f rest) vs m = full s f m >>= λ x. fulls s rest (vs ++ x.0 ∷ []) x.1
@@ -169,26 +173,28 @@ unfoldable mutual
   choice s (If at c t e) m = full s c m >>= λ x. truth_of x.0 >>= λ b. elim b
       [ true ↦ full s t x.1 | false ↦ full s e x.1 ]
 
-  -- arguments are evaluated as written
+  -- the value of a call: its arguments are evaluated in the order in which they are written, and then what its name
+  -- stands for is applied to them
   pub call : Surroundings → Tree ACall → Machine → Outcome
   call s (NamedCall at name args) m = arguments s args [] m >>= λ x. applied s (use_at at s.uses) at x.0 x.1
 
-  -- the arguments `given` and behind them those of further parts
+  -- the arguments of a call, evaluated from the left: `given` are those that were evaluated already
   pub arguments : Surroundings → Tree (Many AnArg) → List Argument → Machine → Result (List Argument × Machine) Stop
   arguments s none given m = Ok (given, m)
   arguments s (more a rest) given m = argued s a m >>= λ x. arguments s rest (given ++ x.0 ∷ []) x.1
 
-  -- an argument with its label
+  -- the value of one argument of a call, with its label
   pub argued : Surroundings → Tree AnArg → Machine → Result (Argument × Machine) Stop
   argued s (Arg at label f) m = full s f m >>= λ x. Ok ((label, x.0), x.1)
 
--- values in parentheses, behind the count of 1: none is the value of `()`, one is itself, several are a tuple
+-- the value of an operand in parentheses: without parts the value of `()`, with one part its value, with several a
+-- tuple of theirs; the step of work for the operand was counted before
 abbrev pub grouped : Surroundings → Tree (Many AFull) → Machine → Outcome
 grouped s none m = Ok (value.UnitValue, m)
 grouped s (more f none) m = full s f m
 grouped s (more f (more g rest)) m = fulls s (more f (more g rest)) [] m >>= λ z. Ok (value.TupleValue (many z.0), z.1)
 
--- a list of values, behind the count of 1
+-- the list of the values of these parts; the step of work for the operand was counted before
 abbrev pub all_of : Surroundings → Tree (Many AFull) → Machine → Outcome
 all_of s parts m = fulls s parts [] m >>= λ z. Ok (value.ListValue (many z.0), z.1)
 
@@ -218,7 +224,7 @@ unfoldable pub parameters : Surroundings → Tree (Many AParam) → List Argumen
 parameters s none given slots m = Ok (slots, m)
 parameters s (more p ps) given slots m = parameter s p given m >>= λ x. parameters s ps x.0.1 (slots ++ x.0.0 ∷ []) x.1
 
--- the same surroundings with these bindings before the others
+-- the surroundings s, with these values of bindings, each by its token, before those that were there
 abbrev pub with_slots : Surroundings → List SlotValue → Surroundings
 with_slots s slots = record s { slots = slots ++ s.slots }
 
@@ -232,18 +238,20 @@ unfoldable pub inners : Surroundings → Tree (Many AnInner) → List SlotValue 
 inners s none slots m = Ok (slots, m)
 inners s (more i is) slots m = inner s i slots m >>= λ x. inners s is (slots ++ x.0 ∷ []) x.1
 
--- the result of a def for a call with these arguments, among the names before the def
+-- the value of a call of a def with these arguments: its parameters are bound to them, then its inner bindings are
+-- made, and then its result is evaluated; names around it are those before the def
 unfoldable pub body : Surroundings → Tree ADef → List Argument → Machine → Outcome
 body s (Def at name params equals bindings result) given m =
     parameters s params given [] m >>= λ x. inners s bindings x.0 x.1 >>= λ y. expr (with_slots s y.0) result y.1
 
--- what no call changes: the script, what its names stand for, and the bindings of the statements before
+-- what stays the same in all calls of defs within a statement: the script, what its names stand for, and the values
+-- of the statements before
 pub record World : Type 0 where
   pub script : Script
   pub uses : List Use
   pub globals : List SlotValue
 
--- the result of a def for a call with these arguments; stuck without a def
+-- the value of a call of a def, if there is one, with these arguments; stuck without a def
 abbrev pub run : Surroundings → Option (Tree ADef) → List Argument → Machine → Outcome
 run s None given m = Err Stuck
 run s (Some d) given m = body s d given m

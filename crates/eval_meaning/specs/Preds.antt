@@ -9,7 +9,7 @@ abbrev pub any_of : Predicate → pred.PredicateTree pred.PredicateParts → Pre
 any_of p pred.no_parts = p
 any_of p (pred.first_part q qs) = pred.Any (pred.first_part p (pred.first_part q qs))
 
--- a predicate alone, or with further parts one that holds where all of them hold
+-- a predicate of time that holds where p and all further parts hold; p alone without further parts
 abbrev pub all_of : Predicate → pred.PredicateTree pred.PredicateParts → Predicate
 all_of p pred.no_parts = p
 all_of p (pred.first_part q qs) = pred.All (pred.first_part p (pred.first_part q qs))
@@ -20,7 +20,7 @@ unfoldable mutual
   pub or_pred : Tree APOr → Predicate
   or_pred (POr first rest) = any_of (and_pred first) (and_preds rest)
 
-  -- the predicates of the parts of an `or`
+  -- the predicates of further parts of an `or`, as a list
   pub and_preds : Tree (Many APAnd) → pred.PredicateTree pred.PredicateParts
   and_preds none = pred.no_parts
   and_preds (more p ps) = pred.first_part (and_pred p) (and_preds ps)
@@ -29,7 +29,7 @@ unfoldable mutual
   pub and_pred : Tree APAnd → Predicate
   and_pred (PAnd first rest) = all_of (not_pred first) (not_preds rest)
 
-  -- the predicates of the parts of an `and`
+  -- the predicates of further parts of an `and`, as a list
   pub not_preds : Tree (Many APNot) → pred.PredicateTree pred.PredicateParts
   not_preds none = pred.no_parts
   not_preds (more p ps) = pred.first_part (not_pred p) (not_preds ps)

@@ -14,7 +14,7 @@ use Rattle.eval_meaning.specs.BuiltinSafety.{AreA, Grows, IsA, Of, Safe}
 use Rattle.eval_meaning.specs.Meaning.{Surroundings}
 use Rattle.eval_meaning.specs.Scripts.{Ending}
 
--- each binding that has a type also has a value of this type over the nodes ns
+-- evaluation has a value for each binding that typing has a type for, and it is of this type over the nodes ns
 abbrev pub HaveValues : List Node → TypesByToken → List SlotValue → Type 0
 HaveValues ns types slots = (at : ℕ) (g : Ground) → type_at at types ≡ Some g
     → (v : Value) × (value_at_token at slots ≡ Some v) × IsA ns v g
@@ -30,7 +30,7 @@ pub record Knows (s : Surroundings) (t : Sight) (ns : List Node) : Type 0 where
       → (given : List Argument) (m : Machine) → Grows ns m.plan.nodes → AreA m.plan.nodes given gs
       → Safe m.plan.nodes (Of g) (s.call u ks given m)
 
--- evaluation ends with a plan or with a fault that is told
+-- evaluation ends with a plan or with a fault that is told, never at a value of a wrong type
 abbrev pub IsNotStuck : {A : Type 0} → Result A Ending → Type 0
 IsNotStuck (Ok x) = ⊤
 IsNotStuck (Err (Some fault)) = ⊤

@@ -37,7 +37,7 @@ statement s (DefPart d) slots m = Ok (slots, m)
 statement s (CallPart c) slots m = call s c m >>= λ x. Ok (slots, x.1)
 statement s (IfPart i) slots m = choice s i m >>= λ x. Ok (slots, x.1)
 
--- why a script has no plan; nothing where a value has a wrong type, which no typed script comes to
+-- why a script has no plan: its fault, or none where a value has a wrong type, which no typed script comes to
 abbrev pub Ending : Type 0
 Ending = Option EvalFault
 
@@ -46,7 +46,7 @@ abbrev pub and_then : {A B : Type 0} → Result A Ending → (A → Result B End
 and_then (Ok x) f = f x
 and_then (Err e) f = Err e
 
--- what statement n gives, or its fault as the one of the script
+-- what a step in statement n gives, with its stop told as a fault of the script
 abbrev pub ending_in : {A : Type 0} → ℕ → Result A Stop → Result A Ending
 ending_in n (Ok x) = Ok x
 ending_in n (Err e) = Err (fault_in n e)
@@ -60,7 +60,8 @@ is_tick duration rate = int_le (pos 0) duration
 abbrev pub tick_of : ℤ → ℕ → Option ℕ
 tick_of duration rate = elim (is_tick duration rate) [ true ↦ Some (samples_in duration rate) | false ↦ None ]
 
--- the settings are over: the plan has a tick of `frame` samples, or without one the last setting was bad
+-- the end of the settings: the plan gets a tick of `frame` samples, and no setting is allowed any more; without a
+-- tick the last setting was bad
 abbrev pub closed : Machine → Option ℕ → Result Machine Ending
 closed m (Some frame) = Ok (record m {
   plan = record m.plan { frame = frame };
@@ -73,16 +74,18 @@ closed m None = Err (Some (told.BadSetting m.settings.last))
 unfoldable pub settings_ended : Machine → Result Machine Ending
 settings_ended m = closed m (tick_of m.settings.duration.millionths m.plan.rate)
 
--- the settings end before the first statement that is none of them
+-- before a statement: if it is no setting (false) and settings were still allowed, they end here; else nothing
+-- changes
 abbrev pub settings_settled : Bool → Machine → Result Machine Ending
 settings_settled true m = Ok m
 settings_settled false m = elim m.settings.allowed [ true ↦ settings_ended m | false ↦ Ok m ]
 
--- the state in statement n
+-- the state (the machine), which now has n as the number of the statement that is evaluated
 abbrev pub numbered : ℕ → Machine → Machine
 numbered n m = record m { settings = record m.settings { statement = n } }
 
--- what statement n makes of the bindings and of the state, with the end of the settings before it
+-- one statement, number n, evaluated: the bindings and the state after it, where the settings end first if it is no
+-- setting
 unfoldable pub turned : Script → List Use → Tree APart → ℕ → List SlotValue → Machine
     → Result (List SlotValue × Machine) Ending
 turned script uses part n slots m = and_then (settings_settled (is_setting uses part) m)
@@ -102,11 +105,11 @@ plan_of m =
       | false ↦ Err (Some told.NoOutput)
     ]
 
--- the state behind all statements of a script, or its first fault
+-- the state (the machine) after all statements of a script, or the script's first fault
 abbrev pub ran : Script → List Use → Result Machine Ending
 ran script uses = statements script uses script 0 [] first_machine
 
--- the plan of a script, or its first fault
+-- what a script means, where its names stand for these uses: its plan, or its first fault
 abbrev pub evaluation : Script → List Use → Result Plan Ending
 evaluation script uses = and_then (ran script uses) plan_of
 
@@ -119,7 +122,8 @@ sources_of m = and_then (plan_of m) (λ plan. Ok (plan, m.calls))
 abbrev pub sources : Script → List Use → Result (Plan × List ℕ) Ending
 sources script uses = and_then (ran script uses) sources_of
 
--- evaluation returned this fault: memory may be refused at any time, and any other fault is the defined one
+-- the fault that the program's evaluation returned is the defined one, `meant`; only want of memory may be told at
+-- any time
 abbrev pub Ends : {Y : Type 0} → EvalFault → Result Y Ending → Type 0
 Ends told.Memory meant = ⊤
 Ends (told.BadSetting n) meant = meant ≡ Err (Some (told.BadSetting n))
@@ -130,7 +134,8 @@ Ends told.NoOutput meant = meant ≡ Err (Some told.NoOutput)
 Ends (told.SameOutput name) meant = meant ≡ Err (Some (told.SameOutput name))
 Ends (told.TooLarge limit) meant = meant ≡ Err (Some (told.TooLarge limit))
 
--- what evaluation returned, seen by `view`, is the defined result, but that memory may be refused
+-- what the program's evaluation returned, seen by `view`, is the defined result `meant`; only want of memory may be
+-- told in its place
 abbrev pub Answers : {X Y : Type 0} → (X → Y) → Result X EvalFault → Result Y Ending → Type 0
 Answers view (Ok x) meant = meant ≡ Ok (view x)
 Answers view (Err e) meant = Ends e meant

@@ -10,7 +10,8 @@ use Rattle.expression_types.specs.Seen.{def_seen, env_of}
 use Rattle.expression_types.specs.declared.environment.KnownDef.{KnownDef}
 use Rattle.expression_types.specs.declared.environment.Names.{Names}
 
--- the tokens of the names that a tree uses, in order
+-- the tokens of all names that the text of a tree uses, in the order of the text; a name that is bound there isn't
+-- used
 abbrev pub tokens_used : {s : Sort} → Tree s → List ℕ
 tokens_used none = []
 tokens_used (more x xs) = tokens_used x ++ tokens_used xs
@@ -44,7 +45,7 @@ tokens_used (Arg at label f) = tokens_used f
 tokens_used (If at c t e) = tokens_used c ++ tokens_used t ++ tokens_used e
 tokens_used t = []
 
--- what is told of a use: its token, what the name means, and how many open kinds that has
+-- what inference says of a use of a name: its token, what the name means, and how many open kinds that has
 abbrev pub Said : Type 0
 Said = ℕ × Option Target × Option ℕ
 
@@ -52,7 +53,7 @@ Said = ℕ × Option Target × Option ℕ
 abbrev pub said_of : Found → Said
 said_of f = (f.at, Some f.target, Some (length f.kinds))
 
--- how many open kinds a def has
+-- how many open kinds a def has: kind variables of its general type, which each call of it chooses anew
 abbrev pub open_kinds : KnownDef → ℕ
 open_kinds d = length (open_numbers 0 (scheme_of d.general).kinds)
 
@@ -64,20 +65,24 @@ kinds_count ds (Some (target.Slot t)) = Some 0
 kinds_count ds (Some (target.Def t)) = option_map open_kinds (def_seen t ds)
 kinds_count ds (Some (target.Builtin b)) = Some (signature b).kinds
 
--- what a use at token t is to say, by the names that are seen
+-- what is to be said of the use of a name at token t, by the names that an expression sees: what it means, and how
+-- many open kinds that has
 abbrev pub said_at : Names → ℕ → Said
 said_at ns t = (t, (env_of ns).targets t, kinds_count ns.defs.now ((env_of ns).targets t))
 
--- the uses at these tokens were added to the old ones
+-- the list of uses grew by those of the names at these tokens, in this order, each with what its name means and as
+-- many kinds as that has
 abbrev pub AreAdded : Names → List ℕ → List Found → List Found → Type 0
 AreAdded ns ts old new = map said_of new ≡ map said_of old ++ map (said_at ns) ts
 
--- where there is an answer, the uses at these tokens were added to the old ones
+-- where typing has an answer, the list of uses grew by those of the names at these tokens; nothing is said without
+-- one
 abbrev pub AreAddedIf : {A : Type 0} → Names → List ℕ → List Found → List Found → Option A → Type 0
 AreAddedIf ns ts old new None = ⊤
 AreAddedIf ns ts old new (Some n) = AreAdded ns ts old new
 
--- where the answer is true, the uses at these tokens were added to the old ones
+-- where typing answers true, the list of uses grew by those of the names at these tokens; nothing is said where it
+-- answers false
 abbrev pub AreAddedWhere : Names → List ℕ → List Found → List Found → Bool → Type 0
 AreAddedWhere ns ts old new false = ⊤
 AreAddedWhere ns ts old new true = AreAdded ns ts old new

@@ -26,20 +26,21 @@ use Rattle.expression_types.specs.declared.callees.Callee.{Callee}
 pub use Rattle.expression_types.specs.Tables.{def_seen}
 use Rattle.expression_types.specs.Tables.{targets_of}
 
--- a use that the program found, as inference knows it
+-- a use of a name as the definitions of inference have it: its token, what it means, and its kinds as a plain list
 abbrev pub found : FoundUse → Found
 found f = record { at = f.at; target = f.target; kinds = f.kinds.items }
 
--- uses that the program found, as inference knows them
+-- the program's list of uses of names, as the definitions of inference have it
 abbrev pub founds : List FoundUse → List Found
 founds fs = map found fs
 
--- a kind in the text of a def, as inference knows it
+-- a kind of a use in the text of a def, as the definitions of inference have it: one over the variables outside, or
+-- an open kind of the def
 abbrev pub pending : TextKind → Pending
 pending (text_kind.Outer k) = of_term k
 pending (text_kind.Open j) = of_def j
 
--- a use in the text of a def, as inference knows it
+-- a use of a name in the text of a def, as the definitions of inference have it
 abbrev pub text_use : ATextUse → TextUse
 text_use u = record { at = u.at; target = u.target; kinds = map pending u.kinds.items }
 
@@ -47,12 +48,13 @@ text_use u = record { at = u.at; target = u.target; kinds = map pending u.kinds.
 abbrev pub types_seen : List TypedName → List (ℕ × Term)
 types_seen ns = map (λ n. (n.at, variable n.var)) ns
 
--- a def with the uses in its text, as a list of at most one
+-- a def that statements have bound, with the uses in its text, as a list of one, or of none without a def
 abbrev pub def_known : Option KnownDef → List Known
 def_known None = []
 def_known (Some d) = function (view_def d.def.now) (map text_use d.uses.items) ∷ []
 
--- what a statement has bound, where ds are the defs; nothing for an index that is no def's
+-- what a statement has bound, as a list of one: a value with its type variable, or the def of this index among the
+-- defs ds; nothing for an index that is no def's
 abbrev pub known_seen : List KnownDef → AKnown → List Known
 known_seen ds (known.Value n) = value n.at (variable n.var) ∷ []
 known_seen ds (known.Function i) = def_known (slice_get ds i)
@@ -62,7 +64,8 @@ abbrev pub newest_first : List KnownDef → List AKnown → List Known
 newest_first ds [] = []
 newest_first ds (k ∷ ks) = newest_first ds ks ++ known_seen ds k
 
--- what the program's names say that an expression sees
+-- all names that an expression sees, as the definitions of inference have them: what each name means, what statements
+-- have bound, and the bindings of the def around
 abbrev pub env_of : Names → Env
 env_of n = record {
   targets = targets_of n.targets.now;
@@ -72,37 +75,42 @@ env_of n = record {
 
 -- ---- what is to hold before
 
--- A name at token `at` means t, and its calls have the types of the instances of the general type g.
+-- the name at token `at` may be called: it means t, whose parameters are ps, and a call of it has as its type an
+-- instance of the general type g
 pub record IsCalled (s : Table) (env : Env) (at : ℕ) (t : Target) (ps : List Parameter) (g : Scheme) : Type 0 where
   pub over : IsSchemeOver s g
   pub callable : IsCallable s env at t ps (IsInstance g)
   pub meant : env.targets at ≡ Some t
 
--- the calls of the def at token t are the instances of its general type; without a def there is no call
+-- a call of the def at token t may have exactly the instances of the def's general type as its type; without a def
+-- there is no call
 abbrev pub DefIs : Table → Env → ℕ → Option KnownDef → Type 0
 DefIs s env t None = (at : ℕ) → HasNoCall s env at (target.Def t)
 DefIs s env t (Some d) = IsSchemeOver s (scheme_of d.general)
     × ((at : ℕ) → IsCallable s env at (target.Def t) (map seen_parameter d.params.items)
     (IsInstance (scheme_of d.general)))
 
--- the names and uses have only variables of the substitution, and each def's calls are those of its general type
+-- the names and uses fit the substitution s: they have only its variables, and calls of each def have the instances
+-- of its general type
 pub record IsSeen (s : Table) (names : Names) (uses : List FoundUse) : Type 0 where
   pub over : IsEnvOver s (env_of names)
   pub uses_over : AreUsesOver s (founds uses)
   pub calls : (t : ℕ) → DefIs s (env_of names) t (def_seen t names.defs.now)
 
--- where a name outside a call has a type, it means a binding, and its use was added
+-- the typing of a name outside a call, at token `at`: where it has a type, the name means a binding, and its use was
+-- added to the list, with no kinds
 abbrev pub IsNamed : Env → ℕ → List Found → List Found → Option ℕ → Type 0
 IsNamed env at old new None = ⊤
 IsNamed env at old new (Some n) = (t : ℕ) × (env.targets at ≡ Some (target.Slot t))
     × (new ≡ with_use old at (target.Slot t) [])
 
--- the general type of what a call calls
+-- the general type of what a call calls, a builtin or a def
 abbrev pub called_scheme : Called → Scheme
 called_scheme (called.Builtin b) = builtin_scheme b
 called_scheme (called.General g) = scheme_of g.now
 
--- what is called has the new variables c, and its use at token `at` was added with as many kinds as it has open ones
+-- the typing of a call has begun: what is called, of general type g, got the new type variables in c, and the use of
+-- its name at token `at` was added, with as many kinds as it has open ones
 pub record HasBegun (s s' : Table) (g : Scheme) (at : ℕ) (t : Target) (c : Callee) (old new : List Found) : Type 0 where
   pub kinds : List KindTerm
   pub instantiated : IsInstantiated s s' (IsInstance g) (map term_of c.params.items) (variable c.result) kinds

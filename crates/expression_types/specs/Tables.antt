@@ -9,11 +9,11 @@ use Rattle.expression_types.specs.declared.environment.Known.{Known}
 use Rattle.expression_types.specs.declared.environment.KnownDef.{KnownDef}
 use Rattle.expression_types.specs.declared.environment.Known.TheVariants as known
 
--- what names mean, by a table of their tokens
+-- what the name at each token means, looked up in a table by tokens
 abbrev pub targets_of : List (Option Target) → Targets
 targets_of m t = at_token t m
 
--- the number of the type variable of a statement's value, if its name stands at token t
+-- the number of the type variable of what a statement has bound, if it is a value whose name stands at token t
 abbrev pub number_known : ℕ → Known → Option ℕ
 number_known t (known.Value n) = cond (nat_eq n.at t) (Some n.var) None
 number_known t (known.Function i) = None
@@ -23,11 +23,12 @@ abbrev pub newest_number : ℕ → List Known → Option ℕ
 newest_number t [] = None
 newest_number t (k ∷ ks) = option_or (newest_number t ks) (number_known t k)
 
--- the first def whose name stands at a token
+-- the first of these defs whose name stands at token t, if there is one
 abbrev pub def_seen : ℕ → List KnownDef → Option KnownDef
 def_seen t [] = None
 def_seen t (d ∷ ds) = cond (nat_eq d.at t) (Some d) (def_seen t ds)
 
--- the table has at each token the index of the first def whose name stands there
+-- the table by tokens is right: at each token it has the index of the first of the defs ds whose name stands there,
+-- and nothing without one
 abbrev pub ArePlaces : List (Option ℕ) → List KnownDef → Type 0
 ArePlaces places ds = (t : ℕ) → at_token t places ≡ position (λ d. nat_eq d.at t) ds

@@ -52,7 +52,8 @@ pub fn type_compare(
     }
 }
 
-/// Makes the right side of a comparison have type variable `n`, the type of the left; false where it cannot.
+/// Types the right side of a comparison and makes it equal to type variable `n`, the type of the left side; false
+/// where that cannot be.
 #[cycle(value)]
 fn join_sum(
     alloc: Global,
@@ -110,7 +111,8 @@ fn type_sum(
     }
 }
 
-/// Makes one term of a sum have type variable `n`, the type of the first; false where that cannot be.
+/// Types one term of a sum and makes it equal to type variable `n`, the type of the first term; false where that
+/// cannot be.
 #[cycle(value)]
 fn join_added(
     alloc: Global,
@@ -138,7 +140,8 @@ fn join_added(
     }
 }
 
-/// Makes the other terms of a sum have type variable `n`, the type of the first; false where that cannot be.
+/// Types the other terms of a sum and makes each equal to type variable `n`, the type of the first term; false where
+/// that cannot be.
 #[cycle(value)]
 fn join_addends(
     alloc: Global,
@@ -196,7 +199,8 @@ fn type_product(
     }
 }
 
-/// Makes one factor of a product have type variable `n`, the type of the first; false where that cannot be.
+/// Types one factor of a product and makes it equal to type variable `n`, the type of the first factor; false where
+/// that cannot be.
 #[cycle(value)]
 fn join_multiplied(
     alloc: Global,
@@ -224,7 +228,8 @@ fn join_multiplied(
     }
 }
 
-/// Makes the other factors of a product have type variable `n`, the type of the first; false where that cannot be.
+/// Types the other factors of a product and makes each equal to type variable `n`, the type of the first factor; false
+/// where that cannot be.
 #[cycle(value)]
 fn join_factors(
     alloc: Global,

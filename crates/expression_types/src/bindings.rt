@@ -29,7 +29,8 @@ impl Model for Bindings {
     ghost invariant = { λ b. (t : ℕ) → at_token t b.vars ≡ newest_number t b.all.items };
 }
 
-/// Notes the type variable of a value by its token; of a def nothing. Where memory runs out nothing changes.
+/// Notes in a table by tokens the type variable of a bound value, by the token of its name; of a def nothing. Where
+/// memory runs out nothing changes.
 fn note(vars: &mut TokenTable<u64>, known: Known) -> Result<(), Memory>
     ensures noted { OnOk result ((t : ℕ) → at_token t vars.new
         ≡ option_or (number_known t known) (at_token t vars.old)) }
@@ -45,7 +46,7 @@ fn note(vars: &mut TokenTable<u64>, known: Known) -> Result<(), Memory>
 }
 
 impl Bindings {
-    /// No binding.
+    /// A list of no bindings.
     pub fn new(alloc: Global) -> Bindings
         ensures { result ≡ [] }
     {

@@ -30,7 +30,8 @@ pub struct Callee {
     pub result: u64,
 }
 
-/// Gives what is called new variables, and adds the use of its name, which stands at token `at`.
+/// Begins the typing of a call: takes an instance of the type of what is called, with new variables, and adds the use
+/// of its name, which stands at token `at`.
 pub fn begin_call(
     alloc: Global,
     subst: &mut Subst,
@@ -49,7 +50,7 @@ pub fn begin_call(
     Ok(callee)
 }
 
-/// The type of what is called, with new variables in place of its own.
+/// An instance of the type of what is called: its general type, with new variables in place of its own.
 fn instance_of(alloc: Global, subst: &mut Subst, called: Called<'_>) -> Result<Instance, Memory>
     requires over { IsSchemeOver subst.old (called_scheme called) }
     ensures instance { IfOk result
@@ -64,7 +65,8 @@ fn instance_of(alloc: Global, subst: &mut Subst, called: Called<'_>) -> Result<I
     }
 }
 
-/// What is called, by an instance of its type, and its open kinds.
+/// What a call needs of an instance of a type: the types of the parameters, a new type variable for the result, and
+/// the kinds that stand for the open ones.
 fn callee_of(
     alloc: Global,
     subst: &mut Subst,

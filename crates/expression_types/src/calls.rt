@@ -70,7 +70,7 @@ pub fn type_call(
     }
 }
 
-/// An argument by its label and its type, which is type variable `var`.
+/// An argument of a call as typing sees it: its label, and type variable `var` as the type of its value.
 fn argument_of<'s>(arg: &'s Arg, var: u64) -> Argument<'s>
     ensures { seen_argument result ≡ (arg.now.label, var) }
 {
@@ -81,7 +81,7 @@ fn argument_of<'s>(arg: &'s Arg, var: u64) -> Argument<'s>
     Argument { label, var }
 }
 
-/// The arguments of a call by their labels and type variables; `None` where one has no type.
+/// Types the arguments of a call: their labels and the type variables of their values; `None` where one has no type.
 #[cycle(value)]
 fn type_args<'s>(
     alloc: Global,
@@ -110,8 +110,8 @@ fn type_args<'s>(
     Ok(Some(given))
 }
 
-/// The type of a call of this builtin, or of what has this general type: the number of its type variable, or `None`
-/// where the arguments do not match the parameters.
+/// The type of a call of a builtin, or of a def by its general type, with these parameters: the number of its type
+/// variable, or `None` where the arguments do not fit the parameters. The uses in it are added.
 #[cycle(value)]
 fn apply(
     alloc: Global,

@@ -36,8 +36,8 @@ impl<'a> Model for Defs<'a> {
     ghost invariant = { λ d. ArePlaces d.places d.all.items };
 }
 
-/// Notes the place of a def, its index, by its token, unless another def stands there. Where memory runs out nothing
-/// changes.
+/// Notes in a table by tokens at which index a def stands, by the token of its name, unless another def is noted
+/// there. Where memory runs out nothing changes.
 fn note(places: &mut TokenTable<usize>, at: u32, place: usize) -> Result<(), Memory>
     ensures noted { OnOk result ((t : ℕ) → at_token t places.new
         ≡ option_or (at_token t places.old) (cond (nat_eq at t) (Some place) None)) }
@@ -50,7 +50,7 @@ fn note(places: &mut TokenTable<usize>, at: u32, place: usize) -> Result<(), Mem
 }
 
 impl<'a> Defs<'a> {
-    /// No def.
+    /// A list of no defs.
     pub fn new(alloc: Global) -> Defs<'a>
         ensures { result ≡ [] }
     {
@@ -60,14 +60,14 @@ impl<'a> Defs<'a> {
         }
     }
 
-    /// How many defs there are.
+    /// How many defs statements have bound.
     pub fn len(&self) -> usize
         ensures { result ≡ length self.now }
     {
         self.all.len()
     }
 
-    /// All defs, the oldest first.
+    /// All defs that statements have bound, the oldest first.
     pub fn as_slice(&self) -> &[KnownDef<'a>]
         ensures { result.now ≡ self.now }
     {

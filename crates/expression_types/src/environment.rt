@@ -92,7 +92,8 @@ impl<'n, 'a> Names<'n, 'a> {
         self.targets.get(at)
     }
 
-    /// The number of the type variable of the binding at token `at`; `None` if there is none.
+    /// The number of the type variable of the binding whose name stands at token `at`, one of the def around or of a
+    /// statement; `None` if there is none.
     pub fn value(&self, at: u32) -> Option<u64>
         ensures { option_map variable result ≡ term_seen at (env_of self.now) }
     {
@@ -102,7 +103,7 @@ impl<'n, 'a> Names<'n, 'a> {
         }
     }
 
-    /// The first def whose name stands at token `at`; `None` if there is none.
+    /// The def whose name stands at token `at`, with its general type; `None` if there is none.
     pub fn function(&self, at: u32) -> Option<&'n KnownDef<'a>>
         ensures { option_map (λ d. d.now) result ≡ def_seen at self.now.defs.now }
     {

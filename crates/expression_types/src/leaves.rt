@@ -14,7 +14,7 @@ use type_steps::new_type;
 use type_terms::{KindTerm, Subst, Ty};
 use typing_rules::Target;
 
-/// The number `n` if `yes` is true, and otherwise `None`.
+/// The answer of typing behind a check: type variable `n` if the check holds (`yes`), and otherwise `None`, no type.
 pub fn some_if(yes: bool, n: u64) -> Option<u64>
     ensures { result ≡ if_yes yes n }
 {
@@ -31,7 +31,8 @@ pub fn literal_type(alloc: Global, subst: &mut Subst, literal: &Literal) -> Resu
     }
 }
 
-/// Adds the use of a name that stands at token `at`.
+/// Adds the use of a name that stands at token `at` to the list of uses: what it means, and the kinds that its open
+/// kinds have there.
 pub fn push_use(
     uses: &mut Vec<FoundUse>,
     at: u32,
@@ -45,8 +46,8 @@ pub fn push_use(
     Ok(())
 }
 
-/// The number of the type variable of a name outside a call, which stands at token `at`; `None` where the name means no
-/// binding. Its use is added.
+/// The type of a name outside a call, which stands at token `at`: the number of its binding's type variable; `None`
+/// where the name means no binding. Its use is added.
 pub fn type_name(
     alloc: Global,
     subst: &mut Subst,

@@ -48,7 +48,8 @@ pub fn type_expr(
     }
 }
 
-/// Makes one part of an `or` have type variable `n`, the type of the first; false where that cannot be.
+/// Types one part of an `or` and makes it equal to type variable `n`, the type of the first part; false where that
+/// cannot be.
 #[cycle(value)]
 fn join_and(
     alloc: Global,
@@ -76,7 +77,8 @@ fn join_and(
     }
 }
 
-/// Makes the other parts of an `or` have type variable `n`, the type of the first; false where that cannot be.
+/// Types the other parts of an `or` and makes each equal to type variable `n`, the type of the first part; false where
+/// that cannot be.
 #[cycle(value)]
 fn join_ands(
     alloc: Global,
@@ -134,7 +136,8 @@ fn type_and(
     }
 }
 
-/// Makes one part of an `and` have type variable `n`, the type of the first; false where that cannot be.
+/// Types one part of an `and` and makes it equal to type variable `n`, the type of the first part; false where that
+/// cannot be.
 #[cycle(value)]
 fn join_not(
     alloc: Global,
@@ -162,7 +165,8 @@ fn join_not(
     }
 }
 
-/// Makes the other parts of an `and` have type variable `n`, the type of the first; false where that cannot be.
+/// Types the other parts of an `and` and makes each equal to type variable `n`, the type of the first part; false
+/// where that cannot be.
 #[cycle(value)]
 fn join_nots(
     alloc: Global,

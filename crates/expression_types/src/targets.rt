@@ -9,7 +9,7 @@ use name_scope::Resolved;
 use std::alloc::Global;
 use typing_rules::Target;
 
-/// What names mean, by their tokens. Where two names stand at one token the first one counts.
+/// A table of what names mean, by their tokens. Where two names stand at one token the first one counts.
 pub fn target_table(alloc: Global, names: &[Resolved]) -> Result<TokenTable<Target>, Memory>
     ensures { IfOk result (λ m. targets_of m ≡ target_in (map resolved names.now)) }
 {
@@ -23,7 +23,7 @@ pub fn target_table(alloc: Global, names: &[Resolved]) -> Result<TokenTable<Targ
     Ok(table)
 }
 
-/// The name at index `i`, with what it means.
+/// Name number `i` of those that were resolved, with its token and what it means.
 fn name_at(names: &[Resolved], i: usize) -> Resolved
     requires inside { i < length names.now }
     ensures at { result ≡ get_or names.now i result }

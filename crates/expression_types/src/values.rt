@@ -136,7 +136,7 @@ pub fn type_choice(
     }
 }
 
-/// Makes a value have type variable `n` as its type; false where it cannot.
+/// Types a value and makes its type equal to type variable `n`; false where that cannot be.
 #[cycle(value)]
 fn join_full(
     alloc: Global,
@@ -164,7 +164,7 @@ fn join_full(
     }
 }
 
-/// Makes each of these values have type variable `n` as its type; false where one cannot.
+/// Types these values and makes the type of each equal to type variable `n`; false where that cannot be.
 #[cycle(value)]
 fn join_fulls(
     alloc: Global,
@@ -220,7 +220,7 @@ fn type_list(
     Ok(Some(list))
 }
 
-/// The numbers of the type variables of values, each its own; `None` where one has no type.
+/// The types of values, the parts of a tuple: the number of a type variable for each; `None` where one has no type.
 #[cycle(value)]
 fn type_fulls(
     alloc: Global,

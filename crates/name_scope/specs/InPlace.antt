@@ -4,12 +4,13 @@ use Rattle.typing_rules.specs.declared.form.Form.{Form}
 use Rattle.typing_rules.specs.declared.form.Form.TheVariants.{InPlace, ByLabel, Perhaps}
 use Rattle.typing_rules.specs.Arguments.{GivenArgument, Parameter}
 
--- whether one of these arguments has a label
+-- whether one of these arguments of a call has a label
 abbrev pub has_label : List (GivenArgument ℕ) → Bool
 has_label [] = false
 has_label (g ∷ gs) = cond (is_some g.0) true (has_label gs)
 
--- how many of so many arguments without labels are left behind a parameter of this form, if it needs no other one
+-- how many of the arguments without labels are left after a parameter of this form, which takes one if it stands in
+-- its place; none where it needs an argument that is not there
 abbrev pub left_by : Form → Option ℕ → Option ℕ
 left_by f None = None
 left_by InPlace (Some zero) = None
@@ -17,7 +18,8 @@ left_by InPlace (Some (suc n)) = Some n
 left_by ByLabel (Some n) = None
 left_by Perhaps (Some n) = Some n
 
--- how many of so many arguments without labels are left behind these parameters, if none of them needs another one
+-- how many of the arguments without labels are left after these parameters took theirs; none where one of them needs
+-- an argument that is not there
 abbrev pub left_behind : List Parameter → Option ℕ → Option ℕ
 left_behind [] o = o
 left_behind (p ∷ ps) o = left_behind ps (left_by p.form o)

@@ -17,37 +17,39 @@ use Rattle.name_scope.specs.declared.labels.Labels.{Labels}
 pub use Rattle.name_scope.specs.Labelled.{seen_label}
 use Rattle.name_scope.specs.Labelled.{left_in}
 
--- an argument of the program, by its label and its token
+-- an argument of a call as plain data: its label, and its first token
 abbrev pub seen_given : AGiven → GivenArgument ℕ
 seen_given g = (seen_label g.label, g.at)
 
--- what a name is bound to, as plain data
+-- what a name is bound to, as plain data: a value, or a def with its parameters, by the token of the binding
 abbrev pub seen_bound : ABound → Bound
 seen_bound (bound.Value t) = bound_value t
 seen_bound (bound.Function t ps) = bound_function t (map seen_parameter ps.items)
 
--- bindings as a scope, the newest first
+-- the program's bindings of names, which have the newest last, as plain data with the newest first
 abbrev pub newest_first : List Binding → Scope
 newest_first [] = []
 newest_first (b ∷ bs) = newest_first bs ++ (b.name.now, seen_bound b.bound) ∷ []
 
--- the names of a scope of the program, the newest first
+-- the bindings of one scope of the program as plain data, the newest first
 abbrev pub in_scope : AScope → Scope
 in_scope s = newest_first s.bindings.items
 
--- the names of both scopes, the inner ones first
+-- all names in scope, as plain data: those of the def around, which hide the others, and behind them those of
+-- statements
 abbrev pub both_scopes : Scopes → Scope
 both_scopes s = in_scope s.inner.now ++ in_scope s.outer.now
 
--- the token of the argument at a place
+-- the token of the argument at place i of a call; 0 where there is none
 abbrev pub token_at : List AGiven → ℕ → ℕ
 token_at gs i = get_or (map (λ g. g.at) gs) i 0
 
--- the arguments that are left, by their places
+-- the arguments of a call that no parameter has taken yet, with their labels and places, by the program's table
 abbrev pub left_of : Labels → List (GivenArgument ℕ)
 left_of t = left_in 0 (map seen_label t.labels.items) t.taken.items
 
--- the form of a def's parameter
+-- how a def's parameter takes its argument, by how it is written: in its place, by its label, or by its label if it
+-- is given at all
 abbrev pub form_seen : ParamForm → Form
 form_seen form.Plain = InPlace
 form_seen form.Labelled = ByLabel

@@ -21,7 +21,7 @@ use typing_rules::{Form, Parameter, is_same_name};
 /// The arguments of one call that no parameter has taken yet. Up to four of them take no memory.
 pub(crate) type Untaken<'a> = SmallVec<Given<'a>, 4>;
 
-/// The parameters of a def, in order.
+/// The parameters of a def, in order: their names, and how each takes its argument.
 pub fn parameters<'a>(alloc: Global, params: &'a [Param]) -> Result<Vec<Parameter<'a>>, Memory>
     ensures same { IfOk result (λ r. map seen_parameter r.items ≡ parameters_of (listed (map view_param params.now))) }
 {
@@ -35,7 +35,7 @@ pub fn parameters<'a>(alloc: Global, params: &'a [Param]) -> Result<Vec<Paramete
     Ok(seen)
 }
 
-/// The arguments of a call by their labels and tokens, in order.
+/// The arguments of a call as untaken ones, in order: the label of each, and its first token.
 pub(crate) fn given_arguments<'a>(alloc: Global, args: &'a [Arg]) -> Result<Untaken<'a>, Memory>
     ensures same { IfOk result (λ r. map seen_given r.items ≡ tokens_given (listed (map view_arg args.now))) }
 {
@@ -50,7 +50,7 @@ pub(crate) fn given_arguments<'a>(alloc: Global, args: &'a [Arg]) -> Result<Unta
     Ok(given)
 }
 
-/// The label that the argument of a parameter has, if it has one.
+/// The label by which a parameter takes its argument; none where it takes one without a label.
 pub fn label_of<'a>(param: Parameter<'a>) -> Option<&'a str>
     ensures same { seen_label result ≡ the_label_of (seen_parameter param.entry) }
 {
@@ -61,7 +61,7 @@ pub fn label_of<'a>(param: Parameter<'a>) -> Option<&'a str>
     }
 }
 
-/// Whether a parameter of this form must have an argument.
+/// Whether a parameter of this form must have an argument: each but one with a default.
 pub fn is_needed(form: Form) -> bool
     ensures same { result ≡ is_wanted form }
 {
@@ -119,7 +119,7 @@ pub(crate) fn match_arguments<'a>(
     missing
 }
 
-/// The labels of arguments, in order.
+/// The labels of a call's arguments, in order, from which a table of them is made.
 pub(crate) fn labels_of<'a>(
     alloc: Global,
     given: &[Given<'a>],
@@ -151,7 +151,8 @@ pub(crate) fn match_labels<'a>(
     Ok(missing)
 }
 
-/// Takes out the first argument with this label, or the first without one, and answers whether there is any.
+/// Takes the first untaken argument with this label out of the table, or the first without one, and answers whether
+/// there was any.
 fn takes(labels: &mut Labels<'_>, label: Option<&str>) -> Result<bool, Memory>
     ensures taken { IfOk result (λ yes. yes ≡ is_some (argument (seen_label label.entry) (left_of labels.old))) }
     ensures others { OnOk result (left_of labels.new
@@ -161,7 +162,8 @@ fn takes(labels: &mut Labels<'_>, label: Option<&str>) -> Result<bool, Memory>
     Ok(place.is_some())
 }
 
-/// The form of a parameter of a def.
+/// How a def's parameter takes its argument, by how it is written: in its place, by its label, or by its label if it
+/// is given at all.
 fn form_of(form: &ParamForm) -> Form
     ensures same { result ≡ form_seen form.now }
 {
@@ -172,7 +174,7 @@ fn form_of(form: &ParamForm) -> Form
     }
 }
 
-/// Whether an argument has a label.
+/// Whether one of these arguments of a call has a label.
 fn has_label(args: &[Arg]) -> bool
     ensures same { result ≡ has_a_label (tokens_given (listed (map view_arg args.now))) }
 {
@@ -209,7 +211,7 @@ fn left_by(form: Form, count: Option<usize>) -> Option<usize>
     }
 }
 
-/// One less than `count`; `None` for 0.
+/// One less than `count`, how many arguments are left once a parameter took one; `None` for 0.
 #[tactic(auto, using(crate::proofs::Filling::nothing_before))]
 fn one_less(count: usize) -> Option<usize>
     ensures same { result ≡ the_left_by Form.InPlace (Some count) }
@@ -217,7 +219,8 @@ fn one_less(count: usize) -> Option<usize>
     if count == 0 { None } else { Some(count - 1) }
 }
 
-/// Takes out the first argument with this label, or the first without one, and answers whether there is any.
+/// Takes the first argument with this label out of the list, or the first without one, and answers whether there was
+/// any.
 fn take_argument(given: &mut Untaken<'_>, label: Option<&str>) -> bool
     ensures taken { result ≡ is_some (argument (seen_label label.entry) (map seen_given given.old.items)) }
     ensures others { map seen_given given.new.items
@@ -233,7 +236,8 @@ fn take_argument(given: &mut Untaken<'_>, label: Option<&str>) -> bool
     false
 }
 
-/// The first missing parameter: the one that is known, or else `param` if it must have an argument and took none.
+/// The first parameter of a call that finds no argument: the one known from before, or else `param` if it must have an
+/// argument and took none.
 fn missing_or<'a>(missing: Option<&'a str>, param: Parameter<'a>, taken: bool) -> Option<&'a str>
     ensures same { seen_label result ≡ missing_with (seen_label missing.entry) (seen_parameter param.entry) taken }
 {

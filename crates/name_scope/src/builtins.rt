@@ -5,7 +5,7 @@ ghost use Rattle.name_scope.specs.Seen.{seen_parameter};
 
 use typing_rules::{Builtin, Parameter, builtin_row};
 
-/// The parameters of a builtin, in the order of its row.
+/// The parameters of a builtin, in the order of its row in the table of builtins.
 pub fn builtin_params(builtin: Builtin) -> &'static [Parameter<'static>]
     ensures same { map seen_parameter result.now ≡ params_of_builtin builtin }
 {

@@ -32,7 +32,7 @@ pub struct Labels<'a> {
 impl<'a> Labels<'a> {
     ghost use Rattle.name_scope.specs.Seen.{left_of};
 
-    /// The arguments with these labels.
+    /// The table of a call's arguments by these labels, of which none is taken yet.
     pub fn new(alloc: Global, labels: Vec<Option<&'a str>>) -> Result<Labels<'a>, Memory>
         ensures all { IfOk result (λ t. left_of t ≡ placed 0 (map seen_label labels.entry.items)) }
     {
@@ -50,7 +50,7 @@ impl<'a> Labels<'a> {
         })
     }
 
-    /// Whether all arguments were taken.
+    /// Whether parameters took all arguments of the call.
     pub fn is_empty(&self) -> bool
         ensures none { result ≡ nat_eq (length (left_of self.now)) 0 }
     {
@@ -62,14 +62,14 @@ impl<'a> Labels<'a> {
         true
     }
 
-    /// How many arguments there are.
+    /// How many arguments the call has, taken or not.
     pub(crate) fn count(&self) -> usize
         ensures all { result ≡ length self.now.labels.items }
     {
         self.labels.len()
     }
 
-    /// Whether the argument at a place was taken.
+    /// Whether a parameter took the argument at this place.
     pub(crate) fn is_taken(&self, place: usize) -> bool
         requires inside { place < length self.now.labels.items }
         ensures at { result ≡ get_or self.now.taken.items place false }
@@ -96,7 +96,7 @@ impl<'a> Labels<'a> {
     }
 }
 
-/// The label of the argument at a place.
+/// The label of the argument at this place of a call, if it has one.
 fn label_at<'a>(labels: &[Option<&'a str>], place: usize) -> Option<&'a str>
     requires inside { place < length labels.now }
     ensures at { result ≡ get_or labels.now place result }
@@ -104,7 +104,7 @@ fn label_at<'a>(labels: &[Option<&'a str>], place: usize) -> Option<&'a str>
     labels[place]
 }
 
-/// The flag at a place.
+/// Whether the argument at this place was taken, by the list of these flags.
 fn flag_at(flags: &[bool], place: usize) -> bool
     requires inside { place < length flags.now }
     ensures at { result ≡ get_or flags.now place false }
@@ -112,7 +112,7 @@ fn flag_at(flags: &[bool], place: usize) -> bool
     flags[place]
 }
 
-/// The place that the list has for the argument at a place.
+/// The place of the next argument with the same label, for the argument at `place`, by the list of these.
 fn place_at(places: &[Option<usize>], place: usize) -> Option<usize>
     requires inside { place < length places.now }
     ensures at { result ≡ next_at places.now place }
@@ -120,7 +120,7 @@ fn place_at(places: &[Option<usize>], place: usize) -> Option<usize>
     places[place]
 }
 
-/// The place of the first argument with this label, or of the first without one, by the tables.
+/// The place of the first argument that is left with this label, or of the first without one, by the tables.
 fn head(
     label: Option<&str>,
     named: &IndexMap<&str, Option<usize>>,
@@ -162,7 +162,8 @@ fn set_head<'a>(
     }
 }
 
-/// Fills the tables for these labels, from the last argument on.
+/// Fills the tables for these labels, from the last argument on: for each argument the next one with its label, and
+/// for each label the first one.
 fn link_all<'a>(
     labels: &[Option<&'a str>],
     next: &mut [Option<usize>],

@@ -42,7 +42,7 @@ pub struct Notes {
     pub fault: Option<NameFault>,
 }
 
-// The token of a fault, by which the faults of a statement are ordered.
+// The token at which a fault of names is told, by which the faults of a statement are ordered.
 fn token(fault: &NameFault) -> u32
     ensures same { result ≡ the_token fault.now }
 {
@@ -54,7 +54,7 @@ fn token(fault: &NameFault) -> u32
     }
 }
 
-// The number of a fault, by which those at one token are ordered.
+// The rank of a fault's sort among the faults at one token: the one of the lowest is told.
 fn number(fault: &NameFault) -> u32
     ensures same { result ≡ the_number fault.now }
 {
@@ -77,7 +77,7 @@ fn is_before(first: &NameFault, second: &NameFault) -> bool
     }
 }
 
-/// The token of the argument at a place; 0 where there is none.
+/// The token of the argument at a place of a call; 0 where there is none.
 fn token_of(given: &[Given<'_>], place: usize) -> u32
     ensures at { result ≡ token_at given.now place }
 {
@@ -87,7 +87,7 @@ fn token_of(given: &[Given<'_>], place: usize) -> u32
     }
 }
 
-/// Whether one of the parameters has this name.
+/// Whether one of the parameters has this name, so that a later one repeats it.
 fn is_among(name: &Text, params: &[Param]) -> bool
     ensures same { result ≡ is_one_of name.now (map (λ p. p.name) params.now) }
 {
@@ -100,7 +100,7 @@ fn is_among(name: &Text, params: &[Param]) -> bool
 }
 
 impl Notes {
-    /// No names yet. It takes no memory.
+    /// Notes of no names, and of no fault. It takes no memory.
     pub fn new(alloc: Global) -> Notes
         ensures found { result.found.items ≡ [] }
         ensures fault { result.fault ≡ None }
@@ -111,7 +111,7 @@ impl Notes {
         }
     }
 
-    /// Keeps, of the known fault and this one, the one that is told.
+    /// Notes a fault of names: of the one known so far and this one, the one that stands first in the text is kept.
     fn add_fault(&mut self, fault: NameFault)
         ensures fault { self.new.fault ≡ sooner self.old.fault fault }
         ensures found { self.new.found ≡ self.old.found }
@@ -125,7 +125,7 @@ impl Notes {
         }
     }
 
-    /// Adds the name at token `at`, which stands for something.
+    /// Notes the name at token `at` with what it stands for, behind those noted before.
     fn add_found(&mut self, at: u32, target: Target) -> Result<(), Memory>
         ensures found { OnOk result (self.new.found.items ≡ self.old.found.items ++ record {
           at = at;
@@ -137,7 +137,8 @@ impl Notes {
         Ok(())
     }
 
-    /// Adds the faults of the arguments of the call at token `at`: the one that is told is kept.
+    /// Checks the arguments of the call at token `at` against the parameters of what it calls, and notes the faults: a
+    /// missing argument, and those that no parameter takes.
     fn add_mismatches(
         &mut self,
         alloc: Global,
@@ -157,8 +158,8 @@ impl Notes {
         self.add_unmatched(alloc, at, params, &mut given)
     }
 
-    // Adds the faults of the arguments of the call at token `at`, given by their labels and tokens. Those that a
-    // parameter takes may be taken out.
+    // Checks the arguments of the call at token `at`, given by their labels and tokens, against these parameters, and
+    // notes the faults. Those that a parameter takes may be taken out.
     fn add_unmatched(
         &mut self,
         alloc: Global,
@@ -180,7 +181,8 @@ impl Notes {
         Ok(())
     }
 
-    // Adds the faults of many arguments of the call at token `at`, which are found by a table of their labels.
+    // Checks the arguments of the call at token `at`, of which there are many, against these parameters, by a table
+    // of their labels, and notes the faults.
     fn add_mismatches_of_many(
         &mut self,
         alloc: Global,
@@ -196,8 +198,8 @@ impl Notes {
         self.add_by_labels(alloc, at, params, given, &mut labels)
     }
 
-    // Adds the faults of the arguments of the call at token `at`, by a table of their labels, from which none is taken
-    // yet.
+    // Checks the arguments of the call at token `at` against these parameters, by a table of their labels from which
+    // none is taken yet, and notes the faults.
     fn add_by_labels(
         &mut self,
         alloc: Global,
@@ -217,7 +219,7 @@ impl Notes {
         Ok(())
     }
 
-    // Adds the faults of the arguments that are left in a table of their labels.
+    // Notes a fault for each argument that no parameter took, by the table of their labels.
     fn add_left(&mut self, labels: &Labels<'_>, given: &[Given<'_>])
         ensures fault { self.new.fault
             ≡ all_sooner self.old.fault (map (λ g. Extra (token_at given.now g.1)) (left_of labels.now)) }
@@ -228,7 +230,7 @@ impl Notes {
         }
     }
 
-    // Adds the fault of the argument at token `at`, which no parameter takes, if it is left.
+    // Notes that no parameter takes the argument at token `at`, if it is left.
     fn add_extra_if(&mut self, left: bool, at: u32)
         ensures fault { self.new.fault ≡ cond left (sooner self.old.fault (Extra at)) self.old.fault }
         ensures found { self.new.found ≡ self.old.found }
@@ -238,7 +240,7 @@ impl Notes {
         }
     }
 
-    /// Adds the fault of the call at token `at` of which this argument is missing, if one is.
+    /// Notes that the call at token `at` lacks this argument, if it lacks one.
     fn add_missing(&mut self, alloc: Global, at: u32, missing: Option<&str>) -> Result<(), Memory>
         ensures fault { OnOk result (self.new.fault
             ≡ all_sooner self.old.fault (missing_at at (seen_label missing.entry))) }
@@ -254,7 +256,7 @@ impl Notes {
         }
     }
 
-    /// Adds the faults of arguments that no parameter takes.
+    /// Notes a fault for each of these arguments, which no parameter takes.
     fn add_extra(&mut self, given: &[Given<'_>])
         ensures fault { self.new.fault ≡ all_sooner self.old.fault (map (λ g. Extra g.at) given.now) }
         ensures found { self.new.found ≡ self.old.found }
@@ -264,7 +266,7 @@ impl Notes {
         }
     }
 
-    /// Adds the fault of the parameter at token `at` whose name an earlier one has, if it has.
+    /// Notes that the parameter at token `at` repeats the name of an earlier one, if it does.
     fn add_repeated(&mut self, repeats: bool, at: u32)
         ensures fault { self.new.fault ≡ all_sooner self.old.fault (repeated_at at repeats) }
         ensures found { self.new.found ≡ self.old.found }
@@ -274,7 +276,7 @@ impl Notes {
         }
     }
 
-    /// Adds the faults of the parameters of a def whose names earlier ones have.
+    /// Notes a fault for each parameter of a def that repeats the name of an earlier one.
     pub fn add_repeats(&mut self, alloc: Global, params: &[Param]) -> Result<(), Memory>
         ensures fault { OnOk result (self.new.fault
             ≡ all_sooner self.old.fault (repeats [] (listed (map view_param params.now)))) }
@@ -287,8 +289,8 @@ impl Notes {
         Ok(())
     }
 
-    // Adds the faults of repeated names of so few parameters that each is compared with the earlier ones. It takes no
-    // memory.
+    // Notes a fault for each parameter that repeats the name of an earlier one, where they are so few that each is
+    // compared with the earlier ones. It takes no memory.
     fn add_repeats_of_few(&mut self, params: &[Param])
         ensures fault { self.new.fault ≡ all_sooner self.old.fault (repeats [] (listed (map view_param params.now))) }
         ensures found { self.new.found ≡ self.old.found }
@@ -299,7 +301,7 @@ impl Notes {
         }
     }
 
-    // Adds the faults of repeated names of parameters, with a table of the earlier names.
+    // Notes a fault for each parameter that repeats the name of an earlier one, by a table of the earlier names.
     fn add_repeats_of_many<'a>(&mut self, alloc: Global, params: &'a [Param]) -> Result<(), Memory>
         ensures fault { OnOk result (self.new.fault
             ≡ all_sooner self.old.fault (repeats [] (listed (map view_param params.entry.now)))) }
@@ -309,8 +311,8 @@ impl Notes {
         self.add_repeats_behind(params, &mut earlier)
     }
 
-    // Adds the faults of repeated names of parameters, with this table of the earlier names, in which none stands at
-    // first.
+    // Notes a fault for each parameter that repeats the name of an earlier one; `earlier` takes their names, and none
+    // stands in it at first.
     fn add_repeats_behind<'a>(
         &mut self,
         params: &'a [Param],
@@ -329,7 +331,8 @@ impl Notes {
         Ok(())
     }
 
-    /// Adds the name at token `at`, which stands outside a call.
+    /// Notes the name at token `at`, which stands outside a call: the binding that it means in these scopes, or that
+    /// it is unknown.
     pub fn add_value(&mut self, scopes: Scopes<'_, '_>, at: u32, name: &Text) -> Result<(), Memory>
         ensures added { OnOk result (noted self.new ≡ with_name (noted self.old) (record {
           at = at;
@@ -346,7 +349,8 @@ impl Notes {
         }
     }
 
-    /// Adds the name of the call at token `at`, with how its arguments match.
+    /// Notes the name of the call at token `at`: the def or builtin that it means, and the faults of its arguments; or
+    /// that it is unknown.
     pub fn add_call(
         &mut self,
         alloc: Global,
@@ -374,7 +378,8 @@ impl Notes {
         }
     }
 
-    /// Adds the name of the call at token `at`, which nothing in scope has.
+    /// Notes the name of the call at token `at`, which nothing in scope has: the builtin of this name and the faults
+    /// of the arguments, or that it is unknown.
     fn add_outer_call(
         &mut self,
         alloc: Global,

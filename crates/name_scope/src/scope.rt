@@ -42,7 +42,7 @@ impl<'a> Scope<'a> {
     ghost use Rattle.typing_rules.specs.Scoping.{bound as the_bound};
     ghost use Rattle.name_scope.specs.Seen.{seen_bound, in_scope};
 
-    /// No names. It takes no memory.
+    /// A scope in which no name is bound. It takes no memory.
     pub fn new(alloc: Global) -> Scope<'a>
         ensures empty { in_scope result ≡ [] }
     {
@@ -52,7 +52,7 @@ impl<'a> Scope<'a> {
         }
     }
 
-    /// Binds a name, which hides an older one.
+    /// Binds a name in this scope, which hides an older binding of the name.
     pub fn bind(&mut self, name: &'a str, bound: Bound<'a>) -> Result<(), Memory>
         ensures bound { OnOk result (in_scope self.new ≡ (name.entry.now, seen_bound bound.entry) ∷ in_scope self.old) }
     {

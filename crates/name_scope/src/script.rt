@@ -13,13 +13,13 @@ use script_grammar::tree::Stmt;
 use std::alloc::Global;
 use typing_rules::{NameFault, TypeFault};
 
-/// The names of one statement more, behind statements without a fault of names, and the scope behind it. Statements are
-/// counted from 1.
+/// Resolves the names of one statement more, behind statements without a fault of names: adds to `notes` what they
+/// stand for, and to the scope the name that it binds. Statements are counted from 1.
 ///
 /// # Errors
 ///
-/// The fault of names and arguments that is told of the statement, with its number (`docs/typing.md`). `Memory`: memory
-/// was refused.
+/// The fault of names and arguments that is told of the statement, with its number (`docs/typing.md`). `Memory`:
+/// memory was refused.
 pub fn resolve_statement<'a>(
     alloc: Global,
     scope: &mut Scope<'a>,
@@ -43,7 +43,7 @@ pub fn resolve_statement<'a>(
     Ok(())
 }
 
-/// A fault of names as that of statement `number`.
+/// A fault of names as a fault of typing in the statement of this number.
 fn in_statement(number: u32, fault: NameFault) -> TypeFault
     ensures same { result ≡ the_fault_in number fault }
 {
@@ -72,7 +72,7 @@ fn check_fault(notes: &mut Notes, number: u32) -> Result<(), TypeFault>
     }
 }
 
-/// What is noted of one statement more, with want of memory as a fault of the script.
+/// Adds to `notes` what each name in one statement more stands for; want of memory is a fault of the script.
 fn note_or_refuse<'a>(
     alloc: Global,
     scope: &mut Scope<'a>,

@@ -18,7 +18,8 @@ use liq_base::Memory;
 use script_grammar::tree::{Bind, Call, Def, Full, If, Inner, Param, ParamForm, Stmt, StmtPart};
 use std::alloc::Global;
 
-/// The names that a def's text uses.
+/// Adds to `notes` what each name in a def's text stands for, or its fault; `outer` has the names that statements
+/// bind.
 pub fn note_def<'a>(
     alloc: Global,
     outer: &Scope<'a>,
@@ -32,7 +33,8 @@ pub fn note_def<'a>(
     note_def_in(alloc, outer, &mut inner, notes, def)
 }
 
-/// The names that a def's text uses, with a scope without names that takes those that the def binds.
+/// Adds to `notes` what each name in a def's text stands for, or its fault. `inner` has no names at first, and takes
+/// those of the def's parameters and inner bindings.
 fn note_def_in<'a>(
     alloc: Global,
     outer: &Scope<'a>,
@@ -57,8 +59,8 @@ fn note_def_in<'a>(
     Ok(())
 }
 
-/// The names that a statement uses behind statements without a fault of names, with the fault that is told of it; and
-/// the scope behind it.
+/// Adds to `notes` what each name in a statement stands for, or the fault that is told of it; statements before it had
+/// none. The name that it binds is added to the scope.
 pub(crate) fn note_statement<'a>(
     alloc: Global,
     scope: &mut Scope<'a>,
@@ -77,7 +79,7 @@ pub(crate) fn note_statement<'a>(
     Ok(())
 }
 
-/// The names that the default of a parameter uses, if it has one.
+/// Adds to `notes` what each name in the default of a parameter stands for, if it has one.
 fn note_default(
     alloc: Global,
     scopes: Scopes<'_, '_>,
@@ -94,7 +96,7 @@ fn note_default(
     }
 }
 
-/// The names that the defaults of parameters use.
+/// Adds to `notes` what each name in the defaults of these parameters stands for.
 fn note_defaults(
     alloc: Global,
     scopes: Scopes<'_, '_>,
@@ -110,7 +112,7 @@ fn note_defaults(
     Ok(())
 }
 
-/// Binds parameters.
+/// Binds the names of a def's parameters in `inner`, the scope of its body.
 fn bind_params<'a>(inner: &mut Scope<'a>, params: &'a [Param]) -> Result<(), Memory>
     ensures bound { OnOk result (in_scope inner.new
         ≡ with_params (listed (map view_param params.entry.now)) (in_scope inner.old)) }
@@ -121,7 +123,8 @@ fn bind_params<'a>(inner: &mut Scope<'a>, params: &'a [Param]) -> Result<(), Mem
     Ok(())
 }
 
-/// The names that inner bindings use, each behind the ones before it; and it binds them.
+/// Adds to `notes` what each name in the inner bindings of a def stands for; each binding sees those before it, and
+/// its own name is then added to `inner`.
 fn note_inners<'a>(
     alloc: Global,
     outer: &Scope<'a>,
@@ -149,7 +152,7 @@ fn note_inners<'a>(
     Ok(())
 }
 
-/// The names that a def's inner bindings and its result use, behind its parameters.
+/// Adds to `notes` what each name in a def's inner bindings and result stands for, where its parameters are bound.
 fn note_body<'a>(
     alloc: Global,
     outer: &Scope<'a>,
@@ -176,7 +179,7 @@ fn note_body<'a>(
     Ok(())
 }
 
-/// The names that a value outside defs uses.
+/// Adds to `notes` what each name in a value outside defs stands for.
 fn note_value_part(
     alloc: Global,
     scope: &Scope<'_>,
@@ -199,7 +202,7 @@ fn note_value_part(
     Ok(())
 }
 
-/// The names that a statement's binding uses; and it binds its name.
+/// Adds to `notes` what each name in the value of a binding stands for, and then the bound name to the scope.
 fn note_bind_part<'a>(
     alloc: Global,
     scope: &mut Scope<'a>,
@@ -215,7 +218,8 @@ fn note_bind_part<'a>(
     Ok(())
 }
 
-/// The parameters that a def repeats and the names that its text uses; and it binds its name.
+/// Adds to `notes` the faults of a def's repeated parameters and what each name in its text stands for, and then the
+/// def's name to the scope.
 fn note_def_part<'a>(
     alloc: Global,
     scope: &mut Scope<'a>,
@@ -239,7 +243,7 @@ fn note_def_part<'a>(
     Ok(())
 }
 
-/// The names that a statement uses which is a call.
+/// Adds to `notes` what each name in a statement that is a call stands for.
 fn note_call_part(
     alloc: Global,
     scope: &Scope<'_>,
@@ -262,7 +266,7 @@ fn note_call_part(
     Ok(())
 }
 
-/// The names that a statement uses which is an `if`.
+/// Adds to `notes` what each name in a statement that is an `if` stands for.
 fn note_if_part(
     alloc: Global,
     scope: &Scope<'_>,
@@ -285,7 +289,8 @@ fn note_if_part(
     Ok(())
 }
 
-/// The names that a statement's part uses, and the one that it binds.
+/// Adds to `notes` what each name in a statement stands for, by which of the four sorts it is, and the name that it
+/// binds to the scope.
 fn note_part<'a>(
     alloc: Global,
     scope: &mut Scope<'a>,

@@ -15,7 +15,8 @@ use script_grammar::tree::{
 };
 use std::alloc::Global;
 
-/// The names that a full value uses. It fails only where memory is refused.
+/// Adds to `notes` what each name in a full value, an expression or a number behind a minus, stands for, or its fault.
+/// It fails only where memory is refused.
 #[cycle(value)]
 pub fn note_full(
     alloc: Global,
@@ -32,7 +33,7 @@ pub fn note_full(
     }
 }
 
-/// The names that an expression uses. It fails only where memory is refused.
+/// Adds to `notes` what each name in an expression stands for, or its fault. It fails only where memory is refused.
 #[cycle(value)]
 pub fn note_expr(
     alloc: Global,
@@ -48,7 +49,8 @@ pub fn note_expr(
     Ok(())
 }
 
-/// The name of a call and the names that its arguments use. It fails only where memory is refused.
+/// Adds to `notes` what the name of a call stands for, with the faults of its arguments, and then what each name in
+/// the arguments stands for. It fails only where memory is refused.
 #[cycle(value)]
 pub fn note_call(
     alloc: Global,
@@ -64,7 +66,8 @@ pub fn note_call(
     Ok(())
 }
 
-/// The names that an `if` uses, in the order of its parts. It fails only where memory is refused.
+/// Adds to `notes` what each name in an `if` stands for, or its fault, in the order of its parts. It fails only where
+/// memory is refused.
 #[cycle(value)]
 pub fn note_choice(
     alloc: Global,
@@ -81,7 +84,7 @@ pub fn note_choice(
     Ok(())
 }
 
-// The names that parts joined by `or` use.
+// Adds to `notes` what each name in parts joined by `or` stands for, or its fault.
 #[cycle(value)]
 fn note_ands(
     alloc: Global,
@@ -98,7 +101,7 @@ fn note_ands(
     Ok(())
 }
 
-// The names that parts joined by `and` use.
+// Adds to `notes` what each name in parts joined by `and` stands for, or its fault.
 #[cycle(value)]
 fn note_and(
     alloc: Global,
@@ -114,7 +117,7 @@ fn note_and(
     Ok(())
 }
 
-// The names that the parts behind an `and` use.
+// Adds to `notes` what each name in the parts behind an `and` stands for, or its fault.
 #[cycle(value)]
 fn note_nots(
     alloc: Global,
@@ -131,7 +134,7 @@ fn note_nots(
     Ok(())
 }
 
-// The names that a comparison uses, perhaps behind `not`.
+// Adds to `notes` what each name in a comparison, perhaps behind `not`, stands for, or its fault.
 #[cycle(value)]
 fn note_not(
     alloc: Global,
@@ -145,7 +148,7 @@ fn note_not(
     note_compare(alloc, scopes, notes, &not.inner)
 }
 
-// The names that a sum uses, and the one that it is compared with.
+// Adds to `notes` what each name in a sum, and in the one that it is compared with, stands for, or its fault.
 #[cycle(value)]
 fn note_compare(
     alloc: Global,
@@ -166,7 +169,7 @@ fn note_compare(
     }
 }
 
-// The names that products joined by `+` and `-` use.
+// Adds to `notes` what each name in products joined by `+` and `-` stands for, or its fault.
 #[cycle(value)]
 fn note_sum(
     alloc: Global,
@@ -182,7 +185,7 @@ fn note_sum(
     Ok(())
 }
 
-// The names that the products behind a `+` or `-` use.
+// Adds to `notes` what each name in the products behind a `+` or `-` stands for, or its fault.
 #[cycle(value)]
 fn note_addends(
     alloc: Global,
@@ -199,7 +202,7 @@ fn note_addends(
     Ok(())
 }
 
-// The names that a product behind a `+` or `-` uses.
+// Adds to `notes` what each name in a product behind a `+` or `-` stands for, or its fault.
 #[cycle(value)]
 fn note_added(
     alloc: Global,
@@ -213,7 +216,7 @@ fn note_added(
     note_product(alloc, scopes, notes, &added.product)
 }
 
-// The names that operands joined by `*` and `/` use.
+// Adds to `notes` what each name in operands joined by `*` and `/` stands for, or its fault.
 #[cycle(value)]
 fn note_product(
     alloc: Global,
@@ -229,7 +232,7 @@ fn note_product(
     Ok(())
 }
 
-// The names that the operands behind a `*` or `/` use.
+// Adds to `notes` what each name in the operands behind a `*` or `/` stands for, or its fault.
 #[cycle(value)]
 fn note_factors(
     alloc: Global,
@@ -246,7 +249,7 @@ fn note_factors(
     Ok(())
 }
 
-// The names that an operand behind a `*` or `/` uses.
+// Adds to `notes` what each name in an operand behind a `*` or `/` stands for, or its fault.
 #[cycle(value)]
 fn note_multiplied(
     alloc: Global,
@@ -260,7 +263,7 @@ fn note_multiplied(
     note_operand(alloc, scopes, notes, &multiplied.operand)
 }
 
-// The names that an operand uses.
+// Adds to `notes` what each name in an operand stands for, or its fault.
 #[cycle(value)]
 fn note_operand(
     alloc: Global,
@@ -287,7 +290,7 @@ fn note_operand(
     }
 }
 
-// The names that values use, one after another.
+// Adds to `notes` what each name in these values, one after another, stands for, or its fault.
 #[cycle(value)]
 fn note_fulls(
     alloc: Global,
@@ -304,7 +307,7 @@ fn note_fulls(
     Ok(())
 }
 
-// The names that the arguments of a call use.
+// Adds to `notes` what each name in the arguments of a call stands for, or its fault.
 #[cycle(value)]
 fn note_args(
     alloc: Global,
@@ -321,7 +324,7 @@ fn note_args(
     Ok(())
 }
 
-// The names that an argument uses.
+// Adds to `notes` what each name in the value of an argument stands for, or its fault.
 #[cycle(value)]
 fn note_arg(
     alloc: Global,

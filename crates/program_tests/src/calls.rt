@@ -17,14 +17,14 @@ pub const CARRIED: &str =
     output.file(%wav, \"A\", s)\noutput.file(%wav, \"C\", clock(id=\"b\", mksafe(buffer(buffer=0.002, max=0.01, \
     s))))\n";
 
-// A file of this name and these bytes.
+// A file of a shelf, of this name and these bytes.
 fn file_of(alloc: Global, name: &str, bytes: &[u8]) -> Result<(String, Vec<u8>), AllocError> {
     let name = String::from_str(alloc, name)?;
     let bytes = bytes.to_vec(alloc)?;
     Ok((name, bytes))
 }
 
-// Adds a script, which is named `f`, and these files.
+// Adds to the files of a shelf a script, which is named `f`, and files of these names and bytes.
 fn put_all(
     alloc: Global,
     files: &mut Vec<(String, Vec<u8>)>,
@@ -38,7 +38,7 @@ fn put_all(
     Ok(())
 }
 
-/// A shelf of a script and of these files.
+/// A shelf, files in memory: this script as `f`, and files of these names and bytes.
 pub fn shelf_of(
     alloc: Global,
     script: &str,
@@ -51,7 +51,7 @@ pub fn shelf_of(
 
 const AUDIO: &[(&str, &[u8])] = &[("B", ONE_TWO_THREE)];
 
-/// A script, and the audio file that it names.
+/// A shelf, files in memory: this script as `f`, and the audio file `B` that it names.
 pub fn shelf(alloc: Global, script: &str) -> Result<MemShelf, AllocError> {
     shelf_of(alloc, script, AUDIO)
 }
@@ -67,7 +67,7 @@ pub enum Failing {
     Report(u64, u64),
 }
 
-/// Lets the call fail, if it is one of the shelf.
+/// Tells the shelf, files in memory, which of its calls is to fail; the sink of a report is made so by itself.
 pub fn let_fail(shelf: &mut MemShelf, failing: Failing) -> Result<(), Fail> {
     match failing {
         Failing::Read(call) => shelf.fail_read(call)?,
@@ -79,17 +79,17 @@ pub fn let_fail(shelf: &mut MemShelf, failing: Failing) -> Result<(), Fail> {
     Ok(())
 }
 
-/// A sink with room for a report, whose piece of this number fails after so many bytes.
+/// A sink in memory with room for a report, whose piece number `call` fails after `taken` bytes.
 pub fn failing_sink(alloc: Global, call: u64, taken: u64) -> Result<MemSink, Fail> {
     Ok(MemSink::new(alloc, 1000, vec![in alloc; (call, taken)]?)?)
 }
 
-/// A sink with room for a report.
+/// A sink in memory with room for a report, of which no call fails.
 pub fn sink(alloc: Global) -> Result<MemSink, Fail> {
     Ok(MemSink::new(alloc, 1000, Vec::new(alloc))?)
 }
 
-// Adds the words of a line.
+// Adds the words of a command line, which blanks separate.
 fn push_words(alloc: Global, words: &mut Vec<String>, line: &str) -> Result<(), Fail> {
     for word in line.split(' ') {
         words.push(String::from_str(alloc, word)?)?;
@@ -97,14 +97,14 @@ fn push_words(alloc: Global, words: &mut Vec<String>, line: &str) -> Result<(), 
     Ok(())
 }
 
-/// The words of a line.
+/// The words of a command line, which blanks separate.
 pub fn words_of(alloc: Global, line: &str) -> Result<Vec<String>, Fail> {
     let mut words = Vec::new(alloc);
     push_words(alloc, &mut words, line)?;
     Ok(words)
 }
 
-/// The status of a call of these words.
+/// Runs the program on the words of a command line, over this shelf and these sinks, and gives its status.
 pub fn call<R: Threads + Wait + Sync, G: Gate + Sync>(
     rt: &R,
     alloc: Global,
@@ -118,7 +118,7 @@ pub fn call<R: Threads + Wait + Sync, G: Gate + Sync>(
     Ok(liq(rt, alloc, &words, shelf, out, err, gate))
 }
 
-/// The status of a call of these words, and how many bytes it told on `err`.
+/// Runs the program on the words of a command line, and gives its status and how many bytes it told on `err`.
 pub fn call_told<R: Threads + Wait + Sync, G: Gate + Sync>(
     rt: &R,
     alloc: Global,
@@ -132,7 +132,7 @@ pub fn call_told<R: Threads + Wait + Sync, G: Gate + Sync>(
     Ok((status, err.held().len()))
 }
 
-/// The bytes of a file, or `none` where it is not there.
+/// The bytes of a file of the shelf, or `none` where it is not there.
 pub fn held<'a>(shelf: &'a MemShelf, name: &str) -> &'a [u8] {
     shelf.get(name).unwrap_or(b"none")
 }

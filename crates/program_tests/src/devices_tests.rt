@@ -58,12 +58,12 @@ enum Left {
     Front(usize, usize),
 }
 
-/// What is left: the front of an output, of so many bytes.
+/// What is left under an output's name: its first `length` bytes.
 fn front(length: usize) -> Left {
     Left::Front(length, length)
 }
 
-/// What is left: the whole output.
+/// What is left under an output's name: all of its bytes.
 fn whole() -> Left {
     front(ALL)
 }
@@ -90,7 +90,7 @@ struct Ending {
     told: usize,
 }
 
-/// The end of a call of which a write failed: nothing is told.
+/// The end of a call of which a write failed: status 4, these two outputs left, and no report.
 fn failed(first: Left, second: Left) -> Ending {
     Ending {
         status: 4,
@@ -102,7 +102,8 @@ fn failed(first: Left, second: Left) -> Ending {
 
 const AUDIO_AND_OLD: &[(&str, &[u8])] = &[("B", ONE_TWO_THREE), ("A", OLD), ("C", OLD)];
 
-// A script, the audio file that it names, and perhaps old outputs.
+// A shelf, files in memory: a script, the audio file that it names, and where `is_old` what stood under the outputs'
+// names before.
 fn shelf_over(alloc: Global, script: &str, is_old: bool) -> Result<MemShelf, AllocError> {
     if is_old {
         shelf_of(alloc, script, AUDIO_AND_OLD)
@@ -111,7 +112,7 @@ fn shelf_over(alloc: Global, script: &str, is_old: bool) -> Result<MemShelf, All
     }
 }
 
-// The sink of a report, which fails where it is told to.
+// The sink that takes the report of a call; it fails where `failing` says that the report does.
 fn report_sink(alloc: Global, failing: Failing) -> Result<MemSink, Fail> {
     match failing {
         Failing::Report(call, taken) => failing_sink(alloc, call, taken),
@@ -119,7 +120,7 @@ fn report_sink(alloc: Global, failing: Failing) -> Result<MemSink, Fail> {
     }
 }
 
-// The outputs and the report are left so.
+// Checks what a call has left: the two outputs and the report are as `ending` says.
 fn check_left(rt: &impl Abort, shelf: &MemShelf, told: &[u8], ending: Ending, is_old: bool) {
     let before = if is_old { Some(OLD) } else { None };
     assert!(rt; is_left(ending.first, shelf.get("A"), before));
@@ -127,7 +128,7 @@ fn check_left(rt: &impl Abort, shelf: &MemShelf, told: &[u8], ending: Ending, is
     assert!(rt; told.len() == ending.told && REPORT.starts_with(told));
 }
 
-// A call of these words on a shelf ends so, where this call of a device fails.
+// Runs a call of these words on a shelf, where this call of a device fails, and checks that it ends as `ending` says.
 fn check_shelf<R: Abort + Threads + Wait + Sync>(
     rt: &R,
     alloc: Global,
@@ -145,8 +146,8 @@ fn check_shelf<R: Abort + Threads + Wait + Sync>(
     Ok(())
 }
 
-// Over old outputs or none, a call of these words has this end, where this call of a device fails. `run` is a script
-// and the words.
+// Runs a call of these words, where this call of a device fails, over old outputs or none, and checks its end. `run`
+// is a script and the words.
 fn check_over<R: Abort + Threads + Wait + Sync>(
     rt: &R,
     alloc: Global,
@@ -160,8 +161,8 @@ fn check_over<R: Abort + Threads + Wait + Sync>(
     check_shelf(rt, alloc, line, &mut shelf, failing, ending, is_old)
 }
 
-// A call of these words ends so, where this call of a device fails, over old outputs and over none. `run` is a script
-// and the words.
+// Runs a call of these words, where this call of a device fails, over old outputs and over none, and checks that it
+// ends so. `run` is a script and the words.
 fn check<R: Abort + Threads + Wait + Sync>(
     rt: &R,
     alloc: Global,
@@ -173,7 +174,7 @@ fn check<R: Abort + Threads + Wait + Sync>(
     check_over(rt, alloc, run, failing, ending, true)
 }
 
-// A read fails, and nothing is written.
+// Lets each of the two reads of a call fail, and checks that nothing is written and the status is 3.
 fn check_reads<R: Abort + Threads + Wait + Sync>(
     rt: &R,
     alloc: Global,
@@ -189,8 +190,8 @@ fn check_reads<R: Abort + Threads + Wait + Sync>(
     check(rt, alloc, run, Failing::Read(1), ending)
 }
 
-// The report, of `length` bytes, breaks off at each byte, with all outputs whole. `second` is what is left of the
-// second output, which may not be there.
+// Lets the report, of `length` bytes, break off at each byte, and checks that all outputs are whole. `second` is what
+// is left of the second output, which may not be there.
 fn check_reports<R: Abort + Threads + Wait + Sync>(
     rt: &R,
     alloc: Global,
@@ -210,7 +211,8 @@ fn check_reports<R: Abort + Threads + Wait + Sync>(
     Ok(())
 }
 
-// Where this call of a device is told to fail, none does: there are no more. `told` is how long the report is.
+// Lets a call of a device fail that never comes, since there are no more, and checks that all goes well. `told` is
+// how long the report is.
 fn check_no_more<R: Abort + Threads + Wait + Sync>(
     rt: &R,
     alloc: Global,
@@ -228,7 +230,8 @@ fn check_no_more<R: Abort + Threads + Wait + Sync>(
     check(rt, alloc, run, failing, ending)
 }
 
-// A piece of the one output, of `size` bytes, breaks off at each byte: `before` bytes are written before it.
+// Lets a piece of the one output, of `size` bytes, break off at each byte, and checks what is left: `before` bytes
+// are written before it.
 fn check_one_piece<R: Abort + Threads + Wait + Sync>(
     rt: &R,
     alloc: Global,
@@ -246,7 +249,7 @@ fn check_one_piece<R: Abort + Threads + Wait + Sync>(
     Ok(())
 }
 
-// One output: each call of its devices.
+// Lets each call of the devices of one output fail in turn, and checks the end of the rendering.
 fn check_one<R: Abort + Threads + Wait + Sync>(
     rt: &R,
     alloc: Global,
@@ -268,6 +271,7 @@ fn check_one<R: Abort + Threads + Wait + Sync>(
     check_no_more(rt, alloc, run, Failing::Closing(1), Left::Before, 27)
 }
 
+// A rendering to one output, by each line of words, with each call of its devices failing in turn.
 #[test]
 fn each_call_of_one_output_fails(rt: HostRuntime) -> Result<(), Fail> {
     for line in LINES {
@@ -276,9 +280,9 @@ fn each_call_of_one_output_fails(rt: HostRuntime) -> Result<(), Fail> {
     Ok(())
 }
 
-// A piece of one of two outputs breaks off after each number of bytes, up to those of a tick: `before` bytes of the
-// output are written before it. `piece` is the number of the output and of its piece, and `other` what is left of the
-// other output.
+// Lets a piece of one of two outputs break off after each number of bytes up to a tick's, and checks both. `piece` is
+// the number of the output and of its piece, `before` how many of its bytes come before, and `other` what is left of
+// the other output.
 fn check_piece_of_two<R: Abort + Threads + Wait + Sync>(
     rt: &R,
     alloc: Global,
@@ -342,6 +346,8 @@ fn check_shared_ticks<R: Abort + Threads + Wait + Sync>(
     check_piece_of_two(rt, alloc, run, (1, 2), HEADER + TICK, whole())
 }
 
+// A rendering to two outputs, in one clock and in two, by each line of words, with calls of its devices failing in
+// turn.
 #[test]
 fn each_call_of_two_outputs_fails(rt: HostRuntime) -> Result<(), Fail> {
     for line in LINES {
@@ -368,6 +374,8 @@ fn check_apart_ticks<R: Abort + Threads + Wait + Sync>(
     check_piece_of_two(rt, alloc, run, (1, 2), HEADER + TICK, front(second_1))
 }
 
+// Where the output of one of two clocks fails, the other clock still ends its window of ticks by its own thread, and
+// makes no more; on one thread nothing is made after the failure.
 #[test]
 fn the_other_clock_ends_its_window(rt: HostRuntime) -> Result<(), Fail> {
     let alloc = rt.alloc();
@@ -395,6 +403,8 @@ fn check_third_append<R: Abort + Threads + Wait + Sync>(
     Ok(())
 }
 
+// Where one of two clocks that a buffer joins stops at a failed write, the other one ends its window of ticks, and no
+// window follows.
 #[test]
 fn one_clock_stops_and_the_other_ends_its_window(rt: HostRuntime) -> Result<(), Fail> {
     for taken in 0..TICK + 1 {
@@ -404,7 +414,7 @@ fn one_clock_stops_and_the_other_ends_its_window(rt: HostRuntime) -> Result<(), 
     Ok(())
 }
 
-// A call of these words tells `taken` bytes of its line, and changes no file.
+// Runs a call whose error line breaks off after `taken` bytes, and checks that these are told and no file is changed.
 fn check_front<R: Abort + Threads + Wait + Sync>(
     rt: &R,
     alloc: Global,
@@ -422,7 +432,7 @@ fn check_front<R: Abort + Threads + Wait + Sync>(
     Ok(())
 }
 
-// A call of these words has this line, which breaks off at each byte.
+// Runs a call of these words with its error line `told` breaking off at each byte.
 fn check_line<R: Abort + Threads + Wait + Sync>(
     rt: &R,
     alloc: Global,
@@ -445,6 +455,8 @@ const TOLD: &[(&str, &[u8])] = &[
     ("render f 1000000000", b"E29 output too long A\n"),
 ];
 
+// The line that tells an error breaks off at each of its bytes, and the call still ends with the status of a failed
+// write.
 #[test]
 fn a_line_breaks_off_at_each_byte(rt: HostRuntime) -> Result<(), Fail> {
     for (line, told) in TOLD {

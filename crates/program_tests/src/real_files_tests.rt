@@ -17,6 +17,7 @@ struct Device {
 }
 
 impl Device {
+    // A device with these bytes written so far, which fails once `left` bytes more went through.
     fn new(bytes: Vec<u8>, left: usize, takes_nothing: bool) -> Device {
         Device {
             bytes,
@@ -26,7 +27,7 @@ impl Device {
         }
     }
 
-    // How many bytes of so many go through at this call.
+    // One call of the device, for `length` bytes: how many of them go through; every second call is interrupted.
     fn turn(&mut self, length: usize) -> io::Result<usize> {
         self.interrupted = !self.interrupted;
         if self.interrupted {
@@ -42,6 +43,7 @@ impl Device {
 }
 
 impl Write for Device {
+    // Takes the bytes that go through at this call, behind those written before.
     fn write(&mut self, buf: &[u8]) -> io::Result<usize> {
         let count = self.turn(buf.len())?.min(buf.len());
         match self.bytes.extend_from_slice(&buf[..count]) {
@@ -50,12 +52,14 @@ impl Write for Device {
         }
     }
 
+    // Does nothing: all bytes are there already.
     fn flush(&mut self) -> io::Result<()> {
         Ok(())
     }
 }
 
 impl Read for Device {
+    // Gives as many bytes as go through at this call, each of them 7.
     fn read(&mut self, buf: &mut [u8]) -> io::Result<usize> {
         let count = self.turn(buf.len())?.min(buf.len());
         for slot in &mut buf[..count] {
@@ -65,6 +69,7 @@ impl Read for Device {
     }
 }
 
+// A sink hands each piece on whole to a device that takes little at a time and is interrupted.
 #[test]
 fn a_piece_is_handed_on_whatever_a_write_takes(rt: HostRuntime) -> Result<(), Fail> {
     let alloc = rt.alloc();
@@ -80,6 +85,7 @@ fn a_piece_is_handed_on_whatever_a_write_takes(rt: HostRuntime) -> Result<(), Fa
     Ok(())
 }
 
+// A sink whose device fails in the middle of a piece has written the bytes before, and counts one fault.
 #[test]
 fn a_failed_write_leaves_the_front_of_the_piece(rt: HostRuntime) -> Result<(), Fail> {
     let alloc = rt.alloc();
@@ -96,6 +102,8 @@ fn a_failed_write_leaves_the_front_of_the_piece(rt: HostRuntime) -> Result<(), F
     Ok(())
 }
 
+// A read that fails in the middle of a file is told as a fault, and not taken for the file's end; so is a file that
+// is too large.
 #[test]
 fn a_read_that_fails_in_the_middle_is_no_end(rt: HostRuntime) -> Result<(), Fail> {
     let alloc = rt.alloc();
@@ -116,6 +124,7 @@ fn a_read_that_fails_in_the_middle_is_no_end(rt: HostRuntime) -> Result<(), Fail
     Ok(())
 }
 
+// A look at the first bytes of a file whose size is known reads no byte more, and checks the size first.
 #[test]
 fn a_look_at_a_front_reads_no_more(rt: HostRuntime) -> Result<(), Fail> {
     let alloc = rt.alloc();
@@ -136,6 +145,7 @@ fn a_look_at_a_front_reads_no_more(rt: HostRuntime) -> Result<(), Fail> {
     Ok(())
 }
 
+// A look at a file whose size is not known reads all of it, and tells its size.
 #[test]
 fn a_look_at_a_whole_file_tells_its_size(rt: HostRuntime) -> Result<(), Fail> {
     let alloc = rt.alloc();

@@ -18,7 +18,7 @@ fn pass<G: Gate>(gate: &G, clock: u32, ticks: u64) -> u64 {
 /// and ones of which the gate keeps no count.
 const JOINED: &[(u32, u32, &[u32])] = &[(0, 1, &[2]), (0, 1, &[1]), (64, 0, &[0, 64, u32::MAX])];
 
-// Each of these clocks comes to its end, at a gate of two joined clocks.
+// Lets each of these clocks make 1000 ticks at a gate that joins two clocks, and checks that it comes to its end.
 fn check<R: Abort + Wait>(rt: &R, first: u32, second: u32, clocks: &[u32]) {
     let gate = StepGate::new(rt);
     gate.join(first, second);
@@ -27,6 +27,7 @@ fn check<R: Abort + Wait>(rt: &R, first: u32, second: u32, clocks: &[u32]) {
     }
 }
 
+// A clock gets through the gate though the clock that it is joined to never comes.
 #[test]
 fn a_clock_that_never_comes_holds_none_for_long(rt: HostRuntime) {
     for row in JOINED {
@@ -34,20 +35,21 @@ fn a_clock_that_never_comes_holds_none_for_long(rt: HostRuntime) {
     }
 }
 
-// Two joined clocks, each on a thread: how many ticks each of them made.
+// Runs two joined clocks, each on a thread, and tells how many ticks each of them made.
 fn both<R: Threads + Wait + Sync>(rt: &R) -> (u64, u64) {
     let gate = StepGate::new(rt);
     gate.join(0, 1);
     thread::join(rt, || pass(&gate, 0, 1000), || pass(&gate, 1, 1000))
 }
 
+// Two joined clocks, each on a thread, both get through the gate to their ends.
 #[test]
 fn two_clocks_come_to_their_ends(rt: HostRuntime) {
     assert!(rt; both(&rt) == (1000, 1000));
 }
 
-// Of four clocks in a chain the first thread runs 0 and then 1, the other one 3 and then 2. So 0 and 3 wait in vain,
-// and 1 and 2 do not.
+// Runs four clocks joined in a chain: the first thread runs 0 and then 1, the other one 3 and then 2. So 0 and 3 wait
+// in vain, and 1 and 2 do not.
 fn behind_others<R: Threads + Wait + Sync>(rt: &R) -> u64 {
     let gate = StepGate::new(rt);
     gate.join(0, 1);
@@ -63,14 +65,15 @@ fn behind_others<R: Threads + Wait + Sync>(rt: &R) -> u64 {
     100
 }
 
-// Lets one clock and then another enter the gate at this tick.
+// Lets first one clock and then another come to the gate at this tick, as one thread that runs both.
 fn pass_both<G: Gate>(gate: &G, first: u32, second: u32, tick: u64) -> u64 {
     gate.enter(first, tick);
     gate.enter(second, tick);
     tick
 }
 
-// A second a tick would be more than a test may take.
+// Clocks that share threads get through the gate though others wait there in vain: a second a tick would be more than
+// a test may take.
 #[test]
 fn clocks_behind_others_hold_none_for_long(rt: HostRuntime) {
     assert!(rt; behind_others(&rt) == 100);

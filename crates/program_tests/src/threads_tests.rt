@@ -33,6 +33,7 @@ struct Turns {
 }
 
 impl Turns {
+    // A gate for two clocks of which neither has come to a tick yet.
     fn new() -> Turns {
         Turns {
             first: AtomicU64::new(0),
@@ -41,7 +42,7 @@ impl Turns {
         }
     }
 
-    // Waits until a clock has come to so many ticks.
+    // Waits until a clock has come to so many ticks; after too many tries notes that it is late.
     fn wait_for(&self, clock: &AtomicU64, ticks: u64) {
         for _ in 0..TURNS {
             if clock.load(Ordering::SeqCst) >= ticks || self.late.load(Ordering::SeqCst) {
@@ -54,6 +55,7 @@ impl Turns {
 }
 
 impl Gate for Turns {
+    // Lets a clock begin a tick once the other one has come as far as it must.
     fn enter(&self, clock: u32, tick: u64) {
         let come = tick.saturating_add(1);
         if clock == 0 {
@@ -68,7 +70,7 @@ impl Gate for Turns {
     }
 }
 
-// There are 32 samples, which begin with so many times 1 2 3; the last time may be cut off.
+// Checks that an output has 32 samples, which begin with so many times 1 2 3; the last time may be cut off.
 fn check_output(rt: &impl Abort, output: &[u8], cycles: usize) {
     assert!(rt; output.len() == 172);
     for cycle in output[44..].chunks(12).take(cycles) {
@@ -76,7 +78,7 @@ fn check_output(rt: &impl Abort, output: &[u8], cycles: usize) {
     }
 }
 
-// The report begins so: no gaps, and all four chunks accepted.
+// Checks that the report tells of no gaps, and that the buffer accepted all four chunks.
 fn check_report(rt: &impl Abort, told: &[u8]) {
     assert!(rt;
         told.starts_with(
@@ -85,7 +87,7 @@ fn check_report(rt: &impl Abort, told: &[u8]) {
     );
 }
 
-// Renders four ticks of both clocks, which go on in turn.
+// Renders four ticks of both clocks, which go on in turn at this gate, and checks that neither waited too long.
 fn check_turns<R: Abort + Threads + Wait + Sync>(
     rt: &R,
     alloc: Global,
@@ -99,6 +101,7 @@ fn check_turns<R: Abort + Threads + Wait + Sync>(
     Ok(())
 }
 
+// Renders two clocks on two threads, tick by tick in turn, and checks the bytes of both outputs.
 #[test]
 fn two_clocks_at_once(rt: HostRuntime) -> Result<(), Fail> {
     let mut shelf = shelf(rt.alloc(), JOINED)?;

@@ -36,12 +36,12 @@ fn status_of<R: Threads + Wait + Sync>(
     Ok(status)
 }
 
-// Whether both outputs are whole.
+// Whether both outputs have all bytes of one tick.
 fn are_whole(shelf: &MemShelf) -> bool {
     held(shelf, "A").len() == OUTPUT_BYTES && held(shelf, "C").len() == OUTPUT_BYTES
 }
 
-// Whether this is left in the trace and the cue files, in this order; only so many of these names are looked at.
+// Whether the trace and the cue files have these bytes, in this order; only so many of these names are looked at.
 fn hold(shelf: &MemShelf, left: &[&str]) -> bool {
     for (name, bytes) in ["T", "A.cue", "C.cue"].iter().zip(left.iter()) {
         if held(shelf, name) != bytes.as_bytes() {
@@ -72,7 +72,8 @@ const ROWS: &[Row] = &[
     (TWO, BOTH, Failing::Piece(4, 0, 1), &["l", "0\n", "0\n"]),
 ];
 
-// A row over its shelf: its call ends with 4, and leaves the outputs whole and this of the other files.
+// Runs the call of a row, in which a device fails, and checks that it ends with 4, and leaves the outputs whole and
+// this of the other files.
 fn check<R: Abort + Threads + Wait + Sync>(
     rt: &R,
     alloc: Global,
@@ -85,6 +86,7 @@ fn check<R: Abort + Threads + Wait + Sync>(
     Ok(())
 }
 
+// Where a cue file or a trace cannot be written, the outputs are whole all the same.
 #[test]
 fn cue_files_and_traces_that_fail_leave_the_outputs_whole(rt: HostRuntime) -> Result<(), Fail> {
     for row in ROWS {
@@ -94,6 +96,7 @@ fn cue_files_and_traces_that_fail_leave_the_outputs_whole(rt: HostRuntime) -> Re
     Ok(())
 }
 
+// The cue file of an output without a track is created, and nothing is written to it.
 #[test]
 fn an_empty_cue_file_gets_no_piece(rt: HostRuntime) -> Result<(), Fail> {
     let mut shelf = shelf(rt.alloc(), NOTHING)?;
@@ -123,14 +126,15 @@ const TRACE: &[u8] = b"liq trace 1 1 16 1\nwindow 0 buffer 0 puts A takes GE\n";
 
 const AUDIO_AND_TRACE: &[(&str, &[u8])] = &[("B", ONE_TWO_THREE), ("T", TRACE)];
 
-// The status of a replay; nothing if its words would take threads.
+// The status with which a replay of these words ends; nothing if the words are those of a call that takes threads.
 fn replayed(alloc: Global, words: &[String], shelf: &mut MemShelf) -> Result<Option<u8>, Fail> {
     let mut out = sink(alloc)?;
     let mut err = sink(alloc)?;
     Ok(liq_alone(alloc, words, shelf, &mut out, &mut err))
 }
 
-// A replay of which a call fails has this status, and leaves so many bytes of its first output.
+// Runs a replay of which a call of a device fails, and checks its status and how many bytes of its first output are
+// left.
 fn check_replay(
     rt: &impl Abort,
     alloc: Global,
@@ -145,6 +149,7 @@ fn check_replay(
     Ok(())
 }
 
+// A replay of a trace, with each call of its devices failing in turn.
 #[test]
 fn each_call_of_a_replay_fails(rt: HostRuntime) -> Result<(), Fail> {
     let words = words_of(rt.alloc(), "replay f 1 T")?;

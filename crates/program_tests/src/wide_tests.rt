@@ -39,7 +39,7 @@ const ROWS: &[Row] = &[
 
 const AUDIO: &[(&str, &[u8])] = &[("S", PAIR)];
 
-// A row over its shelf: where this piece fails, the call has this status and leaves this output.
+// Runs the call of a row, where this piece of the output fails, and checks the status and the bytes that are left.
 fn check<R: Abort + Threads + Wait + Sync>(
     rt: &R,
     alloc: Global,
@@ -54,6 +54,8 @@ fn check<R: Abort + Threads + Wait + Sync>(
     Ok(())
 }
 
+// The zero byte behind odd data of 24-bit samples is written as a piece of its own, which can fail; behind even data
+// there is none.
 #[test]
 fn the_last_zero_byte_is_a_piece_of_its_own(rt: HostRuntime) -> Result<(), Fail> {
     for row in ROWS {

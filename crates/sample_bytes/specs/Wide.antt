@@ -8,7 +8,7 @@ use Rattle.frame_core.specs.Bytes.{sample_bytes}
 -- the samples that bytes hold, three by three: the lowest byte of each is dropped
 pub use Rattle.resample.specs.Bytes.{wide_samples_in}
 
--- the three bytes of a sample
+-- a 16-bit sample as three bytes of a file: a lowest byte of 0, and the two of the sample behind it
 abbrev pub wide_bytes : ℤ → List ℕ
 wide_bytes sample = 0 ∷ sample_bytes sample
 

@@ -40,7 +40,8 @@ pub fn decode(bytes: &[u8], into: &mut [i16])
     }
 }
 
-// Writes samples of two bytes, one behind another.
+// Writes the samples of one side as numbers of two bytes, one behind another: eight at a time, and the rest one by
+// one.
 fn encode_mono(samples: &[i16], into: &mut [u8])
     requires { length into.old ≡ 2 * length samples.now }
     ensures { into.new ≡ flat_map sample_bytes samples.now }
@@ -56,7 +57,8 @@ fn encode_mono(samples: &[i16], into: &mut [u8])
     }
 }
 
-// Writes samples of two bytes, the left one of each instant before the right one.
+// Writes samples as numbers of two bytes, the left one of each instant before the right one: eight instants at a
+// time, and the rest one by one.
 fn encode_stereo(left: &[i16], right: &[i16], into: &mut [u8])
     requires same { length right.now ≡ length left.now }
     requires room { length into.old ≡ 4 * length left.now }
@@ -73,7 +75,7 @@ fn encode_stereo(left: &[i16], right: &[i16], into: &mut [u8])
     }
 }
 
-// Writes the bytes of eight instants of a stereo sound, from instant `at` on.
+// Writes eight instants of a stereo sound, from instant `at` on, in samples of two bytes, left and right in turn.
 fn encode_eight(left: &[i16], right: &[i16], at: usize, into: &mut [u8])
     requires within { (at + 8 ≤ length left.now) × (length right.now ≡ length left.now)
         × (length into.old ≡ 4 * length left.now) }
@@ -86,7 +88,7 @@ fn encode_eight(left: &[i16], right: &[i16], at: usize, into: &mut [u8])
     lay_eight(back, 4 * at + 16, into);
 }
 
-// Writes the bytes of eight samples, from byte `at` on.
+// Writes eight samples of two bytes each at once, from byte `at` of `into` on.
 fn lay_eight(samples: i16x8, at: usize, into: &mut [u8])
     requires room { at + 16 ≤ length into.old }
     requires long { length samples ≡ 8 }
@@ -96,7 +98,7 @@ fn lay_eight(samples: i16x8, at: usize, into: &mut [u8])
     samples.to_le_bytes().copy_to_slice(&mut into[at..]);
 }
 
-// Writes the two bytes of a sample, from byte `at` on.
+// Writes a sample as two bytes, the lower one first, from byte `at` of `into` on.
 fn lay_sample(sample: i16, at: usize, into: &mut [u8])
     requires { at + 2 ≤ length into.old }
     ensures { into.new ≡ put_chunk at into.old (sample_bytes sample) }
@@ -106,7 +108,7 @@ fn lay_sample(sample: i16, at: usize, into: &mut [u8])
     into[at + 1] = high;
 }
 
-// Reads eight samples of two bytes, from sample `at` on.
+// Reads eight samples of two bytes each at once, into `into` from sample `at` on.
 fn decode_eight(bytes: &[u8], into: &mut [i16], at: usize)
     requires within { (at + 8 ≤ length into.old) × (length bytes.now ≡ 2 * length into.old) }
     ensures { into.new ≡ put_chunk at into.old (samples_from (chunk (2 * at) 16 bytes.now)) }

@@ -40,7 +40,8 @@ pub fn decode_wide(bytes: &[u8], into: &mut [i16])
     }
 }
 
-// Writes samples of three bytes, one behind another.
+// Writes the samples of one side as numbers of three bytes, one behind another: eight at a time, and the rest one by
+// one.
 fn encode_wide_mono(samples: &[i16], into: &mut [u8])
     requires { length into.old ≡ 3 * length samples.now }
     ensures { into.new ≡ flat_map wide_bytes samples.now }
@@ -56,7 +57,8 @@ fn encode_wide_mono(samples: &[i16], into: &mut [u8])
     }
 }
 
-// Writes samples of three bytes, the left one of each instant before the right one.
+// Writes samples as numbers of three bytes, the left one of each instant before the right one: eight instants at a
+// time, and the rest one by one.
 fn encode_wide_stereo(left: &[i16], right: &[i16], into: &mut [u8])
     requires same { length right.now ≡ length left.now }
     requires room { length into.old ≡ 6 * length left.now }
@@ -73,7 +75,7 @@ fn encode_wide_stereo(left: &[i16], right: &[i16], into: &mut [u8])
     }
 }
 
-// Writes the bytes of eight instants of a stereo sound, from instant `at` on.
+// Writes eight instants of a stereo sound, from instant `at` on, in samples of three bytes, left and right in turn.
 fn encode_wide_eight(left: &[i16], right: &[i16], at: usize, into: &mut [u8])
     requires within { (at + 8 ≤ length left.now) × (length right.now ≡ length left.now)
         × (length into.old ≡ 6 * length left.now) }
@@ -87,8 +89,8 @@ fn encode_wide_eight(left: &[i16], right: &[i16], at: usize, into: &mut [u8])
     lay_wide_eight(back, 6 * at + 24, into);
 }
 
-// Writes the bytes of eight samples, from byte `at` on: the first 16 of them, then the other 8. A 16 in the pattern
-// takes a byte that is 0.
+// Writes eight samples of three bytes each, from byte `at` of `into` on: the first 16 of these 24 bytes, then the
+// other 8. A 16 in the pattern of a shuffle takes a byte that is 0, the lowest of a sample.
 fn lay_wide_eight(samples: i16x8, at: usize, into: &mut [u8])
     requires room { at + 24 ≤ length into.old }
     requires long { length samples ≡ 8 }
@@ -120,7 +122,7 @@ fn decode_wide_eight(bytes: &[u8], into: &mut [i16], at: usize)
     i16x8::from_le_bytes(picked).copy_to_slice(&mut into[at..]);
 }
 
-// Writes the three bytes of a sample, from byte `at` on.
+// Writes a sample as three bytes, the lower ones first, of which the lowest is 0, from byte `at` of `into` on.
 fn lay_wide(sample: i16, at: usize, into: &mut [u8])
     requires { at + 3 ≤ length into.old }
     ensures { into.new ≡ put_chunk at into.old (wide_bytes sample) }

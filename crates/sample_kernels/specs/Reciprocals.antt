@@ -1,15 +1,17 @@
 -- Quotients by products: what private contracts say of the numbers that stand for divisors.
 use Rattle.std.specs.Prelude.{ℕ, ◌+◌, ◌*◌, ◌/◌, ℤ, pos, negsuc, neg_ℤ}
 
--- the number of this size that has the sign of the first
+-- the number of this size that has the sign of the first argument
 abbrev pub signed_as : ℤ → ℕ → ℤ
 signed_as (pos n) size = pos size
 signed_as (negsuc n) size = neg_ℤ (pos size)
 
--- 2^35 times a factor in millionths, and up to 1 more: 2^35 / 10^6 is 2^29 / 15625
+-- the multiplier that stands for a factor in millionths: 2^35 / 10^6 (that is 2^29 / 15625) times it, and up to 1
+-- more; a product with it, shifted by 35 bits, needs no division
 abbrev pub per_sample : ℕ → ℕ
 per_sample millionths = millionths * 536870912 / 15625 + 1
 
--- 2^47 divided by the number of parts `whole`, and up to 1 more
+-- the multiplier that stands for a division by `whole`: 2^47 / whole, and up to 1 more; a product with it is shifted
+-- by 47 bits
 abbrev pub inverse_of : ℕ → ℕ
 inverse_of whole = 140737488355328 / whole + 1

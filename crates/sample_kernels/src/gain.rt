@@ -32,7 +32,7 @@ pub fn scale(factor: Decimal, from: &[i16], into: &mut [i16])
     }
 }
 
-/// Half the sum of each left sample and the right one beside it, rounded toward zero.
+/// Writes into `into`, for each instant, half the sum of the left sample and the right one, rounded toward zero.
 pub fn halves(left: &[i16], right: &[i16], into: &mut [i16])
     requires same { (length right.now ≡ length left.now) × (length into.old ≡ length left.now) }
     ensures { into.new ≡ zip2 half_of left.now right.now }
@@ -63,7 +63,7 @@ fn scale_by_eights(millionths: i64, from: &[i16], into: &mut [i16])
     }
 }
 
-// Multiplies each sample by a factor of at most 32768 either way, eight at a time.
+// Multiplies each sample by a larger factor, at most 32768 either way, eight at a time in numbers of 64 bits.
 fn scale_long(millionths: i64, from: &[i16], into: &mut [i16])
     requires same { length into.old ≡ length from.now }
     requires low { negsuc 32767999999 ≤ℤ millionths }
@@ -98,7 +98,8 @@ fn scale_eight(millionths: i64, from: &[i16], into: &mut [i16], at: usize)
     cut.cast::<i16>().copy_to_slice(&mut into[at..]);
 }
 
-// Multiplies the eight samples from index `at` on by a factor of at most 32768 either way.
+// Multiplies the eight samples from index `at` on by a factor of at most 32768 either way, in numbers of 64 bits,
+// where a division fits.
 fn scale_long_eight(millionths: i64, from: &[i16], into: &mut [i16], at: usize)
     requires low { negsuc 32767999999 ≤ℤ millionths }
     requires high { millionths ≤ℤ pos 32768000000 }
@@ -112,8 +113,8 @@ fn scale_long_eight(millionths: i64, from: &[i16], into: &mut [i16], at: usize)
     cut.cast::<i16>().copy_to_slice(&mut into[at..]);
 }
 
-// The digits of 2^35 times a factor, and up to 1 more: two of 15 bits, the lower first, and what is above them. Each
-// has the factor's sign.
+// The number by which a sample is multiplied in place of a division, 2^35 times the factor and up to 1 more, in three
+// digits that fit 32 bits: two of 15 bits, the lower first, and what is above them. Each has the factor's sign.
 fn digits(millionths: i64) -> (i32, i32, i32)
     requires small { unsigned_abs millionths ≤ 1000000000 }
     ensures low { result.0 ≡ signed_as millionths (per_sample (unsigned_abs millionths) % 32768) }
@@ -137,7 +138,7 @@ fn scaled(sample: i16, millionths: i64) -> i16
     (product / 1_000_000).clamp(-32768, 32767) as i16
 }
 
-// Half the sums of the eight left and right samples from index `at` on.
+// Half the sums of the left and right samples of eight instants, from index `at` on, rounded toward zero.
 fn halve_eight(left: &[i16], right: &[i16], into: &mut [i16], at: usize)
     requires within { (at + 8 ≤ length into.old) × (length right.now ≡ length left.now)
         × (length into.old ≡ length left.now) }
@@ -149,7 +150,7 @@ fn halve_eight(left: &[i16], right: &[i16], into: &mut [i16], at: usize)
     halves.cast::<i16>().copy_to_slice(&mut into[at..]);
 }
 
-// Half the sum of two samples, rounded toward zero.
+// Half the sum of a left and a right sample, rounded toward zero: the mono sample of a stereo one.
 fn half_of(left: i16, right: i16) -> i16
     ensures { result ≡ half_of left right }
 {

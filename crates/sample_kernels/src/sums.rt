@@ -8,7 +8,8 @@ use crate::loading::{load_samples, load_sums};
 use crate::silence::are_zeros;
 use std::simd::prelude::*;
 
-/// Adds to each sum the sample at its index. A sum of up to 65535 samples has room for one more.
+/// Adds the samples of one more source to the sums of the same instants. A sum of up to 65535 samples has room for one
+/// more.
 pub fn add_into(sum: &mut [i32], part: &[i16])
     requires same { length part.now ≡ length sum.old }
     requires room { All (IsSumOf 65535) sum.old }
@@ -25,7 +26,7 @@ pub fn add_into(sum: &mut [i32], part: &[i16])
     }
 }
 
-/// Divides each sum by the number of its samples, `by`, rounded toward zero.
+/// Makes means of sums: divides each by the number of the samples in it, `by`, rounded toward zero.
 pub fn divide(sum: &[i32], by: &[u16], into: &mut [i16])
     requires same { (length by.now ≡ length sum.now) × (length into.old ≡ length sum.now) }
     requires some { All (λ parts. 0 < parts) by.now }
@@ -46,7 +47,7 @@ pub fn divide(sum: &[i32], by: &[u16], into: &mut [i16])
     }
 }
 
-/// Cuts each sum to the range of a sample.
+/// Cuts each sum to the range of a sample, and writes them as samples into `into`.
 pub fn clamp_all(sum: &[i32], into: &mut [i16])
     requires same { length into.old ≡ length sum.now }
     ensures { into.new ≡ map clamped sum.now }
@@ -61,7 +62,7 @@ pub fn clamp_all(sum: &[i32], into: &mut [i16])
     }
 }
 
-// Adds to the eight sums from index `at` on the samples at their indexes.
+// Adds eight samples of one more source, from index `at` on, to the sums of the same instants.
 fn add_eight(sum: &mut [i32], part: &[i16], at: usize)
     requires within { (at + 8 ≤ length sum.old) × (length part.now ≡ length sum.old) }
     requires room { Each1 (IsSumOf 65535) (chunk at 8 sum.old) }
@@ -73,7 +74,7 @@ fn add_eight(sum: &mut [i32], part: &[i16], at: usize)
     (sums + parts.cast::<i32>()).copy_to_slice(&mut sum[at..]);
 }
 
-// Divides the eight sums from index `at` on by the numbers of their samples.
+// Divides eight sums, from index `at` on, each by the number of the samples in it, `by`, rounded toward zero.
 fn divide_eight(sum: &[i32], by: &[u16], into: &mut [i16], at: usize)
     requires within { (at + 8 ≤ length into.old) × (length by.now ≡ length sum.now)
         × (length into.old ≡ length sum.now) }
@@ -88,7 +89,7 @@ fn divide_eight(sum: &[i32], by: &[u16], into: &mut [i16], at: usize)
         .copy_to_slice(&mut into[at..]);
 }
 
-// Cuts the eight sums from index `at` on to the range of a sample.
+// Cuts eight sums, from index `at` on, to the range of a sample, and writes them as samples.
 fn clamp_eight(sum: &[i32], into: &mut [i16], at: usize)
     requires within { (at + 8 ≤ length into.old) × (length into.old ≡ length sum.now) }
     ensures { into.new ≡ put_chunk at into.old (map clamped (chunk at 8 sum.now)) }
@@ -98,7 +99,7 @@ fn clamp_eight(sum: &[i32], into: &mut [i16], at: usize)
     cut.cast::<i16>().copy_to_slice(&mut into[at..]);
 }
 
-// The mean of `parts` samples by their sum, rounded toward zero.
+// The mean of `parts` samples that have this sum, rounded toward zero.
 fn mean_of(sum: i32, parts: u16) -> i16
     requires some { 0 < parts }
     requires sum { IsSumOf parts sum }
@@ -107,7 +108,7 @@ fn mean_of(sum: i32, parts: u16) -> i16
     (sum / i32::from(parts)) as i16
 }
 
-// A sum, cut to the range of a sample.
+// A sum of samples, cut to the range of one.
 fn clamped(sum: i32) -> i16
     ensures { result ≡ clamped sum }
 {

@@ -12,18 +12,19 @@ use Rattle.script_parse.specs.declared.fault.Refusal.{Refusal}
 use Rattle.script_parse.specs.declared.fault.Refusal.TheVariants as refusals
 use Rattle.script_parse.specs.Places.{IsSyntaxPlace, IsDeepAt, IsDepthPlace}
 
--- these tokens spell this script, each of its fields at is the index of its token, and its lists are as long as the
--- grammar wants
+-- these tokens spell this script of the program, each `at` in it is the index of its token, and its lists are as long
+-- as the grammar wants
 pub record IsParsed (tokens : List TokenKind) (script : program.Script) : Type 0 where
   pub spelled : spelling (view_script script) ≡ tokens
   pub placed : IsPlaced 0 (view_script script)
   pub whole : IsWhole script
 
--- no token nests too deep
+-- brackets, `if` and `def` nest at no token deeper than they may
 abbrev pub IsShallow : List TokenKind → Type 0
 IsShallow tokens = (k : ℕ) → k < length tokens → IsDeepAt tokens k → ⊥
 
--- an answer is right with no bound on the nesting: the script, want of memory, or the place where syntax ends
+-- what parsing answers, with no bound on the nesting, is right: the script that the tokens spell, or want of memory,
+-- or the token at which no script goes on
 abbrev pub Whole : List TokenKind → Result program.Script Refusal → Type 0
 Whole tokens (Ok s) = IsParsed tokens s
 Whole tokens (Err refusals.Memory) = Unit {0}

@@ -8,19 +8,19 @@ use Rattle.script_lex.specs.declared.token.Symbol.TheVariants as sign
 use Rattle.script_grammar.specs.Tree.{Script}
 use Rattle.script_grammar.specs.Spelling.{spelling}
 
--- some script's spelling begins with these tokens
+-- these tokens are the beginning of some script, or all of it
 abbrev pub Begins : List TokenKind → Type 0
 Begins front = (s : Script) × (others : List TokenKind) × (spelling s ≡ front ++ others)
 
--- The least place: some script's spelling begins with the tokens before k, and none with those up to k. Where k is the
--- end of the tokens, more of them are missing.
+-- The token k at which syntax ends: some script begins with the tokens before it, and none with those up to it. Where
+-- k is the end of the tokens, more of them are missing.
 pub record IsSyntaxPlace (tokens : List TokenKind) (k : ℕ) : Type 0 where
   pub within : k ≤ length tokens
   pub begun : Begins (take k tokens)
   pub no_more : k < length tokens → Begins (take (k + 1) tokens) → ⊥
   pub no_script : (s : Script) → spelling s ≡ tokens → ⊥
 
--- a token that goes one level deeper
+-- whether a token begins one more level of nesting: an opening bracket, a name with one, `if` or `def`
 abbrev pub opens : TokenKind → Bool
 opens (NameOpen name) = true
 opens (Symbol sign.OpenRound) = true
@@ -30,7 +30,7 @@ opens (Keyword word.If) = true
 opens (Keyword word.Def) = true
 opens k = false
 
--- a token that comes back from one level
+-- whether a token ends a level of nesting: a closing bracket, or `end`
 abbrev pub closes : TokenKind → Bool
 closes (Symbol sign.CloseRound) = true
 closes (Symbol sign.CloseSquare) = true
@@ -42,7 +42,7 @@ closes k = false
 abbrev pub IsDeepAt : List TokenKind → ℕ → Type 0
 IsDeepAt tokens k = count_by closes (take (k + 1) tokens) + MAX_NESTING < count_by opens (take (k + 1) tokens)
 
--- the nesting at token k is more than may be, and at no token before
+-- token k is the first one at which brackets nest deeper than they may
 pub record IsDepthPlace (tokens : List TokenKind) (k : ℕ) : Type 0 where
   pub within : k < length tokens
   pub here : IsDeepAt tokens k

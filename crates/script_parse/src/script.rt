@@ -45,7 +45,7 @@ pub fn parse(alloc: Global, _text: &[u8], tokens: &[Token]) -> Result<Script, Pa
     answer(alloc, tokens)
 }
 
-// Whether a token goes one level deeper: a bracket, `if` or `def`.
+// Whether a token begins one more level of nesting: an opening bracket, a name with one, `if` or `def`.
 fn opens(kind: &TokenKind) -> bool
     ensures { result ≡ opens kind.now }
 {
@@ -57,7 +57,7 @@ fn opens(kind: &TokenKind) -> bool
     )
 }
 
-// Whether a token comes back from one level: a bracket or `end`.
+// Whether a token ends a level of nesting: a closing bracket, or `end`.
 fn closes(kind: &TokenKind) -> bool
     ensures { result ≡ closes kind.now }
 {
@@ -86,7 +86,8 @@ fn depth_place(tokens: &[Token]) -> Option<usize>
     None
 }
 
-// script: statement*, with no bound on its nesting.
+// Reads all tokens as a script, one statement after another, with no bound on how deep they nest; or tells the token
+// at which syntax ends.
 fn whole(alloc: Global, tokens: &[Token]) -> Result<Script, Refusal>
     requires { length tokens.now < 2 ^ 32 }
     ensures { Whole (kinds tokens.now) result }
@@ -101,7 +102,8 @@ fn whole(alloc: Global, tokens: &[Token]) -> Result<Script, Refusal>
     }
 }
 
-// The fault of tokens that nest too deep at token `d`: one of syntax up to there comes first.
+// The fault of tokens that nest too deep at token `d`: the tokens up to it alone are parsed, since a fault of syntax
+// among them comes first.
 fn front(alloc: Global, tokens: &[Token], d: usize) -> ParseFault
     requires small { length tokens.now < 2 ^ 32 }
     requires deep { IsDepthPlace (kinds tokens.now) d }
@@ -120,7 +122,7 @@ fn front(alloc: Global, tokens: &[Token], d: usize) -> ParseFault
     }
 }
 
-// The script that the tokens spell, or why they are none.
+// The script that the tokens spell, or why they are none: the nesting is measured before they are parsed.
 fn answer(alloc: Global, tokens: &[Token]) -> Result<Script, ParseFault>
     ensures spelled { IfOk result (λ s. spelling (view_script s) ≡ kinds tokens.now) }
     ensures placed { IfOk result (λ s. IsPlaced 0 (view_script s)) }

@@ -26,32 +26,33 @@ pub record Spells (text : List ℕ) (script : Script) : Type 0 where
   pub placed : IsPlaced 0 script
   pub shallow : IsShallow (kinds tokens)
 
--- the text spells this script, whose names stand for this in a typing
+-- the text spells this script, and typing gives its names these meanings, its uses
 pub record Types (text : List ℕ) (script : Script) (uses : List Use) : Type 0 where
   pub spelled : Spells text script
   pub typed : IsTyped script uses
 
--- the plan with which the evaluation of the text's script ends
+-- this is the text's plan: the text spells a script, typing finds its uses, and its evaluation ends with this plan
 pub record IsPlan (text : List ℕ) (plan : Plan) : Type 0 where
   pub script : Script
   pub uses : List Use
   pub typed : Types text script uses
   pub evaluated : evaluation script uses ≡ Ok plan
 
--- the text's tokens spell no script, for this fault
+-- this is the text's fault of syntax: the text has tokens, but they spell no script
 pub record IsSyntaxFault (text : List ℕ) (f : ParseFault) : Type 0 where
   pub tokens : List Token
   pub lexed : AreTokens text tokens
   pub told : IsFault (kinds tokens) f
 
--- the text's script has no typing, for this fault
+-- this is the text's fault of types: the text spells a script, which has no typing; want of memory is no such fault
 pub record IsTypingFault (text : List ℕ) (f : TypeFault) : Type 0 where
   pub script : Script
   pub spelled : Spells text script
   pub told : IsTypeFault script f
   pub meant : f ≢ type_fault.Memory
 
--- the evaluation of the text's script ends without a plan, for this fault
+-- this is the text's fault of evaluation: the text spells a script that has a typing, but its evaluation ends without
+-- a plan
 pub record IsEvaluationFault (text : List ℕ) (f : EvalFault) : Type 0 where
   pub script : Script
   pub uses : List Use

@@ -37,19 +37,20 @@ abbrev pub of_evaluation : EvalFault → ScriptFault
 of_evaluation eval_fault.Memory = fault.Memory
 of_evaluation f = fault.Eval f
 
--- the evaluation of this script ends with this plan
+-- the script has a typing, and with the uses that it finds its evaluation ends with this plan
 pub record HasPlan (script : Script) (plan : Plan) : Type 0 where
   pub uses : List Use
   pub typed : IsTyped script uses
   pub evaluated : evaluation script uses ≡ Ok plan
 
--- the evaluation of this script ends without a plan, for this fault
+-- the script has a typing, and with the uses that it finds its evaluation ends without a plan, for this fault
 pub record EndsBy (script : Script) (f : EvalFault) : Type 0 where
   pub uses : List Use
   pub typed : IsTyped script uses
   pub told : evaluation script uses ≡ Err (Some f)
 
--- what the typing of a script may answer in place of one: its fault, or want of memory
+-- what the stage of typing may answer of a script in place of its uses: the script's fault of types, or want of
+-- memory
 abbrev pub IsOfTyping : Script → ScriptFault → Type 0
 IsOfTyping script (fault.Lex f) = ⊥
 IsOfTyping script (fault.Parse f) = ⊥
@@ -57,8 +58,8 @@ IsOfTyping script (fault.Type f) = (f ≢ type_fault.Memory) × IsTypeFault scri
 IsOfTyping script (fault.Eval f) = ⊥
 IsOfTyping script fault.Memory = ⊤
 
--- what the evaluation of a script whose names stand for this may answer in place of a plan: its fault, or want of
--- memory
+-- what the stage of evaluation may answer of a script with these uses, in place of a plan: the fault with which it
+-- ends, or want of memory
 abbrev pub IsOfEvaluation : Script → List Use → ScriptFault → Type 0
 IsOfEvaluation script uses (fault.Lex f) = ⊥
 IsOfEvaluation script uses (fault.Parse f) = ⊥

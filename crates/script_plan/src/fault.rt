@@ -31,6 +31,7 @@ impl From<LexFault> for ScriptFault {
 
     ghost from_gives = { λ fault e. e ≡ lexical fault };
 
+    // A fault of tokens as that of the text; want of memory is `Memory` at every stage.
     fn from(fault: LexFault) -> Self {
         match fault {
             LexFault::Memory => ScriptFault::Memory,
@@ -44,6 +45,7 @@ impl From<ParseFault> for ScriptFault {
 
     ghost from_gives = { λ fault e. e ≡ syntactic fault };
 
+    // A fault of the tree as that of the text; want of memory is `Memory` at every stage.
     fn from(fault: ParseFault) -> Self {
         match fault {
             ParseFault::Memory => ScriptFault::Memory,
@@ -57,6 +59,7 @@ impl From<TypeFault> for ScriptFault {
 
     ghost from_gives = { λ fault e. e ≡ of_typing fault };
 
+    // A fault of names and types as that of the text; want of memory is `Memory` at every stage.
     fn from(fault: TypeFault) -> Self {
         match fault {
             TypeFault::Memory => ScriptFault::Memory,
@@ -70,6 +73,7 @@ impl From<EvalFault> for ScriptFault {
 
     ghost from_gives = { λ fault e. e ≡ of_evaluation fault };
 
+    // A fault of evaluation as that of the text; want of memory is `Memory` at every stage.
     fn from(fault: EvalFault) -> Self {
         match fault {
             EvalFault::Memory => ScriptFault::Memory,

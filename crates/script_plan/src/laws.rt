@@ -5,7 +5,7 @@ ghost use Rattle.script_plan.specs.declared.fault.ScriptFault.{ScriptFault};
 ghost use Rattle.script_plan.specs.Plans.{IsPlan, IsPlanFault};
 ghost use Rattle.script_plan.specs.Sources.{HasSources};
 
-/// A text has one plan or one fault at most, and never both.
+/// A law, by a function that only calls others: a text has one plan or one fault at most, and never both.
 pub fn one_answer()
     ensures plan { (text : List ℕ) (p q : Plan) → IsPlan text p → IsPlan text q → p ≡ q }
     ensures apart { (text : List ℕ) (p : Plan) (f : ScriptFault) → IsPlan text p → IsPlanFault text f → ⊥ }
@@ -15,7 +15,8 @@ pub fn one_answer()
     eval_meaning::laws::one_plan();
 }
 
-/// A text has at most one list of the calls that make the sources of its plan: one call for each source.
+/// A law, by a function that only calls others: a text has at most one list of the calls that make the sources of its
+/// plan, one call for each source.
 pub fn one_list_of_calls()
     ensures plan { (text : List ℕ) (p : Plan) (calls : List ℕ) → HasSources text p calls → IsPlan text p }
     ensures one { (text : List ℕ) (p q : Plan) (calls others : List ℕ) → HasSources text p calls

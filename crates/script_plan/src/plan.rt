@@ -64,7 +64,7 @@ pub(crate) fn uses_of(alloc: Global, script: &Script) -> Result<Vec<Use>, Script
     Ok(uses)
 }
 
-// The plan of a script whose names stand for this, or the fault of its evaluation.
+// The plan of a script, evaluated with what its names stand for (`uses`), or the fault of its evaluation.
 fn evaluated(alloc: Global, script: &Script, uses: &[Use]) -> Result<Plan, ScriptFault>
     requires placed { IsPlaced 0 (view_script script.now) }
     requires typed { IsTyped (view_script script.now) uses.now }

@@ -44,7 +44,8 @@ fn sources_in_script(alloc: Global, script: &Script) -> Result<Sources, ScriptFa
     made(alloc, script, &uses)
 }
 
-// The plan of a script whose names stand for this, with the call that made each source; or the fault of its evaluation.
+// The plan of a script, evaluated with what its names stand for (`uses`), and for each source the call that made it;
+// or the fault of its evaluation.
 fn made(alloc: Global, script: &Script, uses: &[Use]) -> Result<Sources, ScriptFault>
     requires placed { IsPlaced 0 (view_script script.now) }
     requires typed { IsTyped (view_script script.now) uses.now }

@@ -4,13 +4,13 @@ use Rattle.frame_core.specs.declared.cell.Cell.{Cell}
 use Rattle.frame_core.specs.Slots.{Slot}
 use Rattle.sample_kernels.specs.Samples.{clamped, half_of, mean_of, scaled}
 
--- the cells that these slots offer, in their order
+-- the cells (samples of one instant) that these slots offer, in their order; empty slots are left out
 abbrev pub cells_of : List Slot → List Cell
 cells_of [] = []
 cells_of (None ∷ slots) = cells_of slots
 cells_of (Some cell ∷ slots) = cell ∷ cells_of slots
 
--- the sum over these cells of one sample of each: `sample` says which
+-- the sum of one number of each of these cells: `sample` takes the left or the right sample of a cell
 abbrev pub total_by : (Cell → ℤ) → List Cell → ℤ
 total_by sample [] = pos 0
 total_by sample (cell ∷ cells) = sample cell +ℤ total_by sample cells
@@ -64,7 +64,8 @@ changed Halves cell = halved cell
 changed Doubles cell = doubled cell
 changed Passes cell = cell
 
--- the first of these cells, changed; nothing where there is none
+-- what a node that works on one cell makes of these, those of its children: the first of them, changed; nothing
+-- without any
 abbrev pub changed_slot : Mixing → List Cell → Slot
 changed_slot mixing [] = None
 changed_slot mixing (cell ∷ cells) = Some (changed mixing cell)

@@ -15,17 +15,17 @@ use Rattle.stream_meaning.specs.Operators.{Work, Plays, Picks, Mixes, Fades, Rea
 use Rattle.stream_meaning.specs.Instants.{Setting, Moment, clock_of, lies_in, position, next_answers, reading_after, work_at, first_instants, sub_of}
 use Rattle.stream_meaning.specs.Sinks.{feed_cells}
 
--- the lists `calls 0` to `calls (n - 1)`, joined
+-- the first n of these lists of calls, one behind another; `calls j` is list j
 abbrev pub joined_upto : (ℕ → List Call) → ℕ → List Call
 joined_upto calls zero = []
 joined_upto calls (suc n) = joined_upto calls n ++ calls n
 
--- the lists `calls from` to `calls (to - 1)`, joined
+-- the lists `calls from` to `calls (to - 1)`, one behind another
 abbrev pub joined_between : (ℕ → List Call) → (from to : ℕ) → List Call
 joined_between calls from to = joined_upto (λ j. calls (from + j)) (to - from)
 
--- the takes of node i, of this work, at the start of a tick that its clock begins after these instants; none where it
--- reads no buffer
+-- the takes that node i makes of its buffer where its clock begins a tick after these instants; none where its work is
+-- not to read a buffer
 abbrev pub takes_by : Setting → List Moment → ℕ → Work → List Call
 takes_by setting past i (Reads buffer) =
     let reading = reading_after setting i buffer past in
@@ -46,7 +46,8 @@ takes_at setting clock past =
     (length setting.plan.nodes)
     else []
 
--- how many instants the sub-clock of crossfade k has made by the end of these instants of its clock
+-- how many instants the sub-clock of crossfade k has made by the end of these instants; `sub` has the slots that its
+-- sub-clock offers, and `overlap` is the length of its mix
 abbrev pub ran_by : (sub : ℕ → ℕ → List Slot) → (k overlap : ℕ) → List Moment → ℕ
 ran_by sub k overlap [] = 0
 ran_by sub k overlap (moment ∷ past) = run_of overlap (sub k) (position past k)
@@ -95,7 +96,7 @@ give_by setting accepted m t (Feed buffer node) =
 abbrev pub gives_of_tick : Setting → (accepted : ℕ → Bool) → (m t : ℕ) → List Call
 gives_of_tick setting accepted m t = flat_map (give_by setting accepted m t) setting.plan.sinks
 
--- the takes of main clock m during tick t, its sub-clocks' with them
+-- all takes from buffers during tick t of main clock m, in their order, also those of its sub-clocks
 abbrev pub takes_of_tick : Setting → (m t : ℕ) → List Call
 takes_of_tick setting m t = joined_upto
     (λ j. calls_of setting (sub_of setting) (Main m)
@@ -106,7 +107,7 @@ takes_of_tick setting m t = joined_upto
 abbrev pub calls_of_tick : Setting → (accepted : ℕ → Bool) → (m t : ℕ) → List Call
 calls_of_tick setting accepted m t = takes_of_tick setting m t ++ gives_of_tick setting accepted m t
 
--- the answers that the takes of a buffer got in these calls
+-- the answers that the takes of this buffer got among these calls, in their order
 abbrev pub answers_in : ℕ → List Call → List Answer
 answers_in buffer [] = []
 answers_in buffer (Took other answer ∷ calls) = if nat_eq other buffer then answer ∷ answers_in buffer calls
@@ -117,18 +118,18 @@ answers_in buffer (Given other cells accepted ∷ calls) = answers_in buffer cal
 abbrev pub after_calls : (ℕ → List Answer) → List Call → ℕ → List Answer
 after_calls answers calls buffer = answers buffer ++ answers_in buffer calls
 
--- the answers of a setting begin with these, for each buffer
+-- `answers` has the first answers of each buffer in this setting; it may give more behind them
 pub record HasAnswers (setting : Setting) (answers : ℕ → List Answer) : Type 0 where
   pub rest : ℕ → List Answer
   pub are : (buffer : ℕ) → setting.answers buffer ≡ answers buffer ++ rest buffer
 
--- the calls `made` are the first ones of `calls`
+-- the calls `made` are the beginning of the list `calls`, or all of it
 pub record IsBegin (made calls : List Call) : Type 0 where
   pub rest : List Call
   pub are : calls ≡ made ++ rest
 
--- the calls of each instant of each clock are its readers' takes and then those of the instants that its sub-clocks
--- make
+-- the calls of an instant follow one rule in every clock: first its readers' takes, then the calls of the instants that
+-- its sub-clocks make at it, whose calls follow the same rule
 pub record GoDown (setting : Setting) (sub : ℕ → ℕ → List Slot) : Type 0 where
   pub each : (clock : NodeClock) (past : List Moment) → calls_of setting sub clock past
       ≡ takes_at setting clock past
@@ -136,12 +137,12 @@ pub record GoDown (setting : Setting) (sub : ℕ → ℕ → List Slot) : Type 0
       (λ j m. calls_of setting sub (Sub j) (first_instants setting sub (Sub j) m))
       (lies_in setting clock k) past k (slice_get setting.plan.nodes k)) (length setting.plan.nodes)
 
--- node i lies in a clock, or in a sub-clock so many ranks below it
+-- node i lies in a clock, or below it: `rank` says through how many crossfades, each of which drives a sub-clock
 abbrev pub IsBelow : Setting → NodeClock → (rank i : ℕ) → Type 0
 IsBelow setting clock zero i = clock_of setting i ≡ clock
 IsBelow setting clock (suc rank) i = (k : ℕ) × (clock_of setting i ≡ Sub k) × IsBelow setting clock rank k
 
--- no node in a clock, nor in a sub-clock below it, reads this buffer
+-- no reader of this buffer lies in the clock, nor in any sub-clock below it
 pub record IsUnread (setting : Setting) (clock : NodeClock) (buffer : ℕ) : Type 0 where
   pub none : (rank i : ℕ) (node : Node) → slice_get setting.plan.nodes i ≡ Some node
       → work_at setting i node ≡ Reads buffer → IsBelow setting clock rank i → ⊥

@@ -29,7 +29,7 @@ pub record Setting : Type 0 where
   pub start : ℕ
   pub answers : ℕ → List Answer
 
--- a setting, with other answers
+-- the setting with `answers` in the place of what its buffers answer
 abbrev pub answered : Setting → (ℕ → List Answer) → Setting
 answered setting answers = record {
   plan = setting.plan;
@@ -39,26 +39,26 @@ answered setting answers = record {
   answers = answers;
 }
 
--- a setting with these answers, and behind them any others
+-- the setting whose buffers answer first with `answers`, and behind them with `rest`
 abbrev pub with_rest : Setting → (answers rest : ℕ → List Answer) → Setting
 with_rest setting answers rest = answered setting (λ buffer. answers buffer ++ rest buffer)
 
--- the clock in which node i lies
+-- the clock in which node i lies, as the setting has it: a main clock, or the sub-clock of a crossfade
 abbrev pub clock_of : Setting → ℕ → NodeClock
 clock_of setting i = slice_index_or setting.clocks i (Main 0)
 
--- whether two clocks are one
+-- whether two clocks are the same: main clocks by their number, sub-clocks by their crossfade
 abbrev pub same_clock : NodeClock → NodeClock → Bool
 same_clock (Main m) (Main n) = nat_eq m n
 same_clock (Main m) (Sub k) = false
 same_clock (Sub j) (Main m) = false
 same_clock (Sub j) (Sub k) = nat_eq j k
 
--- whether node i lies in this clock
+-- whether node i lies in this clock, so that the clock's instants are its own
 abbrev pub lies_in : Setting → NodeClock → ℕ → Bool
 lies_in setting clock i = same_clock (clock_of setting i) clock
 
--- the second of the week in which instant n lies
+-- the second of the week, from 0 to 604799, in which instant n of a clock lies
 abbrev pub second_at : Setting → ℕ → ℕ
 second_at setting n = (setting.start + n / setting.plan.rate) % 604800
 
@@ -66,7 +66,7 @@ second_at setting n = (setting.start + n / setting.plan.rate) % 604800
 abbrev pub prefill : Setting → ℕ → ℕ
 prefill setting buffer = option_map_or (λ plan. plan.pre) (slice_get setting.plan.buffers buffer) 0
 
--- a reader, and how many answers of its buffer it has taken
+-- the reader of a buffer, and how many of the buffer's answers it has taken so far
 pub record Reading : Type 0 where
   pub reader : Reader
   pub taken : ℕ
@@ -76,7 +76,7 @@ pub record Moment : Type 0 where
   pub parts : List Part
   pub demands : List Bool
 
--- what a node does that offers nothing and uses no child
+-- the part of a node, what it does at an instant, that offers no cell and uses no child
 abbrev pub silent : Part
 silent = record { slot = None; pick = None }
 
@@ -84,7 +84,7 @@ silent = record { slot = None; pick = None }
 abbrev pub part_at : List Part → ℕ → Part
 part_at parts i = slice_index_or parts i silent
 
--- what node i offered at an instant
+-- the slot that node i offered at an instant: a cell, or nothing
 abbrev pub offer : Moment → ℕ → Slot
 offer moment i = (part_at moment.parts i).slot
 
@@ -96,7 +96,7 @@ demanded moment i = slice_index_or moment.demands i false
 abbrev pub gives : Moment → ℕ → Bool
 gives moment i = demanded moment i && is_some (offer moment i)
 
--- at how many of these instants node i gave
+-- at how many of these instants node i gave a cell: so far a leaf has come in its samples
 abbrev pub gives_before : List Moment → ℕ → ℕ
 gives_before [] i = 0
 gives_before (moment ∷ past) i = if gives moment i then suc (gives_before past i) else gives_before past i
@@ -112,20 +112,21 @@ abbrev pub choices : List Moment → ℕ → ℕ
 choices [] i = 0
 choices (moment ∷ past) i = if gives moment i && is_first (offer moment i) then suc (choices past i) else choices past i
 
--- how many items crossfade i has gone on by: one at each instant at which it gave or offered nothing
+-- how many items crossfade i has gone on by, in the list of cells and gaps that it plays: one at each instant at
+-- which it gave or offered nothing
 abbrev pub position : List Moment → ℕ → ℕ
 position [] i = 0
 position (moment ∷ past) i = if gives moment i || not (is_some (offer moment i)) then suc (position past i)
     else position past i
 
--- the reader of a buffer before the first instant of its clock
+-- the reader of a buffer before the first instant of its clock: it has no cells, doesn't play, and took no answer
 abbrev pub new_reading : Setting → (buffer : ℕ) → Reading
 new_reading setting buffer = record {
   reader = record { cells = []; playing = false; prefill = max 1 (prefill setting buffer); frame = setting.plan.frame };
   taken = 0;
 }
 
--- the answers for a buffer which its reader has not taken
+-- the answers of a buffer that its reader has not taken yet
 abbrev pub next_answers : List Answer → Reading → List Answer
 next_answers answers reading = drop reading.taken answers
 
@@ -141,25 +142,26 @@ abbrev pub reading_at : Setting → (buffer instant : ℕ) → Reading → Readi
 reading_at setting buffer instant before =
     if nat_eq (instant % setting.plan.frame) 0 then started (setting.answers buffer) before else before
 
--- a reader after an instant, at which it gave a cell or did not
+-- the reader of a buffer after an instant: moved on by one cell where it gave one, else as it was
 abbrev pub read_on : Bool → Reading → Reading
 read_on gave reading = if gave then record reading { reader = after_cell reading.reader } else reading
 
--- node i, the reader of a buffer, after these instants
+-- the reader of a buffer, node i, after all of these instants of its clock, the latest of which is first in the list
 abbrev pub reading_after : Setting → (i buffer : ℕ) → List Moment → Reading
 reading_after setting i buffer [] = new_reading setting buffer
 reading_after setting i buffer (moment ∷ past) =
     read_on (gives moment i) (reading_at setting buffer (length past) (reading_after setting i buffer past))
 
--- what these children offered at the instant with these parts
+-- what each of these children, numbers of nodes, offered at an instant; `parts` has what all nodes did then
 abbrev pub slots_at : List Part → List ℕ → List Slot
 slots_at parts children = map (λ child. (part_at parts child).slot) children
 
--- what a node does that offers this slot and uses no child
+-- the part of a node that offers this slot and picks no child
 abbrev pub unpicked : Slot → Part
 unpicked slot = record { slot = slot; pick = None }
 
--- what a node does that offers the cell which was picked, and uses its child; nothing where none was picked
+-- the part of a node that passes on the cell of the child that it picked, with that child's place; silence where it
+-- picked none
 abbrev pub picked_part : Option Picked → Part
 picked_part None = silent
 picked_part (Some picked) = record { slot = Some picked.cell; pick = Some picked.child }
@@ -177,7 +179,7 @@ part_by setting sub past i (Fades overlap) slots = unpicked (item_of overlap (su
 part_by setting sub past i (Reads buffer) slots =
     unpicked (reader_slot (reading_at setting buffer (length past) (reading_after setting i buffer past)).reader)
 
--- what node i of a setting does
+-- the work of node i, what it does with its children, in this setting's plan: such as to play, pick, mix or fade
 abbrev pub work_at : Setting → ℕ → Node → Work
 work_at setting i node = work_of setting.plan.rate i node.kind node.op
 
@@ -196,12 +198,12 @@ parts_upto setting sub clock past (suc i) =
     let before = parts_upto setting sub clock past i in
     before ++ part_in setting sub (lies_in setting clock i) past i (slice_get setting.plan.nodes i) before ∷ []
 
--- the child at a place, alone in a list; none without a place
+-- the number of the child at a place of a node's children, as a list of one; none without a place
 abbrev pub child_at : List ℕ → Option ℕ → List ℕ
 child_at children None = []
 child_at children (Some place) = option_map_or (λ child. child ∷ []) (slice_get children place) []
 
--- those of these children that offer a cell
+-- those of these children, numbers of nodes, that offer a cell; `parts` has what each node offers
 abbrev pub offering : List Part → List ℕ → List ℕ
 offering parts [] = []
 offering parts (child ∷ children) =
@@ -213,7 +215,8 @@ uses_by parts (Picks choice eligible) children pick = child_at children pick
 uses_by parts (Mixes mixing) children pick = offering parts children
 uses_by parts _ children pick = []
 
--- what each of these nodes uses, the first of which is node i
+-- for each of these nodes, of which the first is node i, the children that it uses at an instant; `parts` has what
+-- each node offers and picks
 abbrev pub uses_from : Setting → List Part → ℕ → List Node → List (List ℕ)
 uses_from setting parts i [] = []
 uses_from setting parts i (node ∷ nodes) =
@@ -232,7 +235,7 @@ demands_from roots i [] = []
 demands_from roots i (used ∷ uses) =
     let later = demands_from roots (suc i) uses in (roots i || is_used later uses i) ∷ later
 
--- the child of crossfade k
+-- the number of the one child of crossfade k, a node that lies in the crossfade's sub-clock; 0 without one
 abbrev pub crossfaded : List Node → ℕ → ℕ
 crossfaded nodes k = option_map_or (λ node. slice_index_or node.children 0 0) (slice_get nodes k) 0
 
@@ -249,18 +252,19 @@ moment_of setting clock parts = record {
       && is_root setting clock i) 0 (uses_from setting parts 0 setting.plan.nodes);
 }
 
--- the moment of a clock at the instant after these
+-- the next instant of a clock, made from those before it (`past`) and from the slots of its sub-clocks: what each
+-- node does, and who is demanded
 abbrev pub moment_after : Setting → (sub : ℕ → ℕ → List Slot) → NodeClock → List Moment → Moment
 moment_after setting sub clock past = moment_of setting clock
     (parts_upto setting sub clock past (length setting.plan.nodes))
 
--- the moments of the first n instants of a clock, the latest first
+-- the first n instants of a clock, the latest first, each made from those before it
 abbrev pub first_instants : Setting → (sub : ℕ → ℕ → List Slot) → NodeClock → ℕ → List Moment
 first_instants setting sub clock zero = []
 first_instants setting sub clock (suc n) =
     let past = first_instants setting sub clock n in moment_after setting sub clock past ∷ past
 
--- the slots of node i at these instants, the earliest first
+-- what node i offered at each of these instants, the earliest first; the list of instants has the latest first
 abbrev pub slots_of : List Moment → ℕ → List Slot
 slots_of [] i = []
 slots_of (moment ∷ past) i = slots_of past i ++ offer moment i ∷ []
@@ -280,7 +284,7 @@ sub_within setting (suc depth) k m = slots_of (first_instants setting (sub_withi
 abbrev pub sub_of : Setting → ℕ → ℕ → List Slot
 sub_of setting = sub_within setting (suc (length setting.plan.nodes))
 
--- the slot of node i at instant n of its clock
+-- the stream of node i: what it offers at instant n of its clock, a cell or nothing
 abbrev pub stream_of : Setting → ℕ → ℕ → Slot
 stream_of setting i n = offer
     (moment_after setting (sub_of setting) (clock_of setting i)

@@ -20,12 +20,13 @@ pub data Eligible : Type 0 where
   Every : Eligible
   Where : List Predicate → Eligible
 
--- for each child of a node, of which it has so many, whether it may be chosen in this second of the week
+-- for each of a node's `children` many children, whether it may be chosen in this second of the week
 abbrev pub marks_at : Eligible → (second children : ℕ) → List Bool
 marks_at Every second children = replicate children true
 marks_at (Where preds) second children = map (λ pred. holds pred second) preds
 
--- how a node chooses among its children: by a selection's rule, or by turns
+-- how a node chooses among its children: by a rule over what they offer at the instant, or one after another or by lot,
+-- as a rotate or a random does
 pub data Choice : Type 0 where
   Selects : Rule → Choice
   TakesTurns : Turn → Choice
@@ -48,7 +49,7 @@ pub data Work : Type 0 where
   Fades : ℕ → Work
   Reads : ℕ → Work
 
--- the work of node i, in a plan of so many samples a second
+-- the work of node i, by its operator and by whether it is mono or stereo, in a plan of `rate` samples a second
 abbrev pub work_of : (rate i : ℕ) → Kind → Op → Work
 work_of rate i kind (Single file) = Plays (Files i true kind)
 work_of rate i kind (Playlist file again) = Plays (Files i again kind)

@@ -22,7 +22,7 @@ pub record IsSetting (setting : Setting) (clocks : ClockMap) : Type 0 where
       → length (tracks_of setting.library i) ≡ 1
   pub start : setting.start < 604800
 
--- a plan without a reader and without a feed
+-- the plan has no buffer in use: no node that reads one, and no sink that feeds one
 pub record HasNoBuffers (plan : Plan) : Type 0 where
   pub nodes : (i : ℕ) (node : Node) (buffer : ℕ) → slice_get plan.nodes i ≡ Some node → node.op ≡ Buffer buffer → ⊥
   pub sinks : (k buffer node : ℕ) → slice_get plan.sinks k ≡ Some (Feed buffer node) → ⊥

@@ -30,24 +30,25 @@ abbrev pub slot_block : (wide : Bool) → Kind → Slot → List ℕ
 slot_block wide kind None = sample_block wide kind (pos 0) (pos 0)
 slot_block wide kind (Some cell) = sample_block wide kind cell.left cell.right
 
--- whether a sink is an output with samples of three bytes
+-- whether a sink is an output whose file has samples of 24 bits
 abbrev pub wide_sink : SinkPlan → Bool
 wide_sink (Output name node fallible wide) = wide
 wide_sink (Feed buffer node) = false
 
--- whether the sink of this number is an output with samples of three bytes
+-- whether the sink of this number is an output whose file has samples of 24 bits
 abbrev pub is_wide : Setting → (sink : ℕ) → Bool
 is_wide setting sink = option_map_or wide_sink (slice_get setting.plan.sinks sink) false
 
--- whether node i is mono or stereo
+-- whether node i of the setting's plan is mono or stereo; stereo where there is none
 abbrev pub kind_of : Setting → ℕ → Kind
 kind_of setting i = option_map_or (λ node. node.kind) (slice_get setting.plan.nodes i) Stereo
 
--- the slots of node i at the instants of tick t
+-- what node i offers at each instant of tick t of its clock, in order
 abbrev pub tick_slots : Setting → (i t : ℕ) → List Slot
 tick_slots setting i t = map (stream_of setting i) (range_with_len (t * setting.plan.frame) setting.plan.frame)
 
--- the bytes that an output of node i gets in tick t
+-- the bytes that are written in tick t to the file of an output that plays node i; `wide` is whether its samples have
+-- 24 bits
 abbrev pub tick_bytes : Setting → (wide : Bool) → (i t : ℕ) → List ℕ
 tick_bytes setting wide i t = flat_map (slot_block wide (kind_of setting i)) (tick_slots setting i t)
 
@@ -56,13 +57,13 @@ abbrev pub ticks_bytes : Setting → (wide : Bool) → (i ticks : ℕ) → List 
 ticks_bytes setting wide i zero = []
 ticks_bytes setting wide i (suc ticks) = ticks_bytes setting wide i ticks ++ tick_bytes setting wide i ticks
 
--- how many of these slots are empty
+-- how many of these slots have no cell
 abbrev pub missing : List Slot → ℕ
 missing [] = 0
 missing (None ∷ slots) = suc (missing slots)
 missing (Some cell ∷ slots) = missing slots
 
--- the gaps in the first so many ticks of an output of node i
+-- how many instants of an output of node i were without a cell in its first so many ticks
 abbrev pub gaps : Setting → (i ticks : ℕ) → ℕ
 gaps setting i zero = 0
 gaps setting i (suc ticks) = gaps setting i ticks + missing (tick_slots setting i ticks)
@@ -83,11 +84,11 @@ cues_from at (None ∷ slots) = cues_from (suc at) slots
 cues_from at (Some cell ∷ slots) =
     if cell.first then record { at = at; title = cell.title } ∷ cues_from (suc at) slots else cues_from (suc at) slots
 
--- where tracks of node i begin in tick t
+-- the cues of tick t of node i: where tracks begin in it, and under which titles
 abbrev pub tick_cues : Setting → (i t : ℕ) → List Cue
 tick_cues setting i t = cues_from (t * setting.plan.frame) (tick_slots setting i t)
 
--- where tracks of node i begin in the first so many ticks
+-- the cues of node i in its clock's first so many ticks: where tracks begin, and under which titles
 abbrev pub cues : Setting → (i ticks : ℕ) → List Cue
 cues setting i zero = []
 cues setting i (suc ticks) = cues setting i ticks ++ tick_cues setting i ticks

@@ -52,8 +52,8 @@ pub fn leaves_stand_alone()
         → (name : List ℕ) × ((op ≡ ASingle name) ⊎ (op ≡ APlaylist name again)) }
 {}
 
-/// What a rotate or a random goes by at an instant is the past after the instants at which it gave: the child that it
-/// used last, and the number of its choices.
+/// What a rotate or a random chooses by at an instant comes from the instants at which it gave: the child that it used
+/// last, and the number of its choices.
 pub fn turns_go_by_choices()
     ensures { (setting : Setting) (sub : ℕ → ℕ
         → List TheSlot) (i n : ℕ) (node : TheNode) (turn : TheTurn) (eligible : Eligible)

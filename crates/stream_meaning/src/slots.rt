@@ -5,7 +5,8 @@ ghost use Rattle.stream_meaning.specs.Instants.{part_at};
 use crate::part::Part;
 use frame_core::Cell;
 
-/// The slot of a node at an instant, by what the nodes do then; nothing where there is none of this number.
+/// What a node offers at an instant, a cell or nothing, by the parts of all nodes then; nothing where there is none of
+/// this number.
 pub fn slot_of(parts: &[Part], node: u32) -> Option<Cell>
     ensures { result ≡ (part_at parts.now node).slot }
 {

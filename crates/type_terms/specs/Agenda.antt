@@ -10,26 +10,29 @@ use Rattle.type_terms.specs.declared.differ.Difference.{Difference}
 use Rattle.type_terms.specs.declared.differ.Difference.TheVariants.{Same, Clash, Bind, BindKind}
 use Rattle.type_terms.specs.declared.ty.Ty.{Ty}
 
--- the plain data of pairs of types
+-- pairs of types of the program, which are to be compared, as plain data
 abbrev pub pairs_of : List (Ty × Ty) → List (Term × Term)
 pairs_of [] = []
 pairs_of (p ∷ ps) = (term_of p.0, term_of p.1) ∷ pairs_of ps
 
--- pairs of variables, by their numbers
+-- pairs of type variables, given by their numbers, as pairs of types
 abbrev pub variable_pairs : List (ℕ × ℕ) → List (Term × Term)
 variable_pairs [] = []
 variable_pairs (p ∷ ps) = (variable p.0, variable p.1) ∷ variable_pairs ps
 
--- the two are equal, if the first has fewer than n nodes, or at most n where it is no variable
+-- two types are equal under the assignment a, as far as n goes: if the first has fewer than n nodes there, or at most
+-- n where it is no variable
 abbrev pub EqualBelow : Assignment → ℕ → Term → Term → Type 0
 EqualBelow a n t u = size (meaning a t) < n + extra t → meaning a t ≡ meaning a u
 
--- the two of each pair are equal, if the first has fewer than n nodes, or at most n where it is no variable
+-- the two types of each pair are equal under the assignment a, as far as n goes: if the first has fewer than n nodes
+-- there, or at most n where it is no variable
 abbrev pub AllEqualBelow : Assignment → ℕ → List (Term × Term) → Type 0
 AllEqualBelow a n [] = Unit {0}
 AllEqualBelow a n (p ∷ ps) = EqualBelow a n p.0 p.1 × AllEqualBelow a n ps
 
--- the pairs that are still to be compared, and those whose parts were put among them
+-- the agenda of unification: the pairs of types that are still to be compared, and the pairs whose parts were put
+-- among them
 pub record Agenda : Type 0 where
   pub todo : List (Term × Term)
   pub seen : List (Term × Term)
@@ -38,11 +41,11 @@ pub record Agenda : Type 0 where
 abbrev pub agenda : List (Ty × Ty) → List (ℕ × ℕ) → Agenda
 agenda work seen = record { todo = pairs_of work; seen = variable_pairs seen }
 
--- the plain data of the lists that hold one
+-- the agenda of unification as plain data: the pairs of types to compare, and the pairs of variables taken apart
 abbrev pub agenda_of : AgendaLists → Agenda
 agenda_of lists = agenda lists.work.items lists.seen.keys
 
--- nothing is to be compared, and nothing was
+-- the agenda of unification at its start: nothing is to be compared, and nothing was taken apart
 abbrev pub empty_agenda : Agenda
 empty_agenda = record { todo = []; seen = [] }
 
@@ -61,15 +64,16 @@ pub record IsTakenUp (s : Table) (old new : Agenda) (left right : Term) : Type 0
   pub learnt : (a : Assignment) (n : ℕ) → Solves a s → AllEqualBelow a n new.todo → AllEqualBelow a n new.seen
       → AllEqualBelow a (suc n) old.seen → AllEqualBelow a (suc n) new.seen
 
--- a difference is right for two types: they were taken up, they are equal at no solution, or they are equal exactly
--- where the variable has this value, and the agenda is as it was
+-- what the comparison of two types answers is right: `Same`, their parts were put on the agenda; `Clash`, they are
+-- equal at no solution; `Bind`, they are equal exactly where the variable has this value, and the agenda is as it was
 abbrev pub TakesUp : Table → Agenda → Agenda → Term → Term → Difference → Type 0
 TakesUp s old new left right Same = IsTakenUp s old new left right
 TakesUp s old new left right Clash = AreNeverSame s left right
 TakesUp s old new left right (Bind x t) = IsForced s left right x (term_of t.now) × (new ≡ old)
 TakesUp s old new left right (BindKind x t) = IsKindForced s left right x t × (new ≡ old)
 
--- two types were taken up, or are equal at no solution
+-- what the comparison of two types answers is right: true, their parts were put on the agenda; false, they are equal
+-- at no solution
 abbrev pub IsTaken : Table → Agenda → Agenda → Term → Term → Bool → Type 0
 IsTaken s old new left right true = IsTakenUp s old new left right
 IsTaken s old new left right false = AreNeverSame s left right

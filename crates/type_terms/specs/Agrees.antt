@@ -6,7 +6,7 @@ use Rattle.type_terms.specs.Term.{Term, meaning}
 use Rattle.type_terms.specs.declared.ty.KindTerm.{KindTerm}
 use Rattle.liq_base.specs.declared.memory.Kind.{Kind}
 
--- two assignments agree on the variables of a substitution
+-- the assignments a and b give the same types and kinds to the variables of a substitution
 pub record Agrees (s : Table) (a b : Assignment) : Type 0 where
   pub types : (k : ℕ) → k < length s.types → a.type_of k ≡ b.type_of k
   pub kinds : (k : ℕ) → k < length s.kinds → a.kind_of k ≡ b.kind_of k
@@ -23,7 +23,8 @@ pub record Follows (s s' : Table) : Type 0 where
   pub bound : KeepsBound s s'
   pub solves : (a : Assignment) → Solves a s' → Solves a s
 
--- s' is s with the new type variable n, which may be anything, or any number
+-- s' is the substitution s with the new type variable n, which may be any type, or where `number` holds any number
+-- type
 pub record HasNewType (s s' : Table) (number : Type 0) (n : ℕ) : Type 0 where
   pub inside : n < length s'.types
   pub follows : Follows s s'
@@ -31,14 +32,15 @@ pub record HasNewType (s s' : Table) (number : Type 0) (n : ℕ) : Type 0 where
   pub each : (a : Assignment) → Solves a s → (g : Ground) → (number → IsNumber g)
       → (b : Assignment) × Solves b s' × Agrees s a b × (b.type_of n ≡ g)
 
--- s' is s with the new type variable n, which is bound to t
+-- s' is the substitution s with the new type variable n, which is bound to t: its solutions are those of s at which n
+-- is t, and each solution of s has one that agrees with it
 pub record HasBoundType (s s' : Table) (n : ℕ) (t : Term) : Type 0 where
   pub inside : n < length s'.types
   pub follows : Follows s s'
   pub exactly : (a : Assignment) → Solves a s' ↔ (Solves a s × (a.type_of n ≡ meaning a t))
   pub each : (a : Assignment) → Solves a s → (b : Assignment) × Solves b s' × Agrees s a b
 
--- s' is s with the new kind variable n, which may be either kind
+-- s' is the substitution s with the new kind variable n, which may be mono or stereo
 pub record HasNewKind (s s' : Table) (n : ℕ) : Type 0 where
   pub inside : n < length s'.kinds
   pub follows : Follows s s'

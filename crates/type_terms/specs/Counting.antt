@@ -4,22 +4,22 @@ use Rattle.type_terms.specs.Table.{Table}
 use Rattle.type_terms.specs.Variables.{Variable}
 use Rattle.type_terms.specs.declared.ty.KindTerm.{KindTerm}
 
--- 1 for a variable that is bound to nothing, else 0
+-- 1 for a variable that is bound to nothing, else 0, to be added up
 abbrev pub one_if_free : {A : Type 0} → Option A → ℕ
 one_if_free None = 1
 one_if_free (Some t) = 0
 
--- how many type variables are bound to nothing
+-- how many of these type variables are bound to nothing
 abbrev pub free_types : List Variable → ℕ
 free_types [] = 0
 free_types (v ∷ vs) = one_if_free v.bound + free_types vs
 
--- how many kind variables are bound to nothing
+-- how many of these kind variables are bound to nothing
 abbrev pub free_kinds : List (Option KindTerm) → ℕ
 free_kinds [] = 0
 free_kinds (k ∷ ks) = one_if_free k + free_kinds ks
 
--- how many variables of a substitution are bound to nothing
+-- how many type variables and kind variables of a substitution are bound to nothing
 abbrev pub free_count : Table → ℕ
 free_count s = free_types s.types + free_kinds s.kinds
 

@@ -10,15 +10,16 @@ use Rattle.type_terms.specs.declared.ty.KindTerm.TheVariants.{Var}
 use Rattle.type_terms.specs.declared.differ.Difference.{Difference}
 use Rattle.type_terms.specs.declared.differ.Difference.TheVariants.{Same, Clash, Bind, BindKind}
 
--- the two are equal at each solution
+-- the two types are equal at each solution of the substitution
 abbrev pub AreSame : Table → Term → Term → Type 0
 AreSame s left right = (a : Assignment) → Solves a s → meaning a left ≡ meaning a right
 
--- the two are equal at no solution
+-- the two types are equal at no solution of the substitution: they clash
 abbrev pub AreNeverSame : Table → Term → Term → Type 0
 AreNeverSame s left right = (a : Assignment) → Solves a s → meaning a left ≢ meaning a right
 
--- the two are equal exactly where the free variable x is t, to which it may be bound
+-- making two types equal comes down to one binding: they are equal exactly at the solutions at which the type
+-- variable x is t, and x is free, doesn't stand in t, and may be bound to it
 pub record IsForced (s : Table) (left right : Term) (x : ℕ) (t : Term) : Type 0 where
   pub inside : x < length s.types
   pub free : bound_at s.types x ≡ None
@@ -28,7 +29,8 @@ pub record IsForced (s : Table) (left right : Term) (x : ℕ) (t : Term) : Type 
   pub forced : (a : Assignment) → Solves a s → meaning a left ≡ meaning a right → a.type_of x ≡ meaning a t
   pub enough : (a : Assignment) → Solves a s → a.type_of x ≡ meaning a t → meaning a left ≡ meaning a right
 
--- the two are equal exactly where the free kind variable x is t, to which it may be bound
+-- making two types equal comes down to one binding of a kind: they are equal exactly at the solutions at which the
+-- kind variable x is t, and x is free and may be bound to it
 pub record IsKindForced (s : Table) (left right : Term) (x : ℕ) (t : KindTerm) : Type 0 where
   pub inside : x < length s.kinds
   pub free : kind_at s.kinds x ≡ None
@@ -44,7 +46,7 @@ Settles s left right Clash = AreNeverSame s left right
 Settles s left right (Bind x t) = IsForced s left right x (term_of t.now)
 Settles s left right (BindKind x t) = IsKindForced s left right x t
 
--- a base type, if there is one, is int or decimal
+-- whether a base type, if there is one, is a number type: int or decimal
 abbrev pub is_number_base : Option Base → Bool
 is_number_base (Some Int) = true
 is_number_base (Some Decimal) = true

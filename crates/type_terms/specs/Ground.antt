@@ -17,18 +17,18 @@ mutual
     no_more : Grounds
     and_more : Ground → Grounds → Grounds
 
--- a type for each type variable, and a kind for each kind variable
+-- what all variables stand for: a type for each type variable, and a kind for each kind variable, by their numbers
 pub record Assignment : Type 0 where
   pub type_of : ℕ → Ground
   pub kind_of : ℕ → Kind
 
--- a base type is int or decimal
+-- the base type is a number type: int or decimal
 abbrev pub IsNumberBase : Base → Type 0
 IsNumberBase Int = Unit {0}
 IsNumberBase Decimal = Unit {0}
 IsNumberBase _ = ⊥
 
--- what a number variable can stand for
+-- the type is a number type, int or decimal, which alone a number variable can stand for
 abbrev pub IsNumber : Ground → Type 0
 IsNumber (base_type b) = IsNumberBase b
 IsNumber _ = ⊥
@@ -41,6 +41,7 @@ abbrev mutual
   size (tuple ts) = 1 + sizes ts
   size (source k) = 1
 
+  -- the nodes of a tuple's parts together
   pub sizes : Grounds → ℕ
   sizes no_more = 0
   sizes (and_more t ts) = size t + sizes ts

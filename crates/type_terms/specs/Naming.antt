@@ -14,11 +14,12 @@ abbrev mutual
   type_variables (source_term k) = []
   type_variables (variable n) = n ∷ []
 
+  -- the type variables of a tuple's parts, in their order
   pub all_type_variables : Terms → List ℕ
   all_type_variables no_terms = []
   all_type_variables (one_more t ts) = type_variables t ++ all_type_variables ts
 
--- the number of the variable that a kind term is, if it is one
+-- the number of the variable that a kind is, as a list of one, or of none for mono and stereo
 abbrev pub variable_of_kind : KindTerm → List ℕ
 variable_of_kind (Fixed k) = []
 variable_of_kind (Var n) = n ∷ []
@@ -32,11 +33,12 @@ abbrev mutual
   kind_variables (source_term k) = variable_of_kind k
   kind_variables (variable n) = []
 
+  -- the kind variables of a tuple's parts, in their order
   pub all_kind_variables : Terms → List ℕ
   all_kind_variables no_terms = []
   all_kind_variables (one_more t ts) = kind_variables t ++ all_kind_variables ts
 
--- a number, or n where there is none
+-- the number that is there, or n where there is none
 abbrev pub number_or : ℕ → Option ℕ → ℕ
 number_or n None = n
 number_or n (Some m) = m
@@ -45,7 +47,7 @@ number_or n (Some m) = m
 abbrev pub new_number : List ℕ → ℕ → ℕ
 new_number news n = number_or n (slice_get news n)
 
--- the kind term in which a variable has its new number
+-- a kind with the new number of its variable: entry n of the list for variable n; mono and stereo stay
 abbrev pub kind_instance : List ℕ → KindTerm → KindTerm
 kind_instance news (Fixed k) = Fixed k
 kind_instance news (Var n) = Var (new_number news n)
@@ -59,11 +61,13 @@ abbrev mutual
   instance types kinds (source_term k) = source_term (kind_instance kinds k)
   instance types kinds (variable n) = variable (new_number types n)
 
+  -- the parts of a tuple, in which each variable has its new number
   pub instances : List ℕ → List ℕ → Terms → Terms
   instances types kinds no_terms = no_terms
   instances types kinds (one_more t ts) = one_more (instance types kinds t) (instances types kinds ts)
 
--- the assignment that gives each variable what `a` gives to its new number
+-- what variables stand for before they got new numbers: variable n has what the assignment a gives to its new number,
+-- which the lists `types` and `kinds` have
 abbrev pub behind : List ℕ → List ℕ → Assignment → Assignment
 behind types kinds a = record {
   type_of = λ n. a.type_of (new_number types n);

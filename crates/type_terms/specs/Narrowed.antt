@@ -12,14 +12,16 @@ use Rattle.type_terms.specs.Undo.{IsTrail, IsKindTrail}
 use Rattle.type_terms.specs.declared.table.Bindings.{Bindings}
 use Rattle.type_terms.specs.declared.unifier.Trail.{Trail}
 
--- the substitution and its marks are sound, and the two are over its variables
+-- what unification needs: the substitution is sound, the marks of the variables that stand inside bindings are right,
+-- and the types t and u have no other variables than the substitution
 pub record AreComparable (b : Bindings) (t u : Term) : Type 0 where
   pub sound : IsSound (table_of b)
   pub marked : AreMarked b.types.items b.nested.items
   pub left : IsOver (table_of b) t
   pub right : IsOver (table_of b) u
 
--- the new substitution and marks are sound, and solutions were lost only where the two differ
+-- a substitution was narrowed so that two types become the same: variables were bound, the result and its marks are
+-- sound, and it lost only solutions at which the two types differ
 pub record IsNarrowed (left right : Term) (old new : Table) (marks marks' : List Bool) : Type 0 where
   pub sound : IsSound new
   pub marked : AreMarked new.types marks'
@@ -28,25 +30,29 @@ pub record IsNarrowed (left right : Term) (old new : Table) (marks marks' : List
   pub kept : (a : Assignment) → Solves a old → meaning a left ≡ meaning a right → Solves a new
   pub same_variables : SameVariables old new
 
--- the new bindings and their marks are sound, and solutions were lost only where the two differ
+-- the new bindings come from the old ones by making two types the same: only solutions at which the two differ were
+-- lost
 abbrev pub Narrows : Term → Term → Bindings → Bindings → Type 0
 Narrows left right old new = IsNarrowed left right (table_of old) (table_of new) old.nested.items new.nested.items
 
--- the trail tells which variables were bound
+-- the trail, a list of bound variables, tells how to get back: the old substitution is the new one, but that these
+-- variables are free
 pub record Tells (trail : Trail) (old new : Table) : Type 0 where
   pub types : IsTrail trail.types.items old.types new.types
   pub kinds : IsKindTrail trail.kinds.items old.kinds new.kinds
 
--- how many variables a trail tells of
+-- how many variables, of types and of kinds, a trail tells to be bound
 abbrev pub trail_len : Trail → ℕ
 trail_len trail = length trail.types.items + length trail.kinds.items
 
--- a trail that told which variables were bound tells it still, each once
+-- a trail, the list of the variables that were bound, was kept up to date from the old substitution to the new one:
+-- it has each variable that was bound, once
 pub record IsTrailed (old new : Table) (trail trail' : Trail) : Type 0 where
   pub told : (s : Table) → Tells trail s old → Tells trail' s new
   pub free : free_count new + trail_len trail' ≡ free_count old + trail_len trail
 
--- an answer is right: the two are equal at each solution, or at none
+-- what unification answers is right for two types: true, they are now equal at each solution; false, they are equal
+-- at none
 abbrev pub IsAnswer : Table → Term → Term → Bool → Type 0
 IsAnswer s left right true = AreSame s left right
 IsAnswer s left right false = AreNeverSame s left right

@@ -8,83 +8,87 @@ use Rattle.type_terms.specs.Variables.{Variable}
 use Rattle.type_terms.specs.Table.{Table, IsSound, bound_at}
 use Rattle.type_terms.specs.declared.ty.Ty.{Ty}
 
--- a mark, where there is one
+-- a mark, or false where there is none; a marked type variable may stand in what another is bound to
 abbrev pub mark_in : Option Bool → Bool
 mark_in None = false
 mark_in (Some b) = b
 
--- whether variable k is marked
+-- whether type variable k is marked as one that may stand in what another is bound to
 abbrev pub mark_at : List Bool → ℕ → Bool
 mark_at marks k = mark_in (slice_get marks k)
 
--- each variable of the term is marked
+-- each type variable of the type is marked as one that may stand in what another is bound to
 abbrev pub IsMarked : List Bool → Term → Type 0
 IsMarked marks t = InTerm (λ j. mark_at marks j ≡ true) (λ _. Unit {0}) t
 
--- there is a mark for each variable, and those that stand in a binding have it
+-- the marks are right: each type variable has one, and each that stands in what another is bound to is marked
 pub record AreMarked (vs : List Variable) (marks : List Bool) : Type 0 where
   pub enough : length vs ≤ length marks
   pub marked : (k : ℕ) (t : Term) → bound_at vs k ≡ Some t → IsMarked marks t
 
--- a substitution is sound, and its marks are right
+-- a substitution is sound, and the marks of the variables that stand inside its bindings are right
 pub record IsWhole (s : Table) (marks : List Bool) : Type 0 where
   pub sound : IsSound s
   pub marked : AreMarked s.types marks
 
--- a substitution is sound, its marks are right, and so is the number of its free variables
+-- what the program keeps of a substitution is right: the bindings, the marks of the variables that stand inside
+-- bindings, and `free`, the number of variables that are bound to nothing
 pub record IsKept (s : Table) (marks : List Bool) (free : ℕ) : Type 0 where
   pub whole : IsWhole s marks
   pub counted : free ≡ free_count s
 
--- the variable stands in no binding
+-- type variable x stands in nothing that a variable is bound to
 pub record IsUnnested (vs : List Variable) (x : ℕ) : Type 0 where
   pub apart : (k : ℕ) (t : Term) → bound_at vs k ≡ Some t → InTerm (λ j. j ≢ x) (λ _. Unit {0}) t
 
--- the plain data of references to types
+-- references to types of the program as a list of plain types
 abbrev pub terms : List (Bor Ty) → List Term
 terms [] = []
 terms (p ∷ ps) = term_of p.now ∷ terms ps
 
--- the parts of a tuple, as a list
+-- the types of a tuple's parts, as a list
 abbrev pub parts : Terms → List Term
 parts no_terms = []
 parts (one_more t ts) = t ∷ parts ts
 
--- what a variable is bound to, as a list of one term or none
+-- what a variable is bound to, as a list of one type, or of none if it is free
 abbrev pub bound_list : Option Term → List Term
 bound_list None = []
 bound_list (Some t) = t ∷ []
 
--- what a variable is bound to, as a list, if that is asked for
+-- what a variable is bound to, as a list of one type or none; nothing where the walk doesn't go through bindings
 abbrev pub reached_by : Bool → Option Term → List Term
 reached_by true o = bound_list o
 reached_by false o = []
 
--- the terms right inside a term
+-- the parts of a type: of a list its item, of a tuple its components, else none
 abbrev pub inside : Term → List Term
 inside (list_term t) = t ∷ []
 inside (tuple_term ts) = parts ts
 inside _ = []
 
--- the terms right below a term, where a variable has what it is bound to below it, if that is asked for
+-- the types that a walk comes to next from a type: its parts, and of a variable what it is bound to, where `deep`
+-- says that the walk goes through bindings
 abbrev pub below : List Variable → Bool → Term → List Term
 below vs deep (variable k) = reached_by deep (bound_at vs k)
 below vs deep (list_term t) = t ∷ []
 below vs deep (tuple_term ts) = parts ts
 below vs deep _ = []
 
--- the term's outermost variable, if it has one, is one of so many
+-- where the type is itself a variable, or a source whose kind is one, it is one of the first m type variables or of
+-- the first n kind variables; its parts are not looked at
 abbrev pub IsAmong : ℕ → ℕ → Term → Type 0
 IsAmong m n (variable k) = k < m
 IsAmong m n (source_term k) = InKind (λ j. j < n) k
 IsAmong m n _ = Unit {0}
 
--- the number is one of the list
+-- the number of a variable, k, is one of this list
 abbrev pub IsIn : List ℕ → ℕ → Type 0
 IsIn ks k = list_any (nat_eq k) ks ≡ true
 
--- a walk comes to u, having gone behind the variables of `old`: `deep` where it goes behind u now, which with `nested`
--- it does once for each variable
+-- one step of a walk over types, which comes to u: `old` and `new` are the variables whose bindings it has gone
+-- through before and after. With `nested` it goes through each variable's binding once, and `deep` says whether it
+-- does now.
 pub record IsVisit (nested deep : Bool) (old new : List ℕ) (u : Term) : Type 0 where
   pub kept : (k : ℕ) → IsIn old k → IsIn new k
   pub here : nested ≡ true → (k : ℕ) → u ≡ variable k → IsIn new k

@@ -6,67 +6,68 @@ use Rattle.type_terms.specs.Variables.{Variable}
 use Rattle.type_terms.specs.declared.ty.KindTerm.{KindTerm}
 use Rattle.type_terms.specs.declared.ty.KindTerm.TheVariants.{Var}
 
--- a substitution: its type variables, and what its kind variables are bound to
+-- a substitution as plain data: its type variables, and what each kind variable is bound to, if anything
 pub record Table : Type 0 where
   pub types : List Variable
   pub kinds : List (Option KindTerm)
 
--- the substitution of these type variables and kind variables
+-- the substitution that has these type variables and these kind variables
 abbrev pub table : List Variable → List (Option KindTerm) → Table
 table vs ks = record { types = vs; kinds = ks }
 
--- what a type variable is bound to, where there is one
+-- what a type variable is bound to; nothing where there is no variable or it is free
 abbrev pub bound_in : Option Variable → Option Term
 bound_in None = None
 bound_in (Some x) = x.bound
 
--- what a type variable is bound to
+-- what type variable k is bound to; nothing where it is free or not there
 abbrev pub bound_at : List Variable → ℕ → Option Term
 bound_at vs k = bound_in (slice_get vs k)
 
--- whether a type variable is a number variable, where there is one
+-- whether a type variable is a number variable, one that can only be int or decimal; no where there is none
 abbrev pub number_in : Option Variable → Bool
 number_in None = false
 number_in (Some x) = x.number
 
--- whether type variable k is a number variable
+-- whether type variable k is a number variable, one that can only be int or decimal
 abbrev pub number_at : List Variable → ℕ → Bool
 number_at vs k = number_in (slice_get vs k)
 
--- what a kind variable is bound to, where there is one
+-- what a kind variable is bound to; nothing where there is no variable or it is free
 abbrev pub kind_in : Option (Option KindTerm) → Option KindTerm
 kind_in None = None
 kind_in (Some x) = x
 
--- what a kind variable is bound to
+-- what kind variable k is bound to; nothing where it is free or not there
 abbrev pub kind_at : List (Option KindTerm) → ℕ → Option KindTerm
 kind_at ks k = kind_in (slice_get ks k)
 
--- bound type variables equal what they are bound to
+-- the assignment gives each bound type variable the type that it is bound to
 abbrev pub MeetsBindings : List Variable → Assignment → Type 0
 MeetsBindings vs a = (k : ℕ) (t : Term) → bound_at vs k ≡ Some t → a.type_of k ≡ meaning a t
 
--- bound kind variables equal what they are bound to
+-- the assignment gives each bound kind variable the kind that it is bound to
 abbrev pub MeetsKinds : List (Option KindTerm) → Assignment → Type 0
 MeetsKinds ks a = (k : ℕ) (t : KindTerm) → kind_at ks k ≡ Some t → a.kind_of k ≡ kind_meaning a t
 
--- kind variables are bound to kinds, or to variables of lesser number that are there
+-- each kind variable that is bound to another one is bound to one of lesser number, so chains of them end
 pub record FallsByNumber (ks : List (Option KindTerm)) : Type 0 where
   pub falls : (k j : ℕ) → kind_at ks k ≡ Some (Var j) → j < k
 
--- bound variables equal what they are bound to, and number variables are int or decimal
+-- the assignment a is a solution of the substitution s: bound variables are what they are bound to, and number
+-- variables are int or decimal
 pub record Solves (a : Assignment) (s : Table) : Type 0 where
   pub types : (k : ℕ) (t : Term) → bound_at s.types k ≡ Some t → a.type_of k ≡ meaning a t
   pub kinds : (k : ℕ) (t : KindTerm) → kind_at s.kinds k ≡ Some t → a.kind_of k ≡ kind_meaning a t
   pub numbers : (k : ℕ) → number_at s.types k ≡ true → IsNumber (a.type_of k)
 
--- int, decimal or a number variable
+-- the type is one that a number variable may be bound to: int, decimal or a number variable
 abbrev pub IsNumberTerm : List Variable → Term → Type 0
 IsNumberTerm vs (base_term b) = IsNumberBase b
 IsNumberTerm vs (variable n) = number_at vs n ≡ true
 IsNumberTerm vs _ = ⊥
 
--- the variables of a term are there
+-- each type variable and kind variable of the type is one of the substitution's
 abbrev pub IsOver : Table → Term → Type 0
 IsOver s t = InTerm (λ n. n < length s.types) (λ n. n < length s.kinds) t
 
@@ -74,7 +75,8 @@ IsOver s t = InTerm (λ n. n < length s.types) (λ n. n < length s.kinds) t
 pub record IsRank (w : ℕ → ℕ) (vs : List Variable) : Type 0 where
   pub falls : (k : ℕ) (t : Term) → bound_at vs k ≡ Some t → height w t < w k
 
--- bindings that end, over variables that are there
+-- what type variables are bound to is over variables that are there, and no variable stands in its own binding,
+-- directly or through others
 pub record IsTriangular (vs : List Variable) : Type 0 where
   pub over : (k : ℕ) (t : Term) → bound_at vs k ≡ Some t → InTerm (λ n. n < length vs) (λ _. Unit {0}) t
   pub ranked : (w : ℕ → ℕ) × IsRank w vs
@@ -111,7 +113,8 @@ pub record BindsKind (x : ℕ) (t : KindTerm) (old new : List (Option KindTerm))
   pub here : kind_at new x ≡ Some t
   pub elsewhere : (k : ℕ) → k ≢ x → kind_at new k ≡ kind_at old k
 
--- 1 for a type that is no variable, which is larger than each of its parts
+-- 1 for a type that is no variable, else 0: what is added to a bound on sizes, since a list or tuple is larger than
+-- its parts, and a variable is not
 abbrev pub extra : Term → ℕ
 extra (variable n) = 0
 extra _ = 1

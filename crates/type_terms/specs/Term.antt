@@ -24,12 +24,12 @@ mutual
     no_terms : Terms
     one_more : Term → Terms → Terms
 
--- a list of terms as the parts of a tuple
+-- a list of types as the parts of a tuple
 abbrev pub terms_of : List Term → Terms
 terms_of [] = no_terms
 terms_of (t ∷ ts) = one_more t (terms_of ts)
 
--- one node of a `Ty` as plain data; its parts are plain data already
+-- one node of a type of the program as plain data, where the types inside it are plain data already
 abbrev pub term_step : ty.Ty-F Term → Term
 term_step ty.Int = base_term base.Int
 term_step ty.Decimal = base_term base.Decimal
@@ -43,16 +43,16 @@ term_step (ty.Tuple v) = tuple_term (terms_of v.items)
 term_step (ty.Source k) = source_term k
 term_step (ty.Var n) = variable n
 
--- the plain data of a `Ty`
+-- a type of the program as plain data, by its nodes from the leaves up
 abbrev pub term_of : Ty → Term
 term_of = fold-Ty Term term_step
 
--- the base type that a term is
+-- the base type that a type is, such as int; none for a list, a tuple, a source or a variable
 abbrev pub base_of : Term → Option Base
 base_of (base_term b) = Some b
 base_of _ = None
 
--- the kind that a term of kinds is under an assignment
+-- the kind of a source, mono or stereo, which a kind over variables is under the assignment a
 abbrev pub kind_meaning : Assignment → KindTerm → Kind
 kind_meaning a (Fixed k) = k
 kind_meaning a (Var n) = a.kind_of n
@@ -66,11 +66,12 @@ abbrev mutual
   meaning a (source_term k) = source (kind_meaning a k)
   meaning a (variable n) = a.type_of n
 
+  -- the types that a tuple's parts are under an assignment
   pub meanings : Assignment → Terms → Grounds
   meanings a no_terms = no_more
   meanings a (one_more t ts) = and_more (meaning a t) (meanings a ts)
 
--- Q holds of the kind's variable, if it is one
+-- Q holds of the number of the variable that the kind is, if it is one
 abbrev pub InKind : (ℕ → Type 0) → KindTerm → Type 0
 InKind Q (Fixed k) = Unit {0}
 InKind Q (Var n) = Q n
@@ -84,6 +85,7 @@ abbrev mutual
   InTerm P Q (source_term k) = InKind Q k
   InTerm P Q (variable n) = P n
 
+  -- P holds of each type variable of a tuple's parts, and Q of each kind variable
   pub InTerms : (ℕ → Type 0) → (ℕ → Type 0) → Terms → Type 0
   InTerms P Q no_terms = Unit {0}
   InTerms P Q (one_more t ts) = InTerm P Q t × InTerms P Q ts
@@ -97,6 +99,7 @@ abbrev mutual
   height w (source_term k) = 1
   height w (variable n) = w n
 
+  -- the greatest height of a tuple's parts, 0 without parts
   pub heights : (ℕ → ℕ) → Terms → ℕ
   heights w no_terms = 0
   heights w (one_more t ts) = max (height w t) (heights w ts)

@@ -15,7 +15,7 @@ pub struct Agenda {
 }
 
 impl Agenda {
-    /// An agenda with nothing to compare.
+    /// An agenda of unification with nothing to compare.
     pub fn new(alloc: Global) -> Agenda
         ensures { agenda_of result ≡ empty_agenda }
     {

@@ -55,7 +55,7 @@ pub fn resolve_kind(kinds: &[Option<KindTerm>], k: KindTerm) -> KindTerm
     k
 }
 
-/// Puts copies of two types on the stack.
+/// Puts a pair of types on the stack of pairs to compare, as copies, so that variables can be bound meanwhile.
 pub fn push_copies(
     alloc: Global,
     work: &mut Vec<(Ty, Ty)>,
@@ -71,7 +71,8 @@ pub fn push_copies(
     Ok(())
 }
 
-/// Puts the parts of two lists, or of two tuples of one length, on the stack; `false` where the two are neither.
+/// Takes two types apart: puts the pairs of their parts on the stack if both are lists, or tuples of one length;
+/// `false` where they are neither.
 pub fn push_split<'a>(
     work: &mut Vec<(&'a Ty, &'a Ty)>,
     s: &'a Ty,
@@ -106,8 +107,8 @@ pub fn push_split<'a>(
     }
 }
 
-/// The difference of two types. What they are bound to is put on the agenda if it can be taken apart, and then the two
-/// count as the same. Two variables are put there once.
+/// One step of unification: the difference of two types. Where what they are bound to can be taken apart, copies of
+/// that are put on the agenda, two variables once, and the two count as the same.
 pub fn differ<'a>(
     alloc: Global,
     bindings: &'a Bindings,
@@ -143,7 +144,8 @@ pub fn differ<'a>(
     Ok(difference)
 }
 
-/// The difference of two kinds.
+/// What has to be bound to make two kinds of sources equal: nothing where they are the same, or a kind variable; a
+/// clash where no binding does it.
 fn differ_kinds<'a>(kinds: &[Option<KindTerm>], left: KindTerm, right: KindTerm) -> Difference<'a>
     requires falls { FallsByNumber kinds.now }
     requires left { InKind (λ n. n < length kinds.now) left }
@@ -189,8 +191,9 @@ fn is_number(ty: &Ty) -> bool
     }
 }
 
-/// The difference of the free variable `x` and a type that is no variable. `nested` marks the variables that may stand
-/// in what others are bound to.
+/// What has to be bound to make the free variable `x` equal to a type that is no variable: `x` to the type, unless `x`
+/// stands in it or is a number variable and it is no number. `nested` marks the variables that may stand in what
+/// others are bound to.
 fn differ_from_variable<'a>(
     alloc: Global,
     types: &[TypeVariable],
@@ -243,7 +246,8 @@ fn stays_free(types: &[TypeVariable], x: u64, y: u64) -> bool
     }
 }
 
-/// The difference of two free variables: `left` has the number `x`, and `right` the number `y`.
+/// What has to be bound to make two free variables equal: `left` has the number `x`, and `right` the number `y`; one
+/// is bound to the other, unless they are the same.
 fn differ_variables<'a>(
     types: &[TypeVariable],
     x: u64,
@@ -269,7 +273,8 @@ fn differ_variables<'a>(
     }
 }
 
-/// The difference of two types that are no variables, where they are neither two lists nor two tuples of one length.
+/// What has to be bound to make two types equal that are no variables, neither two lists nor two tuples of one length:
+/// for two sources their kinds decide; others are the same base type, or clash.
 fn differ_shapes<'a>(kinds: &[Option<KindTerm>], left: &'a Ty, right: &'a Ty) -> Difference<'a>
     requires falls { FallsByNumber kinds.now }
     requires left { (vs : List Variable) × IsOver (table vs kinds.now) (term_of left.now) }
@@ -295,8 +300,8 @@ fn differ_shapes<'a>(kinds: &[Option<KindTerm>], left: &'a Ty, right: &'a Ty) ->
     }
 }
 
-/// The difference of two resolved types that are neither two lists nor two tuples of one length. `nested` marks the
-/// variables that may stand in what others are bound to.
+/// What has to be bound to make two types equal that are not bound variables, and neither two lists nor two tuples of
+/// one length. `nested` marks the variables that may stand in what others are bound to.
 fn differ_resolved<'a>(
     alloc: Global,
     types: &[TypeVariable],
@@ -326,7 +331,8 @@ fn differ_resolved<'a>(
     }
 }
 
-/// The difference of two types; `None` where what they are bound to is to be taken apart.
+/// What has to be bound to make two types equal, if one binding does it; `None` where what they are bound to has parts
+/// that have to be compared.
 pub fn differ_directly<'a>(
     alloc: Global,
     bindings: &'a Bindings,
@@ -366,7 +372,7 @@ fn are_one_variable(left: &Ty, right: &Ty) -> bool
     }
 }
 
-/// Whether both types are variables that were put down for comparison before.
+/// Whether both types are variables whose bindings were put on the agenda for comparison before.
 fn is_known(seen: &IndexSet<(u64, u64)>, left: &Ty, right: &Ty) -> bool
     ensures { OnTrue result ((a : Assignment) (n : ℕ) → AllEqualBelow a n (variable_pairs seen.now.keys)
         → EqualBelow a n (term_of left.now) (term_of right.now)) }
@@ -380,7 +386,8 @@ fn is_known(seen: &IndexSet<(u64, u64)>, left: &Ty, right: &Ty) -> bool
     }
 }
 
-/// Notes two variables that are put down for comparison; other types are not noted.
+/// Notes a pair of variables whose bindings are put on the agenda, so that they are put there once; other types are
+/// not noted.
 fn note(seen: &mut IndexSet<(u64, u64)>, left: &Ty, right: &Ty) -> Result<(), Memory>
     ensures known { OnOk result ((a : Assignment) (n : ℕ) → AllEqualBelow a n (variable_pairs seen.new.keys)
         → AllEqualBelow a n (variable_pairs seen.old.keys)) }
@@ -400,7 +407,7 @@ fn note(seen: &mut IndexSet<(u64, u64)>, left: &Ty, right: &Ty) -> Result<(), Me
     }
 }
 
-/// Puts the parts of two tuples on the stack.
+/// Puts the pairs of the parts of two tuples of one length on the stack of pairs to compare.
 fn push_parts<'a>(
     work: &mut Vec<(&'a Ty, &'a Ty)>,
     ss: &'a [Ty],
@@ -416,7 +423,7 @@ fn push_parts<'a>(
     Ok(())
 }
 
-/// Whether both types are lists, or tuples of one length.
+/// Whether two types can be compared part by part: both are lists, or tuples of one length.
 fn is_split(s: &Ty, t: &Ty) -> bool
     ensures yes { OnTrue result (IsSplit (term_of s.now) (term_of t.now)) }
     ensures unsplit { OnFalse result (IsSplit (term_of s.now) (term_of t.now) → ⊥) }

@@ -49,7 +49,7 @@ fn count_kinds(kinds: &[Option<KindTerm>]) -> usize
     free
 }
 
-/// 1 for a kind variable that is bound to nothing, else 0.
+/// 1 for a kind variable that is bound to nothing, else 0, to be added up.
 fn kind_count(bound: Option<KindTerm>) -> usize
     ensures { result ≡ one_if_free bound }
 {

@@ -43,7 +43,7 @@ pub fn renamed(alloc: Global, ty: &Ty, types: &[u64], kinds: &[u64]) -> Result<T
     renamed_within(alloc, types, kinds, ty, MOST_LEVELS)
 }
 
-/// How many places the type has: nodes of its tree.
+/// How many nodes the tree of a type has, which are counted as places against a limit of the script.
 pub fn places(ty: &Ty) -> u64 {
     match ty {
         Ty::List(item) => places(item).saturating_add(1),
@@ -58,20 +58,23 @@ pub fn places(ty: &Ty) -> u64 {
     }
 }
 
-/// Takes the places of the type from those that are left; where there are too few, as if memory had run out.
+/// Takes the nodes of the type's tree from the number of places that are left; where there are too few, as if memory
+/// had run out.
 pub fn spend(left: &mut u64, ty: &Ty) -> Result<(), Memory> {
     *left = left.checked_sub(places(ty)).ok_or(Memory)?;
     Ok(())
 }
 
-/// A copy of the type. A type of more than a thousand levels is given up as if memory had run out.
+/// A copy of the type, with the same variables. A type of more than a thousand levels is given up as if memory had run
+/// out.
 pub fn copy(alloc: Global, ty: &Ty) -> Result<Ty, Memory>
     ensures { IfOk result (λ u. term_of u ≡ term_of ty.now) }
 {
     renamed_within(alloc, &[], &[], ty, MOST_LEVELS)
 }
 
-/// Adds the numbers of the variables that stand in the type, if it has at most so many levels.
+/// Adds the numbers of the type's variables to `types`, and those of its kind variables to `kinds`, in the order in
+/// which they stand. A type of more than `levels` levels is given up as if memory had run out.
 fn push_variables(
     types: &mut Vec<u64>,
     kinds: &mut Vec<u64>,
@@ -112,7 +115,7 @@ fn renumbered(news: &[u64], number: u64) -> u64
     }
 }
 
-/// A kind in which the variable has its new number.
+/// A kind of a source with the new number of its variable, by the list `news`; mono and stereo stay.
 fn renumbered_kind(news: &[u64], kind: KindTerm) -> KindTerm
     ensures { result ≡ kind_instance news.now kind }
 {
@@ -122,7 +125,8 @@ fn renumbered_kind(news: &[u64], kind: KindTerm) -> KindTerm
     }
 }
 
-/// The type in which each variable has its new number, if it has at most so many levels.
+/// A copy of the type in which each variable has its new number, by the lists `types` and `kinds`. A type of more than
+/// `levels` levels is given up as if memory had run out.
 fn renamed_within(
     alloc: Global,
     types: &[u64],

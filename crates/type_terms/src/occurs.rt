@@ -41,7 +41,7 @@ pub fn resolve<'a>(types: &'a [TypeVariable], t: &'a Ty) -> &'a Ty
     t
 }
 
-/// Marks the variables of a type.
+/// Marks each type variable that stands in the type, which a variable is about to be bound to.
 pub fn mark(nested: &mut [bool], ty: &Ty)
     requires { InTerm (λ n. n < length nested.old) (λ _. Unit {0}) (term_of ty.now) }
     ensures marked { IsMarked nested.new (term_of ty.now) }
@@ -83,7 +83,7 @@ pub fn occurs_in(
     search(&mut work, &mut seen, types, nested, x, ty)
 }
 
-/// Whether each type variable and each kind variable of the type is one of these.
+/// Whether each type variable and each kind variable that stands in the type is one of these lists'.
 pub fn are_among(
     alloc: Global,
     types: &[TypeVariable],
@@ -97,8 +97,8 @@ pub fn are_among(
     all_among(&mut work, types, kinds, ty)
 }
 
-/// Whether the variable `x` stands in the type, with a stack of what is still to be looked at, and the variables behind
-/// which it was looked.
+/// Whether the variable `x` stands in the type or in what its variables are bound to, by a walk: `work` is the stack
+/// of what is still to be looked at, and `seen` has the variables whose bindings were looked at.
 fn search<'a>(
     work: &mut Vec<&'a Ty>,
     seen: &mut IndexSet<u64>,
@@ -130,7 +130,8 @@ fn search<'a>(
     Err(Memory)
 }
 
-/// Whether each variable of the type is one of these, with a stack of what is still to be looked at.
+/// Whether each variable that stands in the type is one of these lists', by a walk over its parts: `work` is the stack
+/// of what is still to be looked at.
 fn all_among<'a>(
     work: &mut Vec<&'a Ty>,
     types: &[TypeVariable],
@@ -165,7 +166,7 @@ fn is_variable(ty: &Ty, x: u64) -> bool
     }
 }
 
-/// Whether the type has no parts and is no variable.
+/// Whether the type has no parts and is no variable: a base type or a source.
 fn is_leaf(ty: &Ty) -> bool
     ensures { OnTrue result (InTerm (λ _. ⊥) (λ _. Unit {0}) (term_of ty.now)) }
 {
@@ -175,7 +176,7 @@ fn is_leaf(ty: &Ty) -> bool
     }
 }
 
-/// Puts the parts of a tuple on the stack.
+/// Puts the parts of a tuple on the stack of what a walk still has to look at.
 fn push_parts<'a>(work: &mut Vec<&'a Ty>, parts: &'a [Ty]) -> Result<(), Memory>
     ensures { OnOk result (terms work.new.items ≡ terms work.old.items ++ map term_of parts.now) }
 {
@@ -185,7 +186,7 @@ fn push_parts<'a>(work: &mut Vec<&'a Ty>, parts: &'a [Ty]) -> Result<(), Memory>
     Ok(())
 }
 
-/// Puts what is right inside a type on the stack.
+/// Puts the parts of a list or a tuple on the stack of what a walk still has to look at.
 fn push_inside<'a>(work: &mut Vec<&'a Ty>, ty: &'a Ty) -> Result<(), Memory>
     ensures { OnOk result (terms work.new.items ≡ terms work.old.items ++ inside (term_of ty.now)) }
 {
@@ -199,7 +200,8 @@ fn push_inside<'a>(work: &mut Vec<&'a Ty>, ty: &'a Ty) -> Result<(), Memory>
     }
 }
 
-/// Puts what is right below a type on the stack; with `deep` also what a variable is bound to.
+/// Puts the parts of a type on the stack of what a walk still has to look at; with `deep` also what a variable is
+/// bound to.
 fn push_below<'a>(
     work: &mut Vec<&'a Ty>,
     types: &'a [TypeVariable],
@@ -223,7 +225,8 @@ fn push_below<'a>(
     }
 }
 
-/// Whether a walk goes on behind a type: with `nested` it does, behind each variable once.
+/// Whether a walk looks at what a variable is bound to, or at the parts of another type: with `nested`, and at each
+/// variable's binding once, since the variable is added to `seen`. Without `nested` it is never so.
 fn goes_on(seen: &mut IndexSet<u64>, nested: bool, ty: &Ty) -> Result<bool, Memory>
     ensures { IfOk result (λ deep. IsVisit nested deep seen.old.keys seen.new.keys (term_of ty.now)) }
 {
@@ -239,7 +242,8 @@ fn goes_on(seen: &mut IndexSet<u64>, nested: bool, ty: &Ty) -> Result<bool, Memo
     }
 }
 
-/// Whether the type's outermost node is no variable, or one whose number is below that of these type or kind variables.
+/// Whether a type that is a variable, or a source whose kind is one, has one of the first `types` type variables or
+/// `kinds` kind variables; true of any other type. Its parts are not looked at.
 fn is_among(ty: &Ty, types: usize, kinds: usize) -> bool
     ensures { IsTrue result ↔ IsAmong types kinds (term_of ty.now) }
 {

@@ -19,13 +19,13 @@ pub const MOST_PLACES: u64 = 1_048_576;
 /// others.
 pub const PLACES_A_VARIABLE: u64 = 16;
 
-/// Allows the places of one variable more.
+/// Adds to the places (nodes of types) that may be built or compared those that come with one more variable.
 pub fn allow(left: &mut u64) {
     *left = left.saturating_add(PLACES_A_VARIABLE);
 }
 
-/// The type with all that is bound put in, if it has at most so many levels, and at most as many nodes as are left in
-/// `nodes`, from which they are taken.
+/// A copy of the type with all bindings put in, so that only free variables are left. It has at most `levels` levels,
+/// and its nodes are taken from those that are left in `nodes`; where there are too few, as if memory had run out.
 pub fn settle(
     alloc: Global,
     types: &[TypeVariable],

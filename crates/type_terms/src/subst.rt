@@ -77,7 +77,8 @@ impl Subst {
         Ok(())
     }
 
-    /// Takes so many places from those that may be built or compared; where fewer are left, as if memory had run out.
+    /// Takes so many places (nodes of types) from those that may be built or compared; where fewer are left, as if
+    /// memory had run out.
     pub fn spend(&mut self, places: u64) -> Result<(), Memory>
         ensures same { self.new ≡ self.old }
     {
@@ -162,7 +163,7 @@ impl Subst {
         *bound
     }
 
-    /// Whether it is a number variable.
+    /// Whether the type variable of this number is a number variable, one that can only be int or decimal in the end.
     pub fn is_number(&self, var: u64) -> bool
         ensures { result ≡ number_at self.now.types var }
     {
@@ -172,14 +173,14 @@ impl Subst {
         }
     }
 
-    /// How many type variables there are.
+    /// How many type variables the substitution has handed out.
     pub fn type_count(&self) -> usize
         ensures { result ≡ length self.now.types }
     {
         self.bindings.types.len()
     }
 
-    /// How many kind variables there are.
+    /// How many kind variables the substitution has handed out.
     pub fn kind_count(&self) -> usize
         ensures { result ≡ length self.now.kinds }
     {
@@ -196,15 +197,15 @@ impl Subst {
         self.free - later_types - later_kinds
     }
 
-    /// Whether each variable of the type is one of this substitution.
+    /// Whether each variable that stands in the type is one that this substitution has handed out.
     pub fn covers(&self, alloc: Global, ty: &Ty) -> Result<bool, Memory>
         ensures { IfOk result (λ yes. IsTrue yes ↔ IsOver self.now (term_of ty.now)) }
     {
         are_among(alloc, &self.bindings.types, &self.bindings.kinds, ty)
     }
 
-    /// Each assignment to the variables that are bound to nothing, with int or decimal for each number variable, is
-    /// that of a solution.
+    /// A law, by a function that does nothing: each assignment to the variables that are bound to nothing, with int or
+    /// decimal for each number variable, is that of a solution.
     pub fn extends_each_assignment(&self)
         ensures { (p : Assignment) → ((k : ℕ) → number_at self.now.types k ≡ true → IsNumber (p.type_of k))
             → (a : Assignment) × Extends self.now p a }
@@ -212,14 +213,16 @@ impl Subst {
         let _ = &self.bindings.types;
     }
 
-    /// One solution has stereo for each kind variable, and int for each type variable, that is bound to nothing.
+    /// A law, by a function that does nothing: one solution has stereo for each kind variable, and int for each type
+    /// variable, that is bound to nothing.
     pub fn has_defaults(&self)
         ensures { HasDefaults self.now }
     {
         let _ = &self.bindings.types;
     }
 
-    /// What variables are bound to is over variables that are there, and no variable stands in what it is bound to.
+    /// A law, by a function that does nothing: what variables are bound to is over variables that are there, and no
+    /// variable stands in what it is bound to.
     pub fn is_sound(&self)
         ensures { IsSound self.now }
     {

@@ -64,7 +64,7 @@ impl Bindings {
     }
 }
 
-/// Binds the free type variable `x`.
+/// Binds the free type variable `x` to the type.
 fn bind_type(types: &mut [TypeVariable], x: u64, ty: Ty)
     requires inside { x < length types.old }
     requires free { bound_at types.old x ≡ None }
@@ -74,7 +74,7 @@ fn bind_type(types: &mut [TypeVariable], x: u64, ty: Ty)
     variable.bind(ty);
 }
 
-/// Frees the type variable `x`.
+/// Takes the binding of type variable `x` away.
 fn free_type(types: &mut [TypeVariable], x: u64)
     requires { x < length types.old }
     ensures { Frees x types.old types.new }
@@ -83,7 +83,7 @@ fn free_type(types: &mut [TypeVariable], x: u64)
     variable.free();
 }
 
-/// Frees the kind variable `x`.
+/// Takes the binding of kind variable `x` away.
 fn free_kind(kinds: &mut [Option<KindTerm>], x: u64)
     requires { x < length kinds.old }
     ensures { FreesKind x kinds.old kinds.new }
@@ -91,7 +91,7 @@ fn free_kind(kinds: &mut [Option<KindTerm>], x: u64)
     kinds[x as usize] = None;
 }
 
-/// Frees the type variables of a trail.
+/// Takes the bindings of these type variables away again, which unification has bound in vain.
 pub fn free_types(types: &mut [TypeVariable], trail: &[u64])
     requires { (vs : List Variable) × IsTrail trail.now vs types.old }
     ensures { (vs : List Variable) → IsTrail trail.now vs types.old → types.new ≡ vs }
@@ -101,7 +101,7 @@ pub fn free_types(types: &mut [TypeVariable], trail: &[u64])
     }
 }
 
-/// Frees the kind variables of a trail.
+/// Takes the bindings of these kind variables away again, which unification has bound in vain.
 pub fn free_kinds(kinds: &mut [Option<KindTerm>], trail: &[u64])
     requires { (ks : List (Option KindTerm)) × IsKindTrail trail.now ks kinds.old }
     ensures { (ks : List (Option KindTerm)) → IsKindTrail trail.now ks kinds.old → kinds.new ≡ ks }

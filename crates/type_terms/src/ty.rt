@@ -42,7 +42,7 @@ pub enum Ty {
 }
 
 impl Ty {
-    /// Which base type it is, if it is one.
+    /// Which base type it is; `None` for a list, a tuple, a source or a variable.
     pub fn base(&self) -> Option<Base>
         ensures { result ≡ base_of (term_of self.now) }
     {

@@ -47,14 +47,14 @@ impl TypeVariable {
         }
     }
 
-    /// Whether it can only be int or decimal in the end.
+    /// Whether it is a number variable, one that can only be int or decimal in the end.
     pub fn is_number(&self) -> bool
         ensures { result ≡ self.now.number }
     {
         self.number
     }
 
-    /// What it is bound to.
+    /// What the variable is bound to; `None` where it is free.
     pub fn bound(&self) -> Option<&Ty>
         ensures { option_map term_of (option_copied result) ≡ self.now.bound }
     {
@@ -64,7 +64,7 @@ impl TypeVariable {
         }
     }
 
-    /// 1 if it is bound to nothing, else 0.
+    /// 1 if the variable is bound to nothing, else 0, to be added up.
     pub fn free_count(&self) -> usize
         ensures { result ≡ one_if_free self.now.bound }
     {
@@ -74,14 +74,14 @@ impl TypeVariable {
         }
     }
 
-    /// Binds it.
+    /// Binds the variable to the type.
     pub fn bind(&mut self, ty: Ty)
         ensures { self.new ≡ record { number = self.old.number; bound = Some (term_of ty) } }
     {
         self.bound = Some(ty);
     }
 
-    /// Takes its binding away.
+    /// Takes the variable's binding away.
     pub fn free(&mut self)
         ensures { self.new ≡ record { number = self.old.number; bound = None } }
     {

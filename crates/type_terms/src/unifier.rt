@@ -26,7 +26,7 @@ struct Trail {
 }
 
 impl Trail {
-    /// A trail of no variables.
+    /// A trail of no variables: none was bound yet.
     fn new(alloc: Global) -> Trail
         ensures types { result.types.items ≡ [] }
         ensures kinds { result.kinds.items ≡ [] }
@@ -145,7 +145,7 @@ fn unify_deeply(
     }
 }
 
-/// Frees again the variables that a trail tells of.
+/// Takes the bindings of the trail's variables away again, after two types turned out not to be equal.
 fn undo(bindings: &mut Bindings, trail: &Trail)
     requires { (s : Table) × Tells trail.now s (table_of bindings.old) }
     ensures undone { (s : Table) → Tells trail.now s (table_of bindings.old) → table_of bindings.new ≡ s }
@@ -155,7 +155,8 @@ fn undo(bindings: &mut Bindings, trail: &Trail)
     free_kinds(&mut bindings.kinds, &trail.kinds);
 }
 
-/// Takes the places of the pairs from number `first` on from those that are left.
+/// Takes the nodes of the types in the pairs from number `first` on from the places that are left; where there are too
+/// few, as if memory had run out.
 fn spend_behind(left: &mut u64, pairs: &[(Ty, Ty)], first: usize) -> Result<(), Memory> {
     for i in first..pairs.len() {
         spend(left, &pairs[i].0)?;
@@ -164,8 +165,8 @@ fn spend_behind(left: &mut u64, pairs: &[(Ty, Ty)], first: usize) -> Result<(), 
     Ok(())
 }
 
-/// Takes up one pair: binds the variable that it forces, or puts what the two are bound to on the agenda; `false` where
-/// they differ in shape.
+/// One step of unification, for one pair of types: binds the variable that has to be bound, and notes it in the trail,
+/// or puts what the two are bound to on the agenda; `false` where they cannot be made equal.
 fn take_up(
     alloc: Global,
     bindings: &mut Bindings,
@@ -255,8 +256,8 @@ fn solve(
     compare(alloc, bindings, trail, &mut agenda, left, right)
 }
 
-/// Binds variables until the two types are the same, or differ in shape, with an agenda on which nothing stands at
-/// first.
+/// Binds variables until the two types are the same, by taking pairs from the agenda, on which nothing stands at
+/// first; `false` where they cannot be made equal. The trail tells which variables were bound.
 fn compare(
     alloc: Global,
     bindings: &mut Bindings,

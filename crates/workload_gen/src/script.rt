@@ -5,7 +5,7 @@ ghost use Rattle.workload_gen.specs.Files.{source_names, track_name};
 
 use std::alloc::{AllocError, Global};
 
-/// The name of audio file `number`.
+/// The name of the audio file of this number, such as `t7.wav`.
 pub fn track_name(alloc: Global, number: u32) -> Result<String, AllocError>
     ensures { IfOk result (λ name. string_bytes name ≡ track_name number) }
 {
@@ -41,7 +41,7 @@ pub fn script(alloc: Global, last: u32) -> Result<String, AllocError>
     Ok(text)
 }
 
-// Adds the statements that set the rate and the tick.
+// Adds the statements of the script that set the rate and the length of a tick.
 fn push_settings(text: &mut String) -> Result<(), AllocError>
     ensures { OnOk result (string_bytes text.new ≡ string_bytes text.old ++ settings) }
 {
@@ -49,7 +49,7 @@ fn push_settings(text: &mut String) -> Result<(), AllocError>
     Ok(())
 }
 
-// Adds the statements of the two outputs.
+// Adds the statements of the script's two outputs: a crossfade of the list, and the mix in a clock of its own.
 fn push_outputs(text: &mut String) -> Result<(), AllocError>
     ensures { OnOk result (string_bytes text.new ≡ string_bytes text.old ++ outputs) }
 {
@@ -71,7 +71,7 @@ fn push_players(alloc: Global, text: &mut String, last: u32) -> Result<(), Alloc
     Ok(())
 }
 
-// Adds the statement that makes a source of an audio file.
+// Adds the statement that makes a source of the audio file of this number, at half its volume.
 fn push_player(alloc: Global, text: &mut String, number: u32) -> Result<(), AllocError>
     ensures { OnOk result (string_bytes text.new ≡ string_bytes text.old ++ source_name number
         ++ codes " = amplify(0.5, single(\"" ++ track_name number ++ codes "\"))\n") }
@@ -94,7 +94,7 @@ fn push_source_names(alloc: Global, text: &mut String, last: u32) -> Result<(), 
     Ok(())
 }
 
-// Adds a comma, a blank and the name of a source.
+// Adds a comma, a blank and the name of the source of this number.
 fn push_next_name(alloc: Global, text: &mut String, number: u32) -> Result<(), AllocError>
     ensures { OnOk result (string_bytes text.new ≡ string_bytes text.old ++ codes ", " ++ source_name number) }
 {
@@ -102,7 +102,7 @@ fn push_next_name(alloc: Global, text: &mut String, number: u32) -> Result<(), A
     push_source_name(alloc, text, number)
 }
 
-// Adds the name of the source of an audio file.
+// Adds the name of the source that plays the audio file of this number, such as `x7`.
 fn push_source_name(alloc: Global, text: &mut String, number: u32) -> Result<(), AllocError>
     ensures { OnOk result (string_bytes text.new ≡ string_bytes text.old ++ source_name number) }
 {
@@ -110,7 +110,7 @@ fn push_source_name(alloc: Global, text: &mut String, number: u32) -> Result<(),
     text.push_str(&number.to_string(alloc)?)
 }
 
-// Adds the name of an audio file.
+// Adds the name of the audio file of this number, such as `t7.wav`.
 fn push_track_name(alloc: Global, text: &mut String, number: u32) -> Result<(), AllocError>
     ensures { OnOk result (string_bytes text.new ≡ string_bytes text.old ++ track_name number) }
 {

@@ -12,7 +12,8 @@ use wav_io::header;
 /// How many samples a second each audio file has.
 const RATE: u32 = 8000;
 
-/// The bytes of the next audio file: its length, from 1 to 4000 samples, takes one word, and so does each sample.
+/// The bytes of the next audio file, of random samples: its length, from 1 to 4000 samples, takes one word of the
+/// seed, and so does each sample.
 pub fn track(alloc: Global, words: &mut SeedWords) -> Result<Vec<u8>, Memory>
     ensures bytes { IfOk result (λ bytes. (seed begin : ℕ) → words.old ≡ words_from seed begin
         → bytes.items ≡ track_bytes seed begin) }
@@ -29,7 +30,7 @@ pub fn track(alloc: Global, words: &mut SeedWords) -> Result<Vec<u8>, Memory>
     Ok(bytes)
 }
 
-// Adds the bytes of `count` samples, each of which takes a word.
+// Adds the bytes of `count` random samples, each of which takes the next of the seed's words.
 fn draw(words: &mut SeedWords, count: u32, bytes: &mut Vec<u8>) -> Result<(), Memory>
     ensures bytes { OnOk result ((seed from : ℕ) → words.old ≡ words_from seed from
         → bytes.new.items ≡ bytes.old.items ++ drawn_bytes seed from count) }
@@ -43,7 +44,7 @@ fn draw(words: &mut SeedWords, count: u32, bytes: &mut Vec<u8>) -> Result<(), Me
     Ok(())
 }
 
-// The sample of the next word, from -10000 to 10000. It uses up the word.
+// The sample, from -10000 to 10000, that the next of the seed's random words stands for. It uses up the word.
 fn next_sample(words: &mut SeedWords) -> i16
     ensures sample { (seed n : ℕ) → words.old ≡ words_from seed n → result ≡ sample_of (word seed n) }
     ensures words { (seed n : ℕ) → words.old ≡ words_from seed n → words.new ≡ words_from seed (suc n) }
@@ -51,7 +52,7 @@ fn next_sample(words: &mut SeedWords) -> i16
     (words.next_word() % 20001) as i16 - 10000
 }
 
-// Adds the two bytes of a sample.
+// Adds a sample to the bytes of a file, as two bytes, the lower one first.
 fn push_sample(bytes: &mut Vec<u8>, sample: i16) -> Result<(), AllocError>
     ensures { OnOk result (bytes.new.items ≡ bytes.old.items ++ sample_bytes sample) }
 {
