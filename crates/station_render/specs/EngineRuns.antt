@@ -20,7 +20,7 @@ use Rattle.station_render.specs.Renders.{IsReady, order_of, written}
 use Rattle.station_render.specs.declared.job.Job.{Job}
 use Rattle.station_render.specs.declared.output_sink.OutputSink.{OutputSink}
 
--- every engine of a job has made the same number of ticks, in some run of the job's plan on its clocks
+-- all engines of a job have made the same number of ticks, under some setting with the job's plan and clocks
 abbrev pub HaveEnded : {S : Type 0} → Job → List (ClockEngine S) → Type 0
 HaveEnded job engines = (setting : Setting) × (world : Setting) × (ticks : ℕ) × (setting.plan ≡ job.plan)
     × (setting.clocks ≡ job.ready.clocks.of) × ArePast setting world ticks engines
@@ -38,9 +38,8 @@ pub record AreOpened {O : Type 0} (told : O
   pub many : length groups ≡ length engines
   pub taken : AreEmptyBelow (length engines) groups
 
--- The engines of so many clocks made all ticks in this way, in a lawful run: each stands for its ticks and has written
--- their bytes, one piece for each tick, given what the takes got. `counts` and `logs` are what the run's buffers
--- answered.
+-- The engines of so many clocks made all ticks, as some lawful run in this way does. Each has written the bytes of its
+-- ticks, one piece for each tick. `counts` and `logs` are what the run's buffers answered.
 pub record RanAll {S : Type 0} (told : S → SinkTold) (setting : Setting) (clocks ticks : ℕ) (way : Way)
     (old new : List (ClockEngine S)) (counts : List Counts) (logs : List (List Answers)) : Type 0 where
   pub run : Run

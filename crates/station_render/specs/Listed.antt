@@ -28,14 +28,15 @@ pub record AreTold (least : ℕ) (sink : SinkTold) : Type 0 where
 abbrev pub HasHeader : SinkTold → Type 0
 HasHeader sink = sink.faults ≡ 0 → ForSome sink.held (λ held. 44 ≤ length held)
 
--- if the shelf lists its closings, in `closed`, the sink of an output tells what the list will say of it: this name,
--- its size, a piece at least, and a whole header, unless it failed
+-- An output's sink tells all that the shelf's list of closed files will say of it: this name, its size, a piece at
+-- least, and a whole header unless it failed. Where the shelf keeps no such list (`closed` is None), nothing is said.
 abbrev pub WillClose : {O : Type 0} → (told : O → SinkTold) → (closed : Option (List Closing)) → List ℕ → OutputSink O
     → Type 0
 WillClose told closed name output = ForSome closed (λ before. ((told output.sink).name ≡ Some name)
     × (AreTold 1 (told output.sink) × HasHeader (told output.sink)))
 
--- a closing lists the last state of a sink: its name, its size, how many bytes and pieces it got, and no fault
+-- an entry of the list of closed files says what the sink last told: its name, its size, how many bytes and pieces it
+-- got, and no fault
 pub record EndsAs (closing : Closing) (last : SinkTold) : Type 0 where
   pub named : last.name ≡ Some closing.name
   pub size_is : size_of last ≡ Some closing.room
@@ -45,8 +46,8 @@ pub record EndsAs (closing : Closing) (last : SinkTold) : Type 0 where
   pub pieces_are : last.appends ≡ Some closing.pieces
   pub sound : closing.faults ≡ 0
 
--- if the shelf lists its closings, this is the one of an output's sink, once that got the zero byte that it owes, if
--- any
+-- This entry is what the shelf will list when an output's sink is closed, after it got the zero byte that it owes, if
+-- any. Where the shelf keeps no such list, nothing is said.
 abbrev pub WillList : {O : Type 0} → (told : O → SinkTold) → (closed : Option (List Closing)) → Closing → OutputSink O
     → Type 0
 WillList told closed closing output = ForSome closed (λ before. (last : SinkTold)

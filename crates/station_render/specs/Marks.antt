@@ -11,11 +11,11 @@ use Rattle.stations.specs.Outputs.{OutputFile}
 use Rattle.station_render.specs.Sinks.{lists_of}
 use Rattle.station_render.specs.declared.job.Job.{Job}
 
--- a kept mark, as a cue file has it: its instant and its title
+-- a mark that an engine kept (where a track begins in an output), as an entry of a cue file: its instant and its title
 abbrev pub cue_of : CueMark → Cue
 cue_of mark = record { at = mark.at; title = mark.title }
 
--- the cues of each output, by the marks that were kept of it
+-- the cue entries of each output, from the marks that the engines kept of it
 abbrev pub cues_of : List (Vec CueMark Global) → List (List Cue)
 cues_of marks = map (map cue_of) (lists_of marks)
 

@@ -23,7 +23,8 @@ pub record AreReady {S : Type 0} (told : S → SinkTold) (job : Job) (engines : 
   pub at : AreAt (setting_by job) engines
   pub over : AreOver told job.plan job.ticks (setting_by job) engines
 
--- The engines of a job made their ticks in this way: all of them if the run is done, and otherwise a part.
+-- The engines of a job, `old` before and `new` after, ran their ticks in this way: all of them if the run ended as
+-- done, and otherwise some.
 pub record HaveTicked {S : Type 0} (told : S
     → SinkTold) (job : Job) (way : Way) (old new : List (ClockEngine S)) (run : RunEnd) : Type 0 where
   pub all : run.end ≡ Done
@@ -38,7 +39,8 @@ pub record HaveOpened {O : Type 0} (told : O → SinkTold) (shelf : ShelfTold) (
   pub ready : AreReady (output_told told) job engines
   pub keeping : AreKeeping job.cues engines
 
--- the outputs of a job were created, and no more was done on the shelf
+-- the outputs of a job were created on a shelf, and nothing else was done there: no file was changed and none was
+-- closed
 pub record OnlyOpened (job : Job) (old new : ShelfTold) : Type 0 where
   pub files_kept : new.files ≡ old.files
   pub made : new.created ≡ after_making (names_in job.plan.sinks) old.created
@@ -46,7 +48,8 @@ pub record OnlyOpened (job : Job) (old new : ShelfTold) : Type 0 where
   pub reads_grew : old.reads ≤ new.reads
   pub writes_grew : old.writes ≤ new.writes
 
--- the outputs of a job were opened by a shelf that told this, and then the engines made their ticks in this way
+-- A rendering may go on to close its outputs: they were opened by a shelf that told this, and then the engines made
+-- their ticks in this way.
 pub record MayClose {O : Type 0} (told : O → SinkTold) (shelf : ShelfTold) (job : Job) (way : Way)
     (order : List ℕ) (groups : List (List (OutputSink O))) (engines : List (ClockEngine (OutputSink O)))
     (run : RunEnd) : Type 0 where
