@@ -137,12 +137,13 @@ closed_windows buffer = buffer.closed
 abbrev pub planned : BufferPlan → LocalBuffer
 planned buffer = empty_buffer buffer.capacity
 
--- the answers of a window as nested pairs, which code to numbers
+-- how the answers of a window are coded as a number, by way of pairs, so that contracts may see a value that holds them
 abbrev pub answers_coded : Coded Answers
 answers_coded = code_by (List Bool × List Bool) (coded× (coded_list coded_bool) (coded_list coded_bool))
     (λ a. (a.puts, a.takes)) (λ p. record { puts = p.0; takes = p.1 }) (λ _. refl)
 
--- a buffer as nested pairs, which code to numbers
+-- how a buffer that one thread keeps is coded as a number, by way of nested pairs, so that contracts may see a value
+-- that holds it
 abbrev pub buffer_coded : Coded LocalBuffer
 buffer_coded =
     code_by (ℕ × (List (List Cell) × (List Answers × Answers)))

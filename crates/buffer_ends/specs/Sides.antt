@@ -12,7 +12,7 @@ pub record Side : Type 0 where
   pub buffer : ℕ
   pub window : Window
 
--- an end as nested pairs, which code to numbers
+-- how a buffer's end is coded as a number, by way of pairs, so that contracts may see a value that holds it
 abbrev pub side_coded : Coded Side
 side_coded = code_by (ℕ × Window) (coded× coded_ℕ window_coded) (λ s. (s.buffer, s.window)) (λ p. record {
   buffer = p.0;

@@ -24,15 +24,15 @@ pub record IsSound (sound : Sound) : Type 0 where
 abbrev pub sample_at : List ℤ → ℕ → ℤ
 sample_at samples at = slice_index_or samples at (pos 0)
 
--- the left sample of a cell in a source of kind `kind`, of a file's block `at`; of a stereo file in a mono source it is
--- half the sum of the block, rounded toward zero
+-- The left sample that block `at` of a file gives. The first kind is the file's, the last that of the source that plays
+-- it. A stereo file in a mono source gives half the sum of the block, rounded toward zero.
 abbrev pub left_at : Kind → List ℤ → Kind → ℕ → ℤ
 left_at Mono samples kind at = sample_at samples at
 left_at Stereo samples Stereo at = sample_at samples (2 * at)
 left_at Stereo samples Mono at = int_div (sample_at samples (2 * at) +ℤ sample_at samples (2 * at + 1)) (pos 2)
 
--- the right sample of a cell in a source of the second kind, of a file's block `at`: of a mono file its only one, and 0
--- in a mono source
+-- The right sample that block `at` of a file gives. The first kind is the file's, the last that of the source that
+-- plays it. A mono file gives its only sample, and in a mono source it is always 0.
 abbrev pub right_at : Kind → List ℤ → Kind → ℕ → ℤ
 right_at source samples Mono at = pos 0
 right_at Mono samples Stereo at = sample_at samples at

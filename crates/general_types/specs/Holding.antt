@@ -68,7 +68,7 @@ pub record IsHeldBy (s : Table) (names : List Term) (h : HeldVariables) : Type 0
   pub behind : (a b : Assignment) → Solves a s → Solves b s → (n : ℕ) → AgreeBelow h n a b → AgreeOnPassed h (suc n) a b
   pub counted : AreCounted s h
 
--- held variables as nested pairs, which code to numbers
+-- how held variables are coded as a number, by way of nested pairs, so that contracts may see a value that holds them
 abbrev pub held_code : Coded HeldVariables
 held_code =
     code_by (List ℕ × (List ℕ
