@@ -30,8 +30,9 @@ pub struct ThreadTaps<'a, R> {
 }
 
 impl<'a, R> ThreadTaps<'a, R> {
-    /// The taps of one clock. Each list of ends goes from the buffer with the largest number to the one with the
-    /// smallest, and has each at most once.
+    /// The buffers of one clock (its taps): those that it keeps alone, and its ends of those shared with other
+    /// clocks. Each list of ends goes from the buffer with the largest number to the one with the smallest, and has
+    /// each at most once.
     pub fn new(
         rt: &'a R,
         local: LocalTaps,
@@ -77,7 +78,8 @@ impl<'a, R> ThreadTaps<'a, R> {
         Ok(())
     }
 
-    /// Hands out the lists and the ends, with the answers of the calls.
+    /// Gives the taps up, and hands out the buffers kept alone and the ends of the shared ones, with the answers of
+    /// the calls.
     pub fn into_parts(self) -> (LocalTaps, Vec<PutEnd<'a>>, Vec<TakeEnd<'a>>)
         ensures { (result.0 ≡ self.entry.local) × (result.1 ≡ self.entry.puts) × (result.2 ≡ self.entry.takes) }
     {
@@ -114,7 +116,8 @@ impl<'a, R> ThreadTaps<'a, R> {
         close_at(alloc, &mut self.puts, place, takes, at)
     }
 
-    /// Takes out the ends that take, so that their windows can be closed.
+    /// Takes out the clock's ends that take, so that the windows of their buffers can be closed together with the
+    /// clocks that put.
     pub fn lend_takes(&mut self, alloc: Global) -> Vec<TakeEnd<'a>>
         ensures lent { result.items ≡ self.old.takes.items }
         ensures falling { Falling result.items }

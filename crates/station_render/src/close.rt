@@ -128,7 +128,7 @@ fn close_each<S: Shelf>(
     others
 }
 
-// Whether all still goes well, after the last byte and the closing of a sink.
+// Whether all still goes well: it did before, the last byte of a sink was taken, and the sink was closed.
 fn still_well(well: bool, ended: Result<(), Failed>, closed: Result<(), Failed>) -> bool
     ensures before { result ≡ true → well ≡ true }
     ensures unwell { well ≡ false → result ≡ false }
@@ -139,7 +139,7 @@ fn still_well(well: bool, ended: Result<(), Failed>, closed: Result<(), Failed>)
     well && ended.is_ok() && closed.is_ok()
 }
 
-// Takes the first sink of this clock.
+// Takes the first sink of this clock out of `groups`, the list of each clock's sinks.
 fn take_first<O>(groups: &mut Vec<Vec<O>>, clock: u32) -> O
     requires { (first : O) × (rest : List O) × (slice_get (lists_of groups.old.items) clock ≡ Some (first ∷ rest)) }
     ensures { WasTaken clock (lists_of groups.old.items) result (lists_of groups.new.items) }
@@ -147,7 +147,7 @@ fn take_first<O>(groups: &mut Vec<Vec<O>>, clock: u32) -> O
     groups[clock as usize].remove(0)
 }
 
-// Lets go of lists without sinks.
+// Frees the lists of the clocks' sinks, once all are empty.
 fn end_all<O>(groups: Vec<Vec<O>>)
     requires { AreAllEmpty (lists_of groups.items) }
 {

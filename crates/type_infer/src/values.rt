@@ -69,7 +69,7 @@ pub fn choice_type(
     }
 }
 
-/// A type variable and the uses that were found, as one value.
+/// An expression that was typed, with the type variable and the uses that were found, as one value.
 fn noted(subst: &Subst, var: u64, uses: Vec<FoundUse>) -> TypedExpr
     ensures { IsNoted subst.now var uses.items result }
 {
