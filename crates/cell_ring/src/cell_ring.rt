@@ -40,7 +40,7 @@ impl Model for CellRing {
 }
 
 impl CellRing {
-    /// An empty ring, with room for `room` cells.
+    /// An empty ring (a bounded queue of cells), with room for `room` cells.
     pub fn new(alloc: Global, room: u32) -> Result<CellRing, Memory>
         ensures { IfOk result (λ ring. ring ≡ record { cells = []; room = room }) }
     {
@@ -50,7 +50,7 @@ impl CellRing {
         Ok(CellRing { left, right, marks })
     }
 
-    /// How many cells it holds.
+    /// How many cells the ring holds.
     pub fn len(&self) -> u32
         ensures len { result ≡ length self.now.cells }
         ensures within { result ≤ self.now.room }
@@ -58,14 +58,14 @@ impl CellRing {
         self.left.len() as u32
     }
 
-    /// How many cells it has room for.
+    /// How many cells the ring has room for in all.
     pub fn room(&self) -> u32
         ensures { result ≡ self.now.room }
     {
         self.left.capacity() as u32
     }
 
-    /// The first cell; `None` if there is none.
+    /// The cell at the front, which goes first; `None` if there is none.
     pub fn front(&self) -> Option<Cell>
         ensures { result ≡ slice_get self.now.cells 0 }
     {
@@ -135,7 +135,7 @@ impl CellRing {
         self.marks.push(false, title, left.len() as u32);
     }
 
-    /// Takes the first cell away, if there is one.
+    /// Drops the cell at the front, if there is one.
     pub fn pop(&mut self)
         ensures { self.new ≡ record { cells = drop 1 self.old.cells; room = self.old.room } }
     {
@@ -144,7 +144,7 @@ impl CellRing {
         self.marks.drop_front(1);
     }
 
-    /// Moves the samples of the first cells out, as many as the slices are long.
+    /// Takes the cells at the front, as many as the slices are long, and writes their samples into the slices.
     pub fn take_into(&mut self, left: &mut [i16], right: &mut [i16])
         requires same { length right.old ≡ length left.old }
         requires there { length left.old ≤ length self.old.cells }
@@ -159,7 +159,8 @@ impl CellRing {
     }
 }
 
-// The cell of a left sample, a right sample and a mark; `None` where one is missing.
+// The cell of a left sample, a right sample and a mark (title, and whether a track begins); `None` where one of the
+// three is missing.
 pub(crate) fn slot_in(left: Option<i16>, right: Option<i16>, mark: Option<CellMark>) -> Option<Cell>
     ensures { result ≡ slot_in left right mark }
 {

@@ -56,7 +56,8 @@ impl Frame {
         })
     }
 
-    // The runs of marks, the left samples and the right samples of its cells.
+    // The cells of the frame as lists side by side: the runs of their marks, their left samples and their right
+    // samples.
     pub(crate) fn lanes(&self) -> (&[MarkRun], &[i16], &[i16])
         ensures cells { cells_in result.1.now result.2.now (marks_in result.0.now) ≡ self.now.cells }
         ensures left { length result.1.now ≡ length (marks_in result.0.now) }
@@ -75,7 +76,7 @@ impl Frame {
             && are_samples(&self.right, &other.right)
     }
 
-    /// Drops its cells; the room stays.
+    /// Drops all cells of the frame, for the next tick; the room stays.
     pub fn clear(&mut self)
         ensures { self.new ≡ record { cells = []; room = self.old.room } }
     {
@@ -107,7 +108,7 @@ impl Frame {
     }
 }
 
-// Whether two lists of runs are equal.
+// Whether two lists of runs of marks are equal.
 fn are_runs(one: &[MarkRun], other: &[MarkRun]) -> bool
     ensures { (result ≡ true) ↔ (one.now ≡ other.now) }
 {
@@ -121,7 +122,7 @@ fn are_samples(one: &[i16], other: &[i16]) -> bool
     one == other
 }
 
-// Appends samples to a list that has room for them.
+// Appends samples of one side to a list that has room for them.
 fn put_samples(into: &mut Vec<i16>, samples: &[i16])
     requires { vec_len into.old + length samples.now ≤ vec_capacity into.old }
     ensures items { into.new.items ≡ into.old.items ++ samples.now }

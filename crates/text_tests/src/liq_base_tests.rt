@@ -18,7 +18,7 @@ const PIECES: &[(&str, Result<(), Failed>, &str)] = &[
     ("f", Err(Failed), "abcde"),
 ];
 
-// A piece has this answer, and this is what the sink holds after it.
+// Appends a piece to a sink in memory, and checks the answer and what the sink holds after it.
 fn check_piece(
     rt: &impl Abort,
     sink: &mut MemSink,
@@ -30,6 +30,7 @@ fn check_piece(
     assert!(rt; sink.held() == held.as_bytes(), "after {piece}");
 }
 
+// Appends the piece of each row to a sink in memory, and checks the answer and what the sink holds.
 fn check_pieces(rt: &impl Abort, sink: &mut MemSink, rows: &[(&str, Result<(), Failed>, &str)]) {
     for row in rows {
         let (piece, answer, held) = *row;
@@ -43,6 +44,7 @@ fn failing_sink(alloc: Global) -> Result<MemSink, Memory> {
     MemSink::new(alloc, 5, fails)
 }
 
+// A sink in memory takes pieces up to its room, and fails at the appends at which it was told to.
 #[test]
 fn a_sink_fails_where_it_is_told_to(rt: HostRuntime) -> Result<(), Fail> {
     let mut sink = failing_sink(rt.alloc())?;
@@ -70,6 +72,7 @@ fn read_one(
     (answer, into.len())
 }
 
+// Reads the file of each row from a shelf in memory, and checks the answer and how many bytes were read by then.
 fn check_reads(
     rt: &impl Abort,
     shelf: &mut MemShelf,
@@ -92,6 +95,7 @@ fn shelf(alloc: Global) -> Result<MemShelf, Memory> {
     Ok(shelf)
 }
 
+// A shelf in memory reads the files that it has, up to the allowed size, and fails where it was told to.
 #[test]
 fn a_shelf_reads_what_it_has(rt: HostRuntime) -> Result<(), Fail> {
     let mut shelf = shelf(rt.alloc())?;
@@ -119,6 +123,7 @@ fn look_once(
     (answer, into.len())
 }
 
+// Looks at the file of each row on a shelf in memory, and checks the answer and how many bytes were read by then.
 fn check_looks(
     rt: &impl Abort,
     shelf: &mut MemShelf,
@@ -134,6 +139,7 @@ fn check_looks(
     }
 }
 
+// A look at a file on a shelf in memory answers its size as a read would, and fails where it was told to.
 #[test]
 fn a_shelf_in_memory_is_looked_at_by_reading(rt: HostRuntime) -> Result<(), Fail> {
     let mut shelf = shelf(rt.alloc())?;
@@ -159,6 +165,7 @@ fn shelf_faults(alloc: Global) -> Result<String, AllocError> {
     format!(in alloc; "{memory}, {failed}")
 }
 
+// The faults of devices and of shelves are printed as their messages.
 #[test]
 fn faults_are_printed(rt: HostRuntime) -> Result<(), Fail> {
     let want = "out of memory, a device failed";

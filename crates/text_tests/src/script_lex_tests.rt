@@ -147,6 +147,8 @@ const BLANKS: &[(&str, &str)] = &[
     ("#\n#\n1# é(", "Int(1)@4..5 "),
 ];
 
+// The lexer makes the listed tokens of each text: words and signs, numbers, times, and texts with blanks and
+// comments.
 #[test]
 fn texts_have_their_tokens(rt: HostRuntime) -> Result<(), Fail> {
     for rows in [WORDS, NUMBERS, TIMES, BLANKS] {
@@ -155,6 +157,7 @@ fn texts_have_their_tokens(rt: HostRuntime) -> Result<(), Fail> {
     Ok(())
 }
 
+// Each fault of the lexer is printed as its message.
 #[test]
 fn faults_are_printed(rt: HostRuntime) -> Result<(), Fail> {
     let first = LexFault::BadByte(3);
