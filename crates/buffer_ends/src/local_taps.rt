@@ -126,10 +126,13 @@ impl Taps for LocalTaps {
 
     ghost same_trans = { λ s t u a b. same_buffers_trans s t u a b };
 
+    // Takes a chunk from the buffer of this number, which the clock keeps alone; nothing where it is empty.
     fn take(&mut self, buffer: u32) -> Result<Option<Chunk>, Memory> {
         self.take_of(buffer)
     }
 
+    // Puts a chunk into the buffer of this number, which the clock keeps alone. It comes back where the buffer is
+    // full or memory is refused.
     fn give(&mut self, buffer: u32, chunk: Chunk) -> Result<Gave, (Chunk, Memory)> {
         self.give_to(buffer, chunk)
     }

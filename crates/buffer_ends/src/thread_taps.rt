@@ -186,6 +186,8 @@ impl<'a, R: Wait> Taps for ThreadTaps<'a, R> {
       same_buffers_trans s.local t.local u.local a.2 b.2,
     ) };
 
+    // Takes a chunk from the buffer of this number: at the clock's end, if it has one that takes, and otherwise from
+    // the list that it keeps alone.
     fn take(&mut self, buffer: u32) -> Result<Option<Chunk>, Memory> {
         match take_place(&self.takes, buffer) {
             Some(place) => take_at(self.rt, &mut self.takes, place),
@@ -193,6 +195,8 @@ impl<'a, R: Wait> Taps for ThreadTaps<'a, R> {
         }
     }
 
+    // Puts a chunk into the buffer of this number: at the clock's end, if it has one that puts, and otherwise into
+    // the list that it keeps alone.
     fn give(&mut self, buffer: u32, chunk: Chunk) -> Result<Gave, (Chunk, Memory)> {
         match put_place(&self.puts, buffer) {
             Some(place) => give_at(self.rt, &mut self.puts, place, chunk),
