@@ -6,7 +6,7 @@ use Rattle.buffer_ends.specs.Local.{LocalBuffer, held, on, Leads, empty_list, no
 use Rattle.buffer_queue.specs.Window.{is_chunk}
 use Rattle.buffer_ends.specs.declared.counts.Counts.{Counts}
 
--- one of these ends is an end of buffer b
+-- one of a clock's ends (those of buffers shared with other clocks) is an end of buffer b
 abbrev pub Has : List Side → ℕ → Type 0
 Has sides b = (k : ℕ) × (k < length sides) × ((d : Side) → (slice_index_or sides k d).buffer ≡ b)
 

@@ -22,11 +22,11 @@ pub record LocalBuffer : Type 0 where
   pub closed : List Answers
   pub current : Answers
 
--- the answers of a window before any call
+-- the answers of a window in which no call was made yet
 abbrev pub no_answers : Answers
 no_answers = record { puts = []; takes = [] }
 
--- a buffer of at most `capacity` chunks before any call
+-- a buffer that one thread keeps, for at most `capacity` chunks, before any call
 abbrev pub empty_buffer : ℕ → LocalBuffer
 empty_buffer capacity = record { capacity = capacity; chunks = []; closed = []; current = no_answers }
 
@@ -129,11 +129,11 @@ closed_first zero buffers = buffers
 closed_first (suc n) [] = []
 closed_first (suc n) (buffer ∷ buffers) = closed buffer ∷ closed_first n buffers
 
--- the answers of a buffer's closed windows, the oldest first
+-- the answers of a buffer's closed windows, window by window and the oldest first
 abbrev pub closed_windows : LocalBuffer → List Answers
 closed_windows buffer = buffer.closed
 
--- a buffer of a plan before any call
+-- a buffer as a plan asks for it, before any call: empty, and with the capacity of the plan
 abbrev pub planned : BufferPlan → LocalBuffer
 planned buffer = empty_buffer buffer.capacity
 

@@ -33,13 +33,15 @@ PutsSide before chunk after gave = (after.buffer ≡ before.buffer) × Puts befo
 abbrev pub TakesSide : Side → Option (List Cell) → Side → Type 0
 TakesSide before answer after = (after.buffer ≡ before.buffer) × Takes before.window after.window answer
 
--- an end stays the same one: of one buffer and queue, and in a window that opened with the same chunks
+-- a clock's end of a buffer is still the same one: of the same buffer and queue, and in a window that opened with the
+-- same chunks
 pub record SameSide (before after : Side) : Type 0 where
   pub buffer : after.buffer ≡ before.buffer
   pub queue : after.window.queue ≡ before.window.queue
   pub opening : after.window.opening ≡ before.window.opening
 
--- each end stays the same one: of one buffer and queue, and in a window that opened with the same chunks
+-- each of a clock's ends is still the same one: of the same buffer and queue, and in a window that opened with the same
+-- chunks
 pub record SameSides (before after : List Side) : Type 0 where
   pub many : length after ≡ length before
   pub each : (k : ℕ) (d : Side) → k < length before → SameSide (slice_index_or before k d) (slice_index_or after k d)

@@ -13,7 +13,7 @@ somes [] = []
 somes (None ∷ options) = somes options
 somes (Some x ∷ options) = x ∷ somes options
 
--- a list, or nothing if it is empty
+-- a list as an option: nothing if it is empty, such as the chunk of a tick without cells
 abbrev pub some_list : {X : Type 0} → List X → Option (List X)
 some_list [] = None
 some_list (x ∷ xs) = Some (x ∷ xs)

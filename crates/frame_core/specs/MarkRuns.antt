@@ -8,7 +8,7 @@ abbrev pub run_marks : (first : Bool) → (title count : ℕ) → List CellMark
 run_marks first title zero = []
 run_marks first title (suc n) = record { first = first; title = title } ∷ replicate n (record { first = false; title = title })
 
--- the marks that these runs stand for, in order
+-- the marks that these runs stand for, one for each cell, in order
 abbrev pub marks_in : List MarkRun → List CellMark
 marks_in [] = []
 marks_in (run ∷ runs) = run_marks run.first run.title run.count ++ marks_in runs

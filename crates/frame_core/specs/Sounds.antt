@@ -6,7 +6,7 @@ use Rattle.liq_base.specs.declared.memory.Kind.{Kind}
 use Rattle.liq_base.specs.declared.memory.Kind.TheVariants.{Mono, Stereo}
 use Rattle.frame_core.specs.declared.cell.Cell.{Cell}
 
--- the samples of a file, left before right where it is stereo
+-- the sound of an audio file: mono or stereo, and its samples, left before right where it is stereo
 pub record Sound : Type 0 where
   pub kind : Kind
   pub samples : List ℤ
@@ -15,12 +15,12 @@ pub record Sound : Type 0 where
 abbrev pub length_of : Sound → ℕ
 length_of sound = length sound.samples / channels_of sound.kind
 
--- the samples of a file are whole blocks, and at least one
+-- the samples of a file are whole blocks (one sample, or a left and a right one), and at least one block
 pub record IsSound (sound : Sound) : Type 0 where
   pub whole_blocks : length sound.samples % channels_of sound.kind ≡ 0
   pub some : 0 < length_of sound
 
--- sample `at`, counted from 0; 0 past the end
+-- the sample at place `at` of a list, counted from 0; 0 past its end
 abbrev pub sample_at : List ℤ → ℕ → ℤ
 sample_at samples at = slice_index_or samples at (pos 0)
 

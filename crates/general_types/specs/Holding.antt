@@ -57,9 +57,8 @@ pub record AreCounted (s : Table) (h : HeldVariables) : Type 0 where
   pub kinds : (k : ℕ) → is_held h.kinds k ≡ true → k < h.kind_count
   pub free : free_among s h.type_count h.kind_count ≡ h.free_count
 
--- The names hold exactly these variables, which are bound to nothing: two solutions give the names the same types just
--- where they say the same of the variables. A passed variable is larger than the held ones that stand behind it, and
--- these alone fix it.
+-- h are exactly the free variables on which the types of these names depend: two solutions of s give the names the same
+-- types just where they agree on h. A passed variable is bound to a larger type, which the held ones in it fix.
 pub record IsHeldBy (s : Table) (names : List Term) (h : HeldVariables) : Type 0 where
   pub free_types : (k : ℕ) → is_held h.types k ≡ true → IsFreeType s k
   pub free_kinds : (k : ℕ) → is_held h.kinds k ≡ true → IsFreeKind s k

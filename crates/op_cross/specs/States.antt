@@ -6,7 +6,7 @@ use Rattle.frame_core.specs.Slots.{Slot}
 use Rattle.sample_kernels.specs.Mixing.{mixed}
 use Rattle.op_cross.specs.Crossfade.{mixed_cells, cross}
 
--- what a crossfade keeps from slot to slot
+-- what a crossfade keeps from slot to slot: cells held back or ready, and the front of the next track
 pub record Crossing : Type 0 where
   -- the most cells that overlap
   pub overlap : ℕ
@@ -111,8 +111,8 @@ pub record IsCrossing (state : Crossing) : Type 0 where
   pub whole : state.whole ≤ state.overlap
   pub ended : state.gap ≡ true → length state.cells ≡ state.ready
 
--- the state stands for the slots that were filled and for item p: the slots' items are p past ones, those that are
--- ready and whatever comes of what is not settled, with any slots after it
+-- A crossfade's state stands for the slots taken so far and for item p of the output. Whatever slots `more` follow, the
+-- output is p past items, then those that are ready, and then what comes of the slots that are not settled.
 pub record StandsFor (state : Crossing) (slots : List Slot) (p : ℕ) : Type 0 where
   pub past : List Slot
   pub count : length past ≡ p

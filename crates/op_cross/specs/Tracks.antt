@@ -10,12 +10,12 @@ pub data Border : Type 0 where
   Gap : Border
   Unended : Border
 
--- a track and what follows it
+-- a piece of a list of slots: the cells of one track, and what follows it
 pub record Piece : Type 0 where
   pub cells : List Cell
   pub border : Border
 
--- whether a track with this border has ended
+-- whether a track has ended, by what follows it: a new track or an empty slot ends it
 abbrev pub is_closed : Border → Bool
 is_closed Flag = true
 is_closed Gap = true

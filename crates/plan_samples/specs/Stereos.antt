@@ -17,7 +17,7 @@ stereo_node op children = record { op = op; kind = Stereo; children = children }
 abbrev pub blank : Node
 blank = stereo_node (Blank 0) []
 
--- a well-formed plan whose nodes are all stereo
+-- a plan is well formed, and each of its nodes gives stereo
 pub record IsStereo (plan : Plan) : Type 0 where
   pub well_formed : IsWellFormed plan
   pub stereo : (i : ℕ) (node : Node) → slice_get plan.nodes i ≡ Some node → node.kind ≡ Stereo
@@ -29,12 +29,12 @@ pub record IsSuited (op : Op) (children : ℕ) : Type 0 where
   pub range : IsInRange op
   pub reader : IsNoReader op
 
--- a node may be added to a plan: its children are there, and it reads no buffer
+-- a node may be added to a plan: its children are there and suit it, and it reads no buffer
 pub record CanStand (plan : Plan) (node : Node) : Type 0 where
   pub over : IsNodeOver plan.nodes node
   pub reader : IsNoReader node.op
 
--- none of these sinks is an output
+-- none of these sinks is an output: each feeds a buffer
 abbrev pub AreFeeds : List SinkPlan → Type 0
 AreFeeds sinks = All (λ sink. is_output sink ≡ false) sinks
 

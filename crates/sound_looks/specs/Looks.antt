@@ -56,13 +56,14 @@ abbrev pub look_of : Rules → Result (List ℕ) Unusable → Look
 look_of rules (Err fault) = Bad fault
 look_of rules (Ok bytes) = look_in rules bytes (read_of bytes)
 
--- if the shelf tells its files, this is what a look finds in the file of this name
+-- What a look at the file of this name finds is `found`, by the bytes that the shelf tells of it. Nothing is said where
+-- the shelf does not tell its files.
 abbrev pub Looks : Rules → (name : List ℕ) → ShelfTold → Look → Type 0
 Looks rules name told found = ForSome told.files
     (λ files. look_of rules (bytes_in rules.file (file_at files name)) ≡ found)
 
--- what a look at the file of this name found: if it says that the read failed, the count of these rose, and otherwise
--- it is what the file is
+-- What a look at the file of this name answered is true. `Unread` comes only if the shelf's count of failed reads rose,
+-- and any other answer is what the file's bytes say.
 abbrev pub IsLooked : Rules → (name : List ℕ) → (old new : ShelfTold) → Look → Type 0
 IsLooked rules name old new Unread = Rose old.reads new.reads
 IsLooked rules name old new (Bad fault) = Looks rules name old (Bad fault)
@@ -86,13 +87,13 @@ abbrev pub list_look_of : Result (List ℕ) Unusable → Result (List (List ℕ)
 list_look_of (Err fault) = Err fault
 list_look_of (Ok bytes) = Ok (names_listed bytes, skipped_in bytes)
 
--- if the shelf tells its files, the list of this name is of no use for this reason, or has these names and so many
--- skipped lines
+-- The list of this name is what `found` says, by the bytes that the shelf tells of it: of no use for a reason, or names
+-- and so many skipped lines. Nothing is said where the shelf does not tell its files.
 abbrev pub ListLooks : (name : List ℕ) → ShelfTold → Result (List (List ℕ) × ℕ) Unusable → Type 0
 ListLooks name told found = ForSome told.files (λ files. list_look_of (bytes_in (2 ^ 20) (file_at files name)) ≡ found)
 
--- what a look at the list of this name found: that it was not read, why it is of no use, or its names and how many
--- lines are skipped
+-- What a look at the list of this name answered is true. `Unread` comes only if the shelf's count of failed reads rose,
+-- and any other answer is what the list's bytes say.
 abbrev pub IsListLook : (name : List ℕ) → (old new : ShelfTold) → ListLook → Type 0
 IsListLook name old new list_look.Unread = Rose old.reads new.reads
 IsListLook name old new (list_look.Bad fault) = ListLooks name old (Err fault)

@@ -40,7 +40,8 @@ pub record IsPast {S : Type 0} (setting world : Setting) (ticks m : ℕ) (engine
   pub given : with_rest setting answers rest ≡ world
   pub stands : EngineStands engine.parts ticks answers
 
--- the engines of all clocks, in clock order, have made so many ticks
+-- The engines of all clocks, in clock order, have made so many ticks. `world` is the setting in which their buffers
+-- answer as they did.
 pub record ArePast {S : Type 0} (setting world : Setting) (ticks : ℕ) (engines : List (ClockEngine S)) : Type 0 where
   pub each : (m : ℕ) (engine : ClockEngine S) → slice_get engines m ≡ Some engine → IsPast setting world ticks m engine
 

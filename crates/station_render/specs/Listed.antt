@@ -8,23 +8,23 @@ use Rattle.stations.specs.Streams.{body_size, file_bytes}
 use Rattle.station_render.specs.OutputSinks.{HasEnded, size_of}
 use Rattle.station_render.specs.declared.output_sink.OutputSink.{OutputSink}
 
--- a shelf tells its files or its closings, so its sinks tell their names and bytes
+-- a shelf tells its files or its list of closed ones, so that each of its sinks tells its name and bytes
 abbrev pub TellsSinks : ShelfTold → Type 0
 TellsSinks shelf = IsSome shelf.files ⊎ IsSome shelf.closed
 
--- a sink tells for how many bytes it was created, and how many pieces it got
+-- a sink tells that it was created for `size` bytes, and that it got so many pieces
 pub record IsMeasured (size pieces : ℕ) (sink : SinkTold) : Type 0 where
   pub size_is : size_of sink ≡ Some size
   pub pieces_are : sink.appends ≡ Some pieces
 
--- a sink tells for how many bytes it was created, and that it got at least so many pieces
+-- a sink tells for how many bytes it was created, and that it got at least `least` pieces
 pub record AreTold (least : ℕ) (sink : SinkTold) : Type 0 where
   pub size_told : IsSome (size_of sink)
   pub pieces : ℕ
   pub pieces_are : sink.appends ≡ Some pieces
   pub enough : least ≤ pieces
 
--- a sink that did not fail holds a header, of 44 bytes at least
+-- a sink that did not fail holds a whole WAV header: 44 bytes at least
 abbrev pub HasHeader : SinkTold → Type 0
 HasHeader sink = sink.faults ≡ 0 → ForSome sink.held (λ held. 44 ≤ length held)
 

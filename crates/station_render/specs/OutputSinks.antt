@@ -28,13 +28,13 @@ abbrev pub owed_by : (odd : Bool) → Option ℕ → ℕ
 owed_by false room = 0
 owed_by true room = if has_one room then 2 else 1
 
--- for how many bytes a sink was created: those that it holds and those that it still takes, where it tells both
+-- for how many bytes a sink was created: those that it holds and those for which it has room left, where it tells both
 abbrev pub size_by : (held : Option (List ℕ)) (left : Option ℕ) → Option ℕ
 size_by None left = None
 size_by (Some held) None = None
 size_by (Some held) (Some left) = Some (length held + left)
 
--- for how many bytes a sink was created, where it tells this
+-- for how many bytes a sink was created, by what it tells; None where it does not tell enough
 abbrev pub size_of : SinkTold → Option ℕ
 size_of sink = size_by sink.held sink.room
 
@@ -67,7 +67,7 @@ told_by odd sink = record {
 abbrev pub output_told : {O : Type 0} → (told : O → SinkTold) → OutputSink O → SinkTold
 output_told told output = told_by output.odd (told output.sink)
 
--- the zero byte that ends an output, if the bytes of its samples are odd
+-- the zero byte that ends an output's file if the bytes of its samples are odd in number; otherwise no byte
 abbrev pub last_byte : (odd : Bool) → List ℕ
 last_byte false = []
 last_byte true = 0 ∷ []
@@ -94,7 +94,7 @@ pub record HoldsBody {O : Type 0} (told : O → SinkTold) (part : OutputPart) (o
 abbrev pub inner : {O : Type 0} → (told : O → SinkTold) → OutputSink O → SinkTold
 inner told output = told output.sink
 
--- a sink is as it was, or took some bytes in one piece
+-- a sink is as it was, or it took some bytes in one piece
 abbrev pub MayHaveTaken : (old new : SinkTold) → Type 0
 MayHaveTaken old new = (new ≡ old) ⊎ ((taken : List ℕ) × TookPiece taken old new)
 

@@ -19,7 +19,7 @@ use Rattle.station_render.specs.OutputSinks.{but_one_if, owed_by}
 use Rattle.station_render.specs.Sinks.{AreCreated, HoldsFront, HoldsPart, HoldsWhole, WasAdded}
 use Rattle.station_render.specs.declared.output_sink.OutputSink.{OutputSink}
 
--- an output of a plan: its name, its node, and whether its samples are wide
+-- an output of a plan: its name, the node that it writes, and whether its samples have 24 bits (`wide`) or 16
 pub record Written : Type 0 where
   pub name : List ℕ
   pub node : ℕ
@@ -82,12 +82,14 @@ closing_of setting ticks output = record {
   faults = 0;
 }
 
--- how many bytes an output's file has: 44 of its header, those of its samples, and a zero byte where these are odd
+-- how many bytes an output's file has if its samples take `body` bytes: 44 of the header, those of the samples, and a
+-- zero byte where these are odd in number
 abbrev pub whole_size : (body : ℕ) → ℕ
 whole_size body = 44 + body + body % 2
 
--- A sink was created for an output, by a shelf that told this: it holds the header, its one piece, and it was created
--- for just the bytes of the file; so it has room for the samples, and for the byte that it owes.
+-- An output's sink is ready for the first tick: it holds the header, its one piece, and was created for just the bytes
+-- of the file. So it has room for the samples, and for the zero byte that it owes. `told` says what a sink tells, and
+-- the shelf whether it tells so much.
 pub record IsReady {O : Type 0} (told : O
     → SinkTold) (shelf : ShelfTold) (setting : Setting) (ticks : ℕ) (output : Written) (sink : OutputSink O) : Type 0
   where
@@ -100,8 +102,8 @@ pub record IsReady {O : Type 0} (told : O
     pub room : HasRoom (but_one_if sink.odd (told sink.sink).room) (body_size setting output.wide ticks output.node)
     pub owes : owed_by sink.odd (told sink.sink).room ≡ debt_of (body_size setting output.wide ticks output.node)
 
--- the sink of an output holds all its bytes but for the one that it owes, and got a piece for the header and one for
--- each tick
+-- An output's sink has got all ticks: it holds all its bytes but for the zero byte that it owes, in a piece for the
+-- header and one for each tick. `told` says what a sink tells, and the shelf whether it tells so much.
 pub record IsWhole {O : Type 0} (told : O
     → SinkTold) (shelf : ShelfTold) (setting : Setting) (ticks : ℕ) (output : Written) (sink : OutputSink O) : Type 0
   where
@@ -111,16 +113,16 @@ pub record IsWhole {O : Type 0} (told : O
         (told sink.sink))
     pub owes : owed_by sink.odd (told sink.sink).room ≡ debt_of (body_size setting output.wide ticks output.node)
 
--- the sink of an output holds the bytes of the ticks that its clock made, and a front of those of the ticks that it
--- tried; or it failed with fewer
+-- An output's sink in the middle of a run holds the bytes of the ticks that its clock made, and maybe some of those
+-- that it tried; or it failed with fewer. For clock m, `made m` and `tried m` count these ticks.
 pub record IsPart {O : Type 0} (told : O → SinkTold) (shelf : ShelfTold) (setting : Setting) (ticks : ℕ) (made tried : ℕ
     → ℕ) (output : Written) (sink : OutputSink O) : Type 0 where
   pub holds : TellsSinks shelf → HoldsFront (front_file setting ticks made tried output) (told sink.sink)
   pub measured : ForSome shelf.closed (λ before. AreTold 1 (told sink.sink))
 
--- The first outputs of a plan were created, as the shelf tells. Each sink holds its bytes of the ticks that its clock
--- made in a run, and a front of those of the ticks that it tried, or it failed: whatever answers follow. `answers rest`
--- are those of the run, and then `rest`.
+-- A rendering began: the first outputs of a plan were created, and each sink holds its bytes of the ticks that its
+-- clock made, and maybe some of those that it tried, or it failed. This holds whatever `rest` of answers follows those
+-- of the run.
 pub record AreBegun {O : Type 0} (told : O → SinkTold) (shelf : ShelfTold) (setting : Setting) (answers : (ℕ
     → List Answer) → ℕ → List Answer) (ticks : ℕ) (made tried : ℕ → ℕ)
     (order : List ℕ) (groups : List (List (OutputSink O))) (created_now : Option (List (List ℕ))) : Type 0 where

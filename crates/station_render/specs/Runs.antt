@@ -41,7 +41,7 @@ counts_of station run = counts_from run 0 station.plan.buffers
 abbrev pub name_in : Job → Option (List ℕ)
 name_in job = option_map (λ (name : Bor (List ℕ)). name.now) job.trace
 
--- the plan, the library, the clocks and the ticks of a job fit together, which a rendering relies on
+-- a job can be rendered: its plan, its library of files, its clocks and its count of ticks fit together
 abbrev pub IsFitting : Job → Type 0
 IsFitting job = IsFit job.plan job.ready.library job.ready.clocks job.ticks
 
@@ -64,7 +64,7 @@ station_in job way = record {
   cues = job.cues;
 }
 
--- how many ticks a window has; `None` where the clocks run on one thread
+-- how many ticks a window has in this way of rendering; `None` where all clocks run on one thread
 abbrev pub window_of : Way → Option ℕ
 window_of InRounds = None
 window_of (InWindows window) = Some window
@@ -84,15 +84,16 @@ HasRecord setting clocks ticks InRounds = ⊤
 HasRecord setting clocks ticks (InWindows window) = ⊤
 HasRecord setting clocks ticks (Again trace) = IsAccepted setting clocks ticks trace
 
--- what is told of a run: the gaps of each output, in sink order; of each buffer its counts and which answers each
--- window had; and the marks of each output, where cue files are wanted
+-- What a rendering tells is that of this run of the station: the gaps of each output, in sink order; each buffer's
+-- counts and the answers of its windows; and the marks of each output, where cue files are wanted.
 pub record IsTold (station : Station) (run : Run) (rendered : Rendered) : Type 0 where
   pub gaps_are : rendered.gaps.items ≡ gaps_in_order station run
   pub counts_are : rendered.counts.items ≡ counts_of station run
   pub logs_are : rendered.logs.items ≡ map (map told_of) run.buffers
   pub cues_are : cues_of rendered.cues.items ≡ marks_of station run
 
--- a run of the station wrote all its outputs, which the shelf closed, and no other, and this is told of it
+-- Some lawful run of the station wrote all its outputs: the shelf got their files, and no other, and lists them as
+-- closed. `rendered` is what is told of this run.
 pub record WroteOutputs (station : Station) (old new : ShelfTold) (rendered : Rendered) : Type 0 where
   pub run : Run
   pub lawful : IsLawful station run
@@ -101,7 +102,8 @@ pub record WroteOutputs (station : Station) (old new : ShelfTold) (rendered : Re
   pub listed : HaveListed (closings_in (setting_of_run station run) station.ticks station.plan.sinks) old.closed
       new.closed
 
--- a run of the station wrote all its files, which the shelf made and closed, and no other, and this is told of it
+-- Some lawful run of the station wrote all its files, with cue files and a trace where these are wanted: the shelf got
+-- them, and no other, and lists them as created and closed. `rendered` is what is told of this run.
 pub record IsRendered (station : Station) (old new : ShelfTold) (rendered : Rendered) : Type 0 where
   pub run : Run
   pub lawful : IsLawful station run
@@ -110,8 +112,8 @@ pub record IsRendered (station : Station) (old new : ShelfTold) (rendered : Rend
   pub made : new.created ≡ after_making (names_of station) old.created
   pub closed : HaveListed (closings_of station run) old.closed new.closed
 
--- a run of the station wrote all bytes of its outputs into their sinks, but for the ones that they owe, and this is
--- told of it
+-- Some lawful run of the station made all ticks: each output's sink got all its bytes but for the zero byte that it
+-- owes. `rendered` is what is told of this run.
 pub record RanWhole {O : Type 0} (told : O
     → SinkTold) (shelf : ShelfTold) (station : Station) (order : List ℕ) (groups : List (List (OutputSink O)))
     (rendered : Rendered) : Type 0 where

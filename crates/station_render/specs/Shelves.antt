@@ -15,7 +15,8 @@ TookAtOnce (byte ∷ bytes) old new = TookPiece (byte ∷ bytes) old new
 abbrev pub one_file : (name bytes : List ℕ) → List OutputFile
 one_file name bytes = record { name = name; bytes = bytes } ∷ []
 
--- all of these files were written, each at once, and their sinks were made and closed, in this order, and no other
+-- A shelf wrote all of these files, each in one piece at most, and no other. Their sinks were created and closed under
+-- these names, in this order.
 pub record WroteFiles (old new : ShelfTold) (names : List (List ℕ)) (outputs : List OutputFile) : Type 0 where
   pub written : ForSome old.files (λ all. new.files ≡ Some (with_outputs all outputs))
   pub made : new.created ≡ after_making names old.created

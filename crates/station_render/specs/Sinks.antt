@@ -37,7 +37,7 @@ pub record HaveSizes {S : Type 0} (order : List ℕ) (groups : List (List S)) : 
   pub below : AreBelow (length groups) order
   pub each : (m : ℕ) (group : List S) → slice_get groups m ≡ Some group → length group ≡ count_of m order
 
--- no clock has a sink
+-- the list of sinks of each clock is empty
 abbrev pub AreAllEmpty : {S : Type 0} → List (List S) → Type 0
 AreAllEmpty groups = (m : ℕ) (group : List _) → slice_get groups m ≡ Some group → group ≡ []
 
@@ -46,28 +46,28 @@ pub record AreEmpty {S : Type 0} (clocks : ℕ) (groups : List (List S)) : Type 
   pub size : length groups ≡ clocks
   pub each : AreAllEmpty groups
 
--- there is room for one more sink of this clock
+-- this clock's list of sinks has room for one more
 pub record HasPlace {S : Type 0} (clock : ℕ) (groups : List (Vec S Global)) : Type 0 where
   pub room : (group : Vec S Global) → slice_get groups clock ≡ Some group → vec_len group + 1 ≤ vec_capacity group
 
--- a clock got one sink more, as its last
+-- this sink was added at the end of its clock's list, and the other clocks' lists stay
 pub record WasAdded {S : Type 0} (clock : ℕ) (sink : S) (old new : List (List S)) : Type 0 where
   pub before : List S
   pub was : slice_get old clock ≡ Some before
   pub is : new ≡ slice_set old clock (before ++ sink ∷ [])
 
--- the first sink of a clock was taken from its list, and the others stay
+-- the first sink of a clock was taken out of its list, and the other clocks' lists stay
 pub record WasTaken {S : Type 0} (clock : ℕ) (old : List (List S)) (sink : S) (new : List (List S)) : Type 0 where
   pub rest : List S
   pub was : slice_get old clock ≡ Some (sink ∷ rest)
   pub is : new ≡ slice_set old clock rest
 
--- the sink has the name of this file, and holds all its bytes
+-- a sink has the name of this file, and holds all its bytes
 pub record HoldsWhole (output : OutputFile) (sink : SinkTold) : Type 0 where
   pub named : sink.name ≡ Some output.name
   pub holds : sink.held ≡ Some output.bytes
 
--- the sink has the name of this file, and holds a front of its bytes
+-- a sink has the name of this file, and holds a beginning of its bytes
 pub record HoldsPart (output : OutputFile) (sink : SinkTold) : Type 0 where
   pub named : sink.name ≡ Some output.name
   pub part : List ℕ

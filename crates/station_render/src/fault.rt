@@ -18,7 +18,7 @@ impl From<AllocError> for RenderFault {
 
     ghost from_gives = { λ _ e. e ≡ no_memory };
 
-    // Want of memory as the fault of a rendering.
+    // A refused allocation as the fault of a rendering: want of memory.
     fn from(_refused: AllocError) -> Self {
         RenderFault::Memory
     }

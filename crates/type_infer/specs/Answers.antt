@@ -29,8 +29,8 @@ said_in u = (u.at, Some u.target, Some (length u.kinds))
 abbrev pub AreSaidAs : Names → List ℕ → List TextUse → Type 0
 AreSaidAs ns ts us = map said_in us ≡ map (said_at ns) ts
 
--- From s to s' the def d was typed: its general type and the uses in its text give its typings. A typing of the
--- statements before is lost only where d has none. The types of the values now hold the variables h.
+-- A def d was typed, from substitution s to s': t has its general type and the uses in its text, which give its
+-- typings. A typing of the statements before is lost only where d has none. The values' types hold the variables h now.
 pub record IsTypedDef (s s' : Table) (targets : Targets) (before : List Known) (d : Def) (h : HeldVariables)
     (t : KnownDef) : Type 0 where
   pub def : t.def.now ≡ d

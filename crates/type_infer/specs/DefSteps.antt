@@ -38,7 +38,8 @@ vars_named ts = map (λ t. t.var) ts
 abbrev pub tokens_named : List TypedName → List ℕ
 tokens_named ts = map (λ t. t.at) ts
 
--- from s to s' the parameters were typed, and each stands by its token with its type variable
+-- A def's parameters were typed, from substitution s to s': ts has for each the token of its name and its type
+-- variable. The uses in the defaults were added to `old`, which gives `new`.
 pub record AreTypedParams (s s' : Table) (env : Env) (ps : Tree (Many AParam)) (ts : List TypedName)
     (old new : List Found) : Type 0 where
   pub typed : InfersParams s s' env ps (vars_named ts) old new
@@ -101,8 +102,8 @@ abbrev pub ArePartsOf : Table → Table → Targets → List Known → Tree ADef
 ArePartsOf s s' targets before d new None = HasNoDef s (outside targets before) d
 ArePartsOf s s' targets before d new (Some p) = InfersDef s s' (outside targets before) d p.params.items p.result new
 
--- The types of a def, whose parts have these variables and uses, were made general in all variables that no value
--- holds.
+-- g and its text are the general type of a def, whose parts p and uses fs were typed under the substitution s. It is
+-- general in all variables that no value holds; h are those that values hold.
 pub record IsGeneralType (s : Table) (h : HeldVariables) (p : TypedParts) (fs : List Found) (g : Scheme)
     (text : List TextKind) : Type 0 where
   pub numbered : IsNumberedText g text
@@ -120,8 +121,8 @@ pub record IsKnownDef (d : Def) (fs : List Found) (made : DefType) (t : KnownDef
   pub general : t.general ≡ made.general
   pub text : text_of t ≡ text_uses fs made.text.items
 
--- A def whose parts have these variables and uses was made general in all variables that no value holds: h were held at
--- an earlier substitution, h' are held now.
+-- A typed def d was made general in all variables that no value holds, and t is what is kept of it. p and fs are the
+-- types of its parts and its uses. Values held h at an earlier substitution, and hold h' now.
 pub record IsGeneralDef (s : Table) (h h' : HeldVariables) (d : Def) (p : TypedParts) (fs : List Found)
     (t : KnownDef) : Type 0 where
   pub made : DefType

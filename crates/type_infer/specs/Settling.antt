@@ -51,7 +51,7 @@ AddsDones s xs old new = (d : HasDefaults s) → new ≡ old ++ uses_under d.at 
 abbrev pub AreDefaultOf : Table → List Done → List Use → Type 0
 AreDefaultOf s xs us = (d : HasDefaults s) → us ≡ uses_under d.at xs
 
--- a kind after all bindings were followed: a variable that nothing binds is stereo
+-- the final kind of a kind whose bindings were all followed: a variable that nothing binds is stereo
 abbrev pub free_kind : KindTerm → Kind
 free_kind (term.Fixed k) = k
 free_kind (term.Var n) = Stereo

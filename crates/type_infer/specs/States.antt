@@ -35,8 +35,8 @@ pub record IsNoted (s : Table) (var : ℕ) (uses : List FoundUse) (t : TypedExpr
   pub same : t.var ≡ var
   pub uses_are : t.uses.items ≡ uses
 
--- From s to s' the expression was typed. Its uses are its names in order, with their targets, and each has as many
--- kinds as what it means has open ones.
+-- An expression was typed, from substitution s to s': t has its type variable and its uses. These are its names in
+-- order, with what they mean, and each has as many kinds as the type of its target leaves open.
 pub record IsTypedWith (s s' : Table) (env : Env) (ds : List KnownDef) {r : Sort} (e : Tree r) (t : TypedExpr) : Type 0
   where
     pub infers : Infers s s' env e (variable t.var) [] (founds t.uses.items)
