@@ -14,7 +14,7 @@ pub struct Counts {
 }
 
 impl Counts {
-    /// The counts before any call.
+    /// The counts of a buffer before any call: no put and no take.
     pub fn none() -> Counts
         ensures { result ≡ record { accepted = 0; full = 0; got = 0; empty = 0 } }
     {

@@ -86,7 +86,7 @@ impl<'a> PutEnd<'a> {
         self.buffer
     }
 
-    // How many puts were accepted in the open window, and how many found the queue full.
+    // How many puts at this end were accepted in the open window, and how many found the queue full.
     fn counted(&self) -> (u64, u64)
         ensures yes { result.0 ≡ count_by yes (map is_chunk self.now.window.answers) }
         ensures no { result.1 ≡ count_by not (map is_chunk self.now.window.answers) }
@@ -150,7 +150,7 @@ impl<'a> TakeEnd<'a> {
         self.buffer
     }
 
-    // How many takes got a chunk in the open window, and how many found the queue empty.
+    // How many takes at this end got a chunk in the open window, and how many found the queue empty.
     fn counted(&self) -> (u64, u64)
         ensures yes { result.0 ≡ count_by yes (map is_chunk self.now.window.answers) }
         ensures no { result.1 ≡ count_by not (map is_chunk self.now.window.answers) }
@@ -158,7 +158,7 @@ impl<'a> TakeEnd<'a> {
         counted(self.pass.answers())
     }
 
-    // Takes a chunk from the queue; nothing where it is empty.
+    // Takes a chunk from the queue at this end; nothing where it is empty.
     fn take<R: Wait>(&mut self, rt: &R) -> Result<Option<Chunk>, Memory>
         ensures same { SameSide self.old self.new }
         ensures answer { IfOk result (Takes self.old.window self.new.window) }

@@ -74,7 +74,7 @@ impl LocalList {
         self.counts
     }
 
-    // Takes the chunk at the front; nothing where the list is empty.
+    // Takes the chunk at the buffer's front and notes the answer; nothing where the buffer is empty.
     fn take(&mut self) -> Result<Option<Chunk>, Memory>
         ensures same { SameBuffer self.old self.new }
         ensures step { IfOk result (λ answer. (b : ℕ) → Step (held self.old) (Took b answer) (held self.new)) }
@@ -96,7 +96,8 @@ impl LocalList {
         }
     }
 
-    // Puts a chunk at the back. It comes back where the list is full, and where memory is refused.
+    // Puts a chunk at the buffer's back and notes the answer. It comes back where the buffer is full, and where
+    // memory is refused.
     fn give(&mut self, chunk: Chunk) -> Result<Gave, (Chunk, Memory)>
         ensures same { SameBuffer self.old self.new }
         ensures step { IfOk result (λ gave. (b : ℕ) → (call : Call) × IsGive b chunk gave call
@@ -223,7 +224,8 @@ pub(crate) fn close_all(alloc: Global, lists: &mut Vec<LocalList>) -> Result<(),
     Ok(())
 }
 
-// The answers of each list's closed windows. They are added to `logs`, which is empty and has room for them.
+// Gives the buffers up, and hands out the answers of their closed windows, one log for each. They are added to
+// `logs`, which is empty and has room for them.
 pub(crate) fn into_logs(lists: Vec<LocalList>, mut logs: Vec<BufferLog>) -> Vec<BufferLog>
     requires empty { logs.items ≡ [] }
     requires room { length lists.items ≤ vec_capacity logs }

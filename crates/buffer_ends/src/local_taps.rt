@@ -39,7 +39,7 @@ impl Model for LocalTaps {
 }
 
 impl LocalTaps {
-    /// The buffers of a plan, each empty. Without buffers it takes no memory.
+    /// The buffers of a plan, each empty and kept by one thread alone. Without buffers it takes no memory.
     pub fn new(alloc: Global, plan: &Plan) -> Result<LocalTaps, Memory>
         ensures empty { IfOk result (λ taps. taps ≡ map planned plan.now.buffers) }
         ensures none { plan.now.buffers ≡ [] → IsOk result }

@@ -92,8 +92,9 @@ impl<'a, R> ThreadTaps<'a, R> {
         (local, puts, takes)
     }
 
-    /// Closes the window of a buffer to which these taps give, and opens the next one. `takes` are the ends of the
-    /// clock that takes from it. It answers the answers of the closed window, and takes no memory.
+    /// Closes the window (the calls since the ends last met) of a buffer into which this clock puts, and opens the
+    /// next one. `takes` are the ends of the clock that takes from it. It returns the answers of the closed window,
+    /// and takes no memory.
     pub fn close_with(
         &mut self,
         alloc: Global,
@@ -126,7 +127,7 @@ impl<'a, R> ThreadTaps<'a, R> {
         mem::replace(&mut self.takes, Vec::new(alloc))
     }
 
-    /// Puts the ends back that were taken out to close their windows.
+    /// Puts the clock's ends that take back, which were taken out to close their windows.
     pub fn put_back(&mut self, takes: Vec<TakeEnd<'a>>)
         requires { Falling takes.items }
         ensures back { self.new.takes ≡ takes.entry }
@@ -135,7 +136,8 @@ impl<'a, R> ThreadTaps<'a, R> {
         self.takes = takes;
     }
 
-    /// Closes the window of the list of a buffer and opens the next one. Where memory is refused all is as before.
+    /// Closes the open window of a buffer that the clock keeps alone, and opens the next one. Where memory is refused
+    /// all is as before.
     pub fn close_list(&mut self, alloc: Global, buffer: u32) -> Result<(), Memory>
         requires { buffer < length self.old.local }
         ensures closed { OnOk result ((d : LocalBuffer)
@@ -149,8 +151,8 @@ impl<'a, R> ThreadTaps<'a, R> {
         self.local.close_one(alloc, buffer)
     }
 
-    /// How often the calls on a buffer had which answer, by the answers that are held: those of its end's window, or
-    /// those of its list where it has no end.
+    /// How many puts and takes of a buffer succeeded and how many failed: those of its end's open window, or all
+    /// those of a buffer that the clock keeps alone.
     pub fn counts(&self, buffer: u32) -> Counts
         requires { buffer < length self.now.local }
         ensures puts { (d : LocalBuffer)

@@ -96,7 +96,7 @@ impl CellRing {
         self.marks.titled(title, from, most)
     }
 
-    /// Appends a cell, for which there has to be room.
+    /// Appends a cell at the back, for which there has to be room.
     pub fn push(&mut self, cell: Cell)
         requires { length self.old.cells < self.old.room }
         ensures { self.new ≡ record { cells = self.old.cells ++ cell ∷ []; room = self.old.room } }
@@ -106,7 +106,8 @@ impl CellRing {
         self.marks.push(cell.first, cell.title, 1);
     }
 
-    /// Appends the cells of these samples and of the marks of these runs, without the first `skip` marks.
+    /// Appends cells at the back, given as lists side by side: their left and right samples, and the runs of their
+    /// marks, without the first `skip` marks.
     pub(crate) fn push_cells(&mut self, left: &[i16], right: &[i16], runs: &[MarkRun], skip: u32)
         requires same { (length left.now ≡ length (drop skip (marks_in runs.now)))
             × (length right.now ≡ length (drop skip (marks_in runs.now))) }
@@ -121,7 +122,8 @@ impl CellRing {
         self.marks.push_all(runs, skip);
     }
 
-    /// Appends cells of these samples with this title, none of which begins a track.
+    /// Appends cells in the middle of a track at the back, given by their samples: all have this title, and none
+    /// begins a track.
     pub fn push_inner(&mut self, title: u32, left: &[i16], right: &[i16])
         requires same { length right.now ≡ length left.now }
         requires there { length self.old.cells + length left.now ≤ self.old.room }

@@ -37,7 +37,7 @@ impl Model for ChunkQueue {
 }
 
 impl ChunkQueue {
-    /// An empty queue, whose ring has room for `room` cells.
+    /// An empty queue of cells that come in chunks, whose ring has room for `room` cells.
     pub fn new(alloc: Global, room: u32) -> Result<ChunkQueue, Memory>
         ensures { IfOk result (λ queue. queue ≡ record { cells = []; room = room }) }
     {

@@ -78,7 +78,7 @@ impl MarkRing {
         walk_both(true, title, &self.runs, from, most)
     }
 
-    /// Appends `count` marks of this title, the first of which may begin a track.
+    /// Appends the marks of `count` cells in a row with this title, the first of which may begin a track.
     pub fn push(&mut self, first: bool, title: u32, count: u32)
         requires { length self.old.items + count ≤ self.old.capacity }
         ensures { self.new ≡ buffer (self.old.items ++ run_marks first title count) self.old.capacity }
@@ -93,7 +93,7 @@ impl MarkRing {
         );
     }
 
-    /// Appends the marks of these runs, without the first `skip` of them.
+    /// Appends the marks that these runs stand for, without the first `skip` of them.
     pub fn push_all(&mut self, runs: &[MarkRun], skip: u32)
         requires { length self.old.items + length (drop skip (marks_in runs.now)) ≤ self.old.capacity }
         ensures { self.new ≡ buffer (self.old.items ++ drop skip (marks_in runs.now)) self.old.capacity }

@@ -46,7 +46,8 @@ impl SideRing {
         self.held.front().copied()
     }
 
-    /// Appends samples, for which there has to be room.
+    /// Appends samples at the back, for which there has to be room; silence is only counted as long as nothing else
+    /// is held.
     pub fn push_all(&mut self, samples: &[i16])
         requires { length self.old.items + length samples.now ≤ self.old.capacity }
         ensures { self.new ≡ buffer (self.old.items ++ samples.now) self.old.capacity }

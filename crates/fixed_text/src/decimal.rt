@@ -38,8 +38,8 @@ impl Decimal {
         })
     }
 
-    /// How many samples this many seconds last at `rate` samples a second, rounded down.
-    /// `None` exactly for a time below zero. It takes no memory.
+    /// How many samples a time of this many seconds lasts at `rate` samples a second, rounded down. `None` exactly
+    /// for a time below zero. It takes no memory.
     pub fn samples(self, rate: u32) -> Option<u64>
         ensures none { IsNone result ↔ (self.millionths <ℤ pos 0) }
         ensures count { IfSome result (λ n. n ≡ samples_in self.millionths rate) }

@@ -45,7 +45,8 @@ impl Chunk {
         Ok(Some(Chunk { block }))
     }
 
-    /// Another holder of the same cells. They take no memory again, and an error comes only past 2^63 holders.
+    /// A second chunk that holds the same cells, without a copy. They take no memory again, and an error comes only
+    /// past 2^63 holders.
     pub fn share(&self) -> Result<Chunk, Memory>
         ensures { IfOk result (λ chunk. chunk ≡ self.now) }
     {

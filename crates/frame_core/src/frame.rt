@@ -40,7 +40,7 @@ impl Model for Frame {
 }
 
 impl Frame {
-    /// A frame without a cell, with room for `room` of them, at most 65536.
+    /// A frame (the cells of one tick in the making) without a cell, with room for `room` of them, at most 65536.
     pub fn new(alloc: Global, room: u32) -> Result<Frame, Memory>
         requires { room ≤ MAX_FRAME }
         ensures none { IfOk result (λ frame. frame ≡ record { cells = []; room = room }) }
@@ -67,7 +67,7 @@ impl Frame {
         (&self.runs, &self.left, &self.right)
     }
 
-    /// Whether another frame has the same cells.
+    /// Whether another frame has the same cells, in samples, titles and where tracks begin.
     pub fn is_same(&self, other: &Frame) -> bool
         ensures { (result ≡ true) ↔ (self.now.cells ≡ other.now.cells) }
     {
@@ -115,7 +115,7 @@ fn are_runs(one: &[MarkRun], other: &[MarkRun]) -> bool
     one == other
 }
 
-// Whether two lists of samples are equal.
+// Whether two lists of samples of one side are equal.
 fn are_samples(one: &[i16], other: &[i16]) -> bool
     ensures { (result ≡ true) ↔ (one.now ≡ other.now) }
 {

@@ -50,7 +50,7 @@ impl Model for Track {
 }
 
 impl Track {
-    /// The file of these samples, left before right where there are two channels.
+    /// The audio file of these samples, left before right where there are two channels.
     pub fn new(kind: Kind, samples: Vec<i16>) -> Track
         requires { IsSound (record { kind = kind; samples = samples.items }) }
         ensures { result ≡ record { kind = kind; samples = samples.items } }
@@ -61,7 +61,7 @@ impl Track {
         }
     }
 
-    /// The file whose samples stand in `size` of these bytes, from byte `from` on.
+    /// The audio file whose samples stand in `size` of these bytes, from byte `from` on.
     pub fn of_bytes(kind: Kind, bytes: Vec<u8>, from: usize, size: usize) -> Track
         requires inside { from + size ≤ length bytes.items }
         requires sound { IsSound (record { kind = kind; samples = samples_from (take size (drop from bytes.items)) }) }
@@ -107,7 +107,7 @@ impl Track {
         self.kind
     }
 
-    /// How many samples each channel has, at least 1.
+    /// How many samples each channel of the file has, at least 1.
     pub fn samples(&self) -> u64
         ensures samples { result ≡ length_of self.now }
         ensures some { 0 < result }
@@ -405,7 +405,7 @@ fn halve_pairs(samples: &[i16], at: usize, halves: &mut [i16])
     }
 }
 
-// Half the sum of two samples, rounded toward zero.
+// The mono sample of a stereo block: half the sum of its two samples, rounded toward zero.
 fn half_sum(left: i16, right: i16) -> i16
     ensures { result ≡ int_div (left +ℤ right) (pos 2) }
 {

@@ -141,8 +141,8 @@ impl CrossState {
         }
     }
 
-    /// Takes the next slots of its source, which are cells of this title and of a track that goes on, no more than
-    /// settle its item. They are given by their samples.
+    /// Takes several slots of the crossfade's source at once: cells of this title of the track that is going on,
+    /// given by their samples, and no more than settle its item.
     pub fn fill_stretch(&mut self, title: u32, lefts: &[i16], rights: &[i16])
         requires wants { wants self.old ≡ true }
         requires same { length rights.now ≡ length lefts.now }
@@ -177,8 +177,8 @@ impl CrossState {
         self.ready == 0 && !self.gap && self.next.len() == 0 && self.cells.len() == self.overlap
     }
 
-    /// Takes the next slots of its source, which are cells of this title and of the track that goes on, by their
-    /// samples, and writes those of as many items to `left` and `right`.
+    /// Passes cells through: takes the next cells of the track that is going on, given by their title and samples,
+    /// and writes the samples of as many settled items to `left` and `right`.
     pub fn pass(
         &mut self,
         title: u32,
@@ -210,7 +210,7 @@ impl CrossState {
         self.cells.take_into(left, right);
     }
 
-    /// The item at which the state stands, which is settled: a cell, or nothing.
+    /// The item at which it stands, which is settled: a cell, or nothing for a gap.
     pub fn offer(&self) -> Option<Cell>
         requires { wants self.now ≡ false }
         ensures item { (slots : List Slot) (p : ℕ) → StandsFor self.now slots p
@@ -266,8 +266,8 @@ impl CrossState {
         }
     }
 
-    // Writes the samples of as many items as the slices are long, which are cells of one track alone, and goes on after
-    // them.
+    // Writes the samples of the next items, as many as the slices are long, and goes on after them. They are cells of
+    // one track alone, which are not faded.
     fn copy_plain(&mut self, left: &mut [i16], right: &mut [i16])
         requires same { length right.old ≡ length left.old }
         requires plain { length self.old.next < self.old.ready }
@@ -284,8 +284,8 @@ impl CrossState {
         self.ready -= left.len() as u32;
     }
 
-    // Writes the samples of as many items as the slices are long, which are mixed of two tracks, and goes on after
-    // them.
+    // Writes the samples of the next items, as many as the slices are long, and goes on after them. They are faded
+    // from one track to the next.
     fn copy_mixed(&mut self, left: &mut [i16], right: &mut [i16])
         requires same { length right.old ≡ length left.old }
         requires mixed { self.old.ready ≤ length self.old.next }
@@ -307,7 +307,8 @@ impl CrossState {
         }
     }
 
-    // Writes the samples of as many mixed items as the slices are long, from 1 to 256, and goes on after them.
+    // Fades the next items from one track to the next, as many as the slices are long, from 1 to 256: writes their
+    // samples, and goes on after them.
     fn mix_block(&mut self, left: &mut [i16], right: &mut [i16])
         requires same { length right.old ≡ length left.old }
         requires few { (0 < length left.old) × (length left.old ≤ 256) }

@@ -167,7 +167,8 @@ fn are_below(numbers: &[u32], count: usize) -> bool
     numbers.iter().all(|number| (*number as usize) < count)
 }
 
-// Whether a stereo node of this operator may have so many stereo children.
+// Whether a stereo node of this operator may have so many stereo children, with its numbers in range. Buffers and
+// what makes other kinds may not be added so.
 fn suits(op: &Op, children: usize) -> bool
     ensures { result ≡ true → IsSuited op.now children }
 {

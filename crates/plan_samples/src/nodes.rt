@@ -22,7 +22,7 @@ pub(crate) fn push_blank(alloc: Global, draft: &mut Draft) -> Result<u32, PlanFa
     Ok(number)
 }
 
-// Adds a node that amplifies this one by 1.
+// Adds a node to a plan in the making that amplifies the node `child` by 1.
 pub(crate) fn push_amplified(alloc: Global, draft: &mut Draft, child: u32) -> Result<(), PlanFault>
     requires stereo { IsStereo draft.old }
     requires child { child < length draft.old.nodes }

@@ -55,7 +55,7 @@ fn inner(alloc: Global, total: usize, tokens: &[Token]) -> Result<(Inner, &[Toke
     Ok((Inner { bind, semicolon }, rest))
 }
 
-// binding: Name `=` value. A `(` may stand behind it.
+// Reads a binding in the body of a def: Name `=` value. A `(` may stand behind it.
 #[tactic(auto, using(crate::proofs::Arms::bind_is))]
 fn bind(alloc: Global, total: usize, tokens: &[Token]) -> Result<(Bind, &[Token]), Fault>
     requires within { length tokens.now ≤ total }

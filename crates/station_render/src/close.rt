@@ -19,8 +19,8 @@ use crate::output_sink::{OutputSink, end_if};
 use crate::{RenderFault, Rendered};
 use liq_base::{Failed, Shelf};
 
-/// Closes all sinks in sink order, whatever was written. Returns what was told of the run, its fault, or that of a
-/// closing. `order` has the clock of each sink, and `groups` the sinks of each clock.
+/// Closes the sinks of all outputs in sink order, whatever was written. It returns what was told of the run, the
+/// run's fault, or that of a closing. `order` has the clock of each sink, and `groups` the sinks of each clock.
 pub(crate) fn close_all<S: Shelf>(
     shelf: &mut S,
     order: &[u32],
@@ -54,7 +54,8 @@ pub(crate) fn close_all<S: Shelf>(
     Ok(rendered)
 }
 
-/// Closes what was created of the outputs, in sink order, after a fault, and returns this fault.
+/// Closes the sinks of the outputs that were created, in sink order, after a fault of the opening, and returns this
+/// fault.
 pub(crate) fn close_broken<S: Shelf>(
     shelf: &mut S,
     order: &[u32],

@@ -119,7 +119,8 @@ fn push_line(
     text.push_str("\n")
 }
 
-// Appends a space and the name of the file that this title stands for; nothing for a title without a file.
+// Appends to a line of a cue file a space and the name of the file for which this title stands; nothing for a title
+// without a file.
 fn push_title(text: &mut String, library: &Library, title: u32) -> Result<(), AllocError>
     ensures { OnOk result (string_bytes text.new ≡ string_bytes text.old ++ spaced (title_name library.now title)) }
 {

@@ -270,8 +270,8 @@ fn tell<O: Sink>(
     }
 }
 
-/// Takes the sinks of the engines back into `groups` after a run, and returns what is told of the run, or why it broke
-/// off.
+/// Ends the engines after a run: puts their sinks back into `groups`, the list of each clock's sinks, and returns
+/// what is told of the run, or why it broke off.
 pub(crate) fn take_back<O: Sink>(
     alloc: Global,
     job: &Job<'_>,

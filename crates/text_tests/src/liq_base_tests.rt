@@ -38,7 +38,7 @@ fn check_pieces(rt: &impl Abort, sink: &mut MemSink, rows: &[(&str, Result<(), F
     }
 }
 
-// A sink with room for 5 bytes, whose appends 1 and 3, counted from 0, stop after so many bytes.
+// A sink in memory with room for 5 bytes, whose appends 1 and 3, counted from 0, stop after so many bytes.
 fn failing_sink(alloc: Global) -> Result<MemSink, Memory> {
     let fails = vec![in alloc; (1, 1), (3, 9), (3, 0)]?;
     MemSink::new(alloc, 5, fails)
@@ -61,7 +61,7 @@ const READS: &[(&str, u64, Result<Fetched, ShelfFault>, usize)] = &[
     ("b", 3, Ok(Fetched::Found), 6),
 ];
 
-// What a read answers, and how many bytes were read by then.
+// Reads a file from a shelf in memory: what it answers, and how many bytes were read by then.
 fn read_one(
     shelf: &mut MemShelf,
     into: &mut Vec<u8>,
@@ -88,7 +88,7 @@ fn check_reads(
     }
 }
 
-// A shelf with the file `b`, whose read 1, counted from 0, fails.
+// A shelf in memory with the file `b`, whose read 1, counted from 0, fails.
 fn shelf(alloc: Global) -> Result<MemShelf, Memory> {
     let mut shelf = MemShelf::new(alloc, shelf_files(alloc)?);
     shelf.fail_read(1)?;
@@ -112,7 +112,7 @@ const LOOKS: &[(&str, u64, Result<Looked, ShelfFault>, usize)] = &[
     ("b", 3, Ok(Looked::Found(3)), 6),
 ];
 
-// What a look at the first byte answers, and how many bytes were read by then.
+// Looks at the first byte of a file on a shelf in memory: what it answers, and how many bytes were read by then.
 fn look_once(
     shelf: &mut MemShelf,
     into: &mut Vec<u8>,
@@ -147,7 +147,7 @@ fn a_shelf_in_memory_is_looked_at_by_reading(rt: HostRuntime) -> Result<(), Fail
     Ok(())
 }
 
-/// One file, `b`, that holds `123`.
+/// The files of the shelf that is tested: one file, `b`, that holds `123`.
 fn shelf_files(alloc: Global) -> Result<Vec<(String, Vec<u8>)>, AllocError> {
     let name = String::from_str(alloc, "b")?;
     let bytes = Vec::from_slice(alloc, b"123")?;

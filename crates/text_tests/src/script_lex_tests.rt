@@ -71,7 +71,7 @@ fn shown(alloc: Global, tokens: &[Token]) -> Result<String, AllocError> {
     Ok(text)
 }
 
-// Appends a token: its kind, and its place in bytes.
+// Appends a token as text: its kind, and its place in bytes.
 fn push_token(alloc: Global, text: &mut String, token: &Token) -> Result<(), AllocError> {
     let kind = kind(alloc, &token.kind)?;
     let Token { start, end, .. } = token;
@@ -79,7 +79,7 @@ fn push_token(alloc: Global, text: &mut String, token: &Token) -> Result<(), All
     Ok(())
 }
 
-// Each row: a text, and its tokens as text.
+// Checks each row: a text, and the tokens that the lexer makes of it, written as text.
 fn check(rt: &impl Abort, alloc: Global, rows: &[(&str, &str)]) -> Result<(), Fail> {
     for row in rows {
         let (source, want) = *row;

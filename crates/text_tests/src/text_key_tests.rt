@@ -28,7 +28,7 @@ const ORDERS: &[(&str, &str, Ordering)] = &[
     ("", "", Ordering::Equal),
 ];
 
-// The order of two texts, and whether they are equal.
+// Compares two texts: their order, and whether they are equal.
 fn order(alloc: Global, a: &str, b: &str) -> Result<(Ordering, bool), Memory> {
     let a = Text::from_str(alloc, a)?;
     let b = Text::from_str(alloc, b)?;

@@ -22,7 +22,8 @@ pub struct TypedParts {
     pub result: u64,
 }
 
-/// The type variables of a def's parameters and of its result; `None` where it has no typing.
+/// Types the parts of a def: the type variables of its parameters and of its result, or `None` where it has no
+/// typing. The uses in it are added to `uses`.
 pub fn type_parts(
     alloc: Global,
     subst: &mut Subst,
@@ -52,8 +53,8 @@ pub fn type_parts(
     }
 }
 
-/// The number of a parameter's type variable: that of its default, where it has one, and a new one otherwise. `None`
-/// where the default has no type.
+/// Types a parameter of a def: the number of its type variable, which is that of its default, where it has one, and a
+/// new one otherwise. `None` where the default has no type.
 fn type_param(
     alloc: Global,
     subst: &mut Subst,

@@ -250,8 +250,8 @@ fn next<'a>(
     }
 }
 
-/// What the names of the statements before the first with a fault of names mean, and that fault. Want of memory is told
-/// as a fault of the script.
+/// Resolves the names of a script up to its first fault of names: what they mean, and that fault. Want of memory is
+/// told as a fault of the script.
 fn told_front(alloc: Global, statements: &[Stmt]) -> Result<Front, TypeFault>
     ensures front { IfOk result
         (λ f. IsFront (map view_stmt statements.now) f.count (map resolved f.all.items) f.fault) }

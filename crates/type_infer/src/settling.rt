@@ -16,8 +16,9 @@ use std::alloc::Global;
 use type_terms::{KindTerm, Subst, resolved_kind};
 use typing_rules::{KindOf, Use, UseKinds};
 
-/// The uses of all statements under the default solution, in the order of the tokens, in a list with room for `room`
-/// uses at first. What was found is freed as it is turned into the answer, so that its memory is taken again at once.
+/// The uses of all statements with their final kinds, stereo for each that is still open, in the order of the tokens.
+/// The list has room for `room` uses at first. What was found is freed as it is turned into the answer, so that its
+/// memory is taken again at once.
 pub fn settled_uses(alloc: Global, typing: Typing<'_>, room: usize) -> Result<Vec<Use>, Memory>
     requires over { AreDonesOver typing.subst (dones typing) }
     ensures { IfOk result (λ us. AreDefaultOf typing.entry.subst (dones typing.entry) us.items) }

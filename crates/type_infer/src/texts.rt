@@ -11,7 +11,7 @@ use std::alloc::Global;
 use std::cmp::min;
 use type_terms::{KindTerm, Ty};
 
-/// Adds type variables, by their numbers, as types to an empty list.
+/// Adds, to an empty list, the type variables of these numbers as types.
 pub fn push_variables(types: &mut Vec<Ty>, numbers: &[u64]) -> Result<(), Memory>
     requires { types.old.items ≡ [] }
     ensures { OnOk result (map term_of types.new.items ≡ map variable numbers.now) }
@@ -22,7 +22,7 @@ pub fn push_variables(types: &mut Vec<Ty>, numbers: &[u64]) -> Result<(), Memory
     Ok(())
 }
 
-/// Adds the kinds of these uses, use by use, to an empty list.
+/// Adds the kinds at all these uses to an empty list, use by use.
 pub fn push_all_kinds(kinds: &mut Vec<KindTerm>, uses: &[FoundUse]) -> Result<(), Memory>
     requires { kinds.old.items ≡ [] }
     ensures { OnOk result (kinds.new.items ≡ kinds_in (founds uses.now)) }
@@ -52,7 +52,7 @@ pub fn text_of_uses(
     Ok(done)
 }
 
-/// The type variable of this number as a type.
+/// A type that is just the type variable of this number.
 fn variable_type(number: u64) -> Ty
     ensures { term_of result ≡ variable number }
 {
