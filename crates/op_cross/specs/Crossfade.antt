@@ -57,7 +57,7 @@ abbrev pub settled_from : ℕ → List Piece → List Slot
 settled_from most [] = []
 settled_from most (piece ∷ pieces) = settled most piece.cells piece.border pieces
 
--- What a crossfade has for certain given out for these slots of its source, whatever comes later: tracks one after
+-- The settled output of a crossfade (what no later slot changes) after these slots of its source: tracks one after
 -- another, each faded into the next one over at most `most` cells.
 abbrev pub cross : ℕ → List Slot → List Slot
 cross most slots = settled_from most (track_pieces slots)

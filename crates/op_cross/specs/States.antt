@@ -95,12 +95,13 @@ track_room state =
 abbrev pub passes : Crossing → Bool
 passes state = wants state && (nat_eq (length state.next) 0 && nat_eq (length state.cells) state.overlap)
 
--- how many further slots at most settle the item at which a crossfade stands; 0 where it is settled
+-- a bound on how many further slots settle the item at which a crossfade stands; 0 where it is settled
 abbrev pub left : Crossing → ℕ
 left state = if wants state then 2 * state.overlap - length state.cells - length state.next else 0
 
--- what always holds of a crossfade's state: the overlap is legal, no more cells are held than may be faded, a fade is
--- as long as its next track's known front, and a gap ends all cells
+-- What always holds of a crossfade's state. The overlap is legal, no more cells are held back than may be faded, and
+-- those of a growing next track are fewer. A fade to come is as long as the next track's front, and a gap leaves
+-- nothing held back.
 pub record IsCrossing (state : Crossing) : Type 0 where
   pub overlap : (0 < state.overlap) × (state.overlap ≤ MAX_OVERLAP)
   pub ready : state.ready ≤ length state.cells

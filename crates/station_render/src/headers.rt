@@ -24,7 +24,7 @@ pub(crate) struct Opening {
     pub body: u64,
 }
 
-// The number of the main clock in which a node lies; 0 for a node in a sub-clock, of which no output writes one.
+// The number of the main clock in which a node lies; 0 for a node in a sub-clock, where no output's node lies.
 pub(crate) fn clock_of(clocks: &ClockMap, node: u32) -> u32
     requires { (m : ℕ) × (slice_get clocks.now.of node ≡ Some (NodeClock.Main m)) }
     ensures { slice_get clocks.now.of node ≡ Some (NodeClock.Main result) }

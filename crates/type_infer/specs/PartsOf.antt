@@ -32,8 +32,8 @@ types_at a ns = map a.type_of ns
 abbrev pub VarAs : Env → Places → ℕ → Ground → List Found → Assignment → Type 0
 VarAs env kinds n t fs b = (b.type_of n ≡ t) × AreFound env b kinds fs
 
--- A parameter was typed, from substitution s to s': its type is variable n at the solutions, no more and no less. The
--- uses in its default were added to `old`, which gives `new`.
+-- A parameter was typed, from substitution s to s': the solutions of s' are the typings of its default, whose type is
+-- variable n. The uses in the default were added to `old`, which gives `new`.
 pub record InfersParam (s s' : Table) (env : Env) (p : Tree AParam) (n : ℕ) (old new : List Found) : Type 0 where
   pub inside : n < length s'.types
   pub uses : AreUsesOver s' new
@@ -60,8 +60,8 @@ IsParamOf s s' env p old new (Some n) = InfersParam s s' env p n old new
 abbrev pub VarsAs : Env → Places → List ℕ → List Ground → List Found → Assignment → Type 0
 VarsAs env kinds ns ts fs b = (types_at b ns ≡ ts) × AreFound env b kinds fs
 
--- A def's parameters were typed, from substitution s to s': their types are the variables ns at the solutions, no more
--- and no less. The uses in their defaults were added to `old`, which gives `new`.
+-- A def's parameters were typed, from substitution s to s': the solutions of s' are the typings of their defaults,
+-- whose types are the variables ns. The uses in the defaults were added to `old`, which gives `new`.
 pub record InfersParams (s s' : Table) (env : Env) (ps : Tree (Many AParam)) (ns : List ℕ) (old new : List Found) : Type
     0 where
   pub inside : AreVars s' ns
@@ -112,8 +112,8 @@ HaveNoInners s env is us old = (a : Assignment) → Solves a s → (kinds : Plac
 abbrev pub DefAs : Env → Places → List ℕ → ℕ → List Ground → Ground → List Found → Assignment → Type 0
 DefAs env kinds ns n ts g fs b = (types_at b ns ≡ ts) × (b.type_of n ≡ g) × AreFound env b kinds fs
 
--- A def was typed, from substitution s to s': its typings are the solutions, where its parameters have the variables ns
--- and its result has variable n. Its text has the uses fs.
+-- A def was typed, from substitution s to s': the solutions of s' are its typings, where its parameters have the
+-- variables ns and its result has variable n. Its text has the uses fs.
 pub record InfersDef (s s' : Table) (env : Env) (d : Tree ADef) (ns : List ℕ) (n : ℕ) (fs : List Found) : Type 0 where
   pub params : AreVars s' ns
   pub result : n < length s'.types
