@@ -4,24 +4,24 @@ use Rattle.buffer_queue.specs.Window.{Window, Closes, is_chunk}
 use Rattle.buffer_ends.specs.Sides.{Side}
 use Rattle.buffer_ends.specs.Local.{Answers}
 
--- at this place of a list of ends stands this one
+-- at this place of a clock's list of buffer ends stands this end
 pub record HasAt (sides : List Side) (place : ℕ) (side : Side) : Type 0 where
   pub within : place < length sides
   pub is : (d : Side) → slice_index_or sides place d ≡ side
 
--- among these ends is the one of a buffer, with this open window
+-- among a clock's buffer ends is one of this buffer, with this open window (the calls since the ends last met)
 pub record HasEnd (sides : List Side) (buffer : ℕ) (window : Window) : Type 0 where
   pub place : ℕ
   pub at : HasAt sides place (record { buffer = buffer; window = window })
 
--- the window of one buffer's end was closed, and its next one is open; the other ends stay
+-- one end closed its window and opened the next one; the clock's other ends stay
 pub record Turned (sides after : List Side) (buffer : ℕ) (old new : Window) : Type 0 where
   pub place : ℕ
   pub at : HasAt sides place (record { buffer = buffer; window = old })
   pub are : after ≡ slice_set sides place (record { buffer = buffer; window = new })
 
--- the window of a buffer was closed at both ends, at one among those that put and one among those that take, and these
--- are its answers
+-- A buffer's two ends met and closed their window, one end in the list of a clock that puts and one in that of a clock
+-- that takes. `log` tells which calls of the window succeeded.
 pub record WasClosed (buffer : ℕ) (puts puts_after takes takes_after : List Side) (log : Answers) : Type 0 where
   pub put : Window
   pub take : Window
@@ -33,7 +33,8 @@ pub record WasClosed (buffer : ℕ) (puts puts_after takes takes_after : List Si
   pub log_puts : log.puts ≡ map is_chunk put.answers
   pub log_takes : log.takes ≡ map is_chunk take.answers
 
--- both ends of a buffer are there, those of one queue: one among the ends that put, one among those that take
+-- both ends of a buffer are there, one in the list of ends that put and one in that of ends that take, and both hold
+-- the same queue
 pub record HaveEnds (puts takes : List Side) (buffer : ℕ) : Type 0 where
   pub put : Window
   pub take : Window
@@ -41,7 +42,8 @@ pub record HaveEnds (puts takes : List Side) (buffer : ℕ) : Type 0 where
   pub takes_there : HasEnd takes buffer take
   pub queue : put.queue ≡ take.queue
 
--- two ends of a queue before and after their window was closed, and the answers of that window
+-- Two ends of one queue close their window together and open the next one; `log` tells which puts and takes of the
+-- closed one succeeded.
 pub record ClosesSides (put take next_put next_take : Side) (log : Answers) : Type 0 where
   pub closes : Closes put.window take.window put.window.queue next_put.window next_take.window
   pub put_buffer : next_put.buffer ≡ put.buffer

@@ -8,66 +8,67 @@ use Rattle.frame_core.specs.Calls.Call.{Took, Given}
 use Rattle.plan_core.specs.declared.sink.BufferPlan.{BufferPlan}
 use Rattle.buffer_ends.specs.declared.counts.Counts.{Counts}
 
--- the answers of one window: of the puts, true for an accepted chunk, and of the takes, true for a chunk that was got
+-- The answers of a buffer in one window (a run of ticks between two meetings of its ends). A put is true if the chunk
+-- was accepted, and a take if a chunk was got.
 pub record Answers : Type 0 where
   pub puts : List Bool
   pub takes : List Bool
 
--- A buffer: how many chunks it may hold, those that it holds, the answers of each closed window, and those of the open
--- one.
+-- A buffer that one thread keeps as a list: how many chunks it may hold, those that it holds, the answers of each
+-- closed window, and those of the open one.
 pub record LocalBuffer : Type 0 where
   pub capacity : ℕ
   pub chunks : List (List Cell)
   pub closed : List Answers
   pub current : Answers
 
--- the answers of a window before any call
+-- the answers of a window in which no call was made yet
 abbrev pub no_answers : Answers
 no_answers = record { puts = []; takes = [] }
 
--- a buffer of at most `capacity` chunks before any call
+-- a buffer that one thread keeps, for at most `capacity` chunks, before any call
 abbrev pub empty_buffer : ℕ → LocalBuffer
 empty_buffer capacity = record { capacity = capacity; chunks = []; closed = []; current = no_answers }
 
--- the answers of a window's puts
+-- the answers of the puts in a window
 abbrev pub puts_of : Answers → List Bool
 puts_of answers = answers.puts
 
--- the answers of a window's takes
+-- the answers of the takes in a window
 abbrev pub takes_of_window : Answers → List Bool
 takes_of_window answers = answers.takes
 
--- all answers of a buffer, the oldest first
+-- all answers of a buffer over its windows as those of one, the oldest first
 abbrev pub all_answers : LocalBuffer → Answers
 all_answers buffer = record {
   puts = flat_map puts_of buffer.closed ++ buffer.current.puts;
   takes = flat_map takes_of_window buffer.closed ++ buffer.current.takes;
 }
 
--- what the rules of a bounded queue speak of: how many chunks it may hold, those that it holds, and all answers
+-- A bounded queue, as its rules see it: how many chunks it may hold, those that it holds, and all answers so far.
 pub record Held : Type 0 where
   pub capacity : ℕ
   pub chunks : List (List Cell)
   pub answers : Answers
 
--- a buffer as the rules of a bounded queue speak of it
+-- a buffer that one thread keeps, as a bounded queue of the rules: its windows are taken as one
 abbrev pub held : LocalBuffer → Held
 held buffer = record { capacity = buffer.capacity; chunks = buffer.chunks; answers = all_answers buffer }
 
--- a list of at most `capacity` chunks before any call
+-- a bounded queue of at most `capacity` chunks before any call
 abbrev pub empty_list : ℕ → Held
 empty_list capacity = record { capacity = capacity; chunks = []; answers = no_answers }
 
--- answers, and that of one more put
+-- the answers with that of one more put at the end
 abbrev pub with_put : Bool → Answers → Answers
 with_put answer answers = record { puts = answers.puts ++ answer ∷ []; takes = answers.takes }
 
--- answers, and that of one more take
+-- the answers with that of one more take at the end
 abbrev pub with_take : Bool → Answers → Answers
 with_take answer answers = record { puts = answers.puts; takes = answers.takes ++ answer ∷ [] }
 
--- A call on a list leads from one state to another: a take gets the front, and is empty only where nothing is there; a
--- put goes to the back, and is refused only where the list is full.
+-- What one call does to a bounded queue. A take gets the front chunk, and finds nothing only where the queue is empty;
+-- a put adds at the back, and is refused only where the queue is full.
 abbrev pub Step : Held → Call → Held → Type 0
 Step before (Took buffer None) after =
     (before.chunks ≡ []) × (after ≡ record before { answers = with_take false before.answers })
@@ -84,26 +85,27 @@ Step before (Given buffer chunk true) after =
 Step before (Given buffer chunk false) after =
     (length before.chunks ≡ before.capacity) × (after ≡ record before { answers = with_put false before.answers })
 
--- these calls lead from one state of a list to another
+-- these calls, one after another, lead from one state of a bounded queue to another
 abbrev pub Leads : Held → List Call → Held → Type 0
 Leads before [] after = before ≡ after
 Leads before (call ∷ calls) after = (between : Held) × Step before call between × Leads between calls after
 
--- the buffer of a call
+-- the number of the buffer on which a call was made
 abbrev pub buffer_of : Call → ℕ
 buffer_of (Took buffer answer) = buffer
 buffer_of (Given buffer chunk accepted) = buffer
 
--- those of these calls that are on one buffer
+-- those of these calls that were made on one buffer, in order
 abbrev pub on : ℕ → List Call → List Call
 on buffer [] = []
 on buffer (call ∷ calls) = if buffer == buffer_of call then call ∷ on buffer calls else on buffer calls
 
--- whether an answer is true
+-- whether an answer is true: the test by which successes are counted
 abbrev pub yes : Bool → Bool
 yes answer = answer
 
--- how many of these answers are of each sort
+-- how many of these answers are of each sort: puts accepted, puts that found it full, takes that got a chunk, takes
+-- that found it empty
 abbrev pub counts_of : Answers → Counts
 counts_of answers = record {
   accepted = count_by yes answers.puts;
@@ -112,7 +114,7 @@ counts_of answers = record {
   empty = count_by not answers.takes;
 }
 
--- a buffer after its window was closed and the next one opened
+-- a buffer after its open window was closed (its answers go to the closed ones) and the next one opened
 abbrev pub closed : LocalBuffer → LocalBuffer
 closed buffer = record {
   capacity = buffer.capacity;
@@ -121,26 +123,27 @@ closed buffer = record {
   current = no_answers;
 }
 
--- these buffers after the windows of the first so many were closed
+-- a list of buffers after the open windows of its first so many were closed
 abbrev pub closed_first : ℕ → List LocalBuffer → List LocalBuffer
 closed_first zero buffers = buffers
 closed_first (suc n) [] = []
 closed_first (suc n) (buffer ∷ buffers) = closed buffer ∷ closed_first n buffers
 
--- the answers of a buffer's closed windows, the oldest first
+-- the answers of a buffer's closed windows, window by window and the oldest first
 abbrev pub closed_windows : LocalBuffer → List Answers
 closed_windows buffer = buffer.closed
 
--- a buffer of a plan before any call
+-- a buffer as a plan asks for it, before any call: empty, and with the capacity of the plan
 abbrev pub planned : BufferPlan → LocalBuffer
 planned buffer = empty_buffer buffer.capacity
 
--- the answers of a window as nested pairs, which code to numbers
+-- how the answers of a window are coded as a number, by way of pairs, so that contracts may see a value that holds them
 abbrev pub answers_coded : Coded Answers
 answers_coded = code_by (List Bool × List Bool) (coded× (coded_list coded_bool) (coded_list coded_bool))
     (λ a. (a.puts, a.takes)) (λ p. record { puts = p.0; takes = p.1 }) (λ _. refl)
 
--- a buffer as nested pairs, which code to numbers
+-- how a buffer that one thread keeps is coded as a number, by way of nested pairs, so that contracts may see a value
+-- that holds it
 abbrev pub buffer_coded : Coded LocalBuffer
 buffer_coded =
     code_by (ℕ × (List (List Cell) × (List Answers × Answers)))

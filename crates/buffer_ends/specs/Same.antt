@@ -3,12 +3,12 @@ use Rattle.std.specs.Prelude.{◌≡◌, ℕ, ◌<◌, List, length, slice_index
 use Rattle.std.proofs.Common.{◌∙◌, arith}
 use Rattle.buffer_ends.specs.Local.{LocalBuffer}
 
--- a list has the capacity and the closed windows that it had before
+-- a call left a buffer its capacity and its closed windows: it changed at most its chunks and the open window
 pub record SameBuffer (before after : LocalBuffer) : Type 0 where
   pub capacity : after.capacity ≡ before.capacity
   pub closed : after.closed ≡ before.closed
 
--- each list has the capacity and the closed windows that it had before
+-- calls left each buffer its capacity and its closed windows: they changed at most chunks and open windows
 pub record SameBuffers (before after : List LocalBuffer) : Type 0 where
   pub many : length after ≡ length before
   pub each : (k : ℕ) (d : LocalBuffer) → k < length before

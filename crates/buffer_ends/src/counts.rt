@@ -14,7 +14,7 @@ pub struct Counts {
 }
 
 impl Counts {
-    /// The counts before any call.
+    /// The counts of a buffer before any call: no put and no take.
     pub fn none() -> Counts
         ensures { result ≡ record { accepted = 0; full = 0; got = 0; empty = 0 } }
     {
@@ -26,7 +26,8 @@ impl Counts {
         }
     }
 
-    // Counts one more put. Memory is refused where no number counts it.
+    // These counts with one more put, which was accepted or found the buffer full. Memory is refused where no number
+    // counts it.
     pub(crate) fn with_put(self, accepted: bool) -> Result<Counts, Memory>
         ensures yes { accepted ≡ true → IfOk result (λ counts. counts ≡ record self { accepted = self.accepted + 1 }) }
         ensures no { accepted ≡ false → IfOk result (λ counts. counts ≡ record self { full = self.full + 1 }) }
@@ -39,7 +40,8 @@ impl Counts {
         Ok(Counts { full, ..self })
     }
 
-    // Counts one more take. Memory is refused where no number counts it.
+    // These counts with one more take, which got a chunk or found the buffer empty. Memory is refused where no number
+    // counts it.
     pub(crate) fn with_take(self, got: bool) -> Result<Counts, Memory>
         ensures yes { got ≡ true → IfOk result (λ counts. counts ≡ record self { got = self.got + 1 }) }
         ensures no { got ≡ false → IfOk result (λ counts. counts ≡ record self { empty = self.empty + 1 }) }

@@ -59,7 +59,8 @@ impl<'a> Model for TakeEnd<'a> {
 }
 
 impl<'a> PutEnd<'a> {
-    /// The end of a buffer with its queue and the queue's pass.
+    /// A clock's end of a buffer to which it gives, over the queue that both ends share. `pass` is the right to put
+    /// into it, and keeps the answers.
     pub fn new(buffer: u32, queue: &'a BufferQueue, pass: PutPass) -> PutEnd<'a>
         requires { pass.queue ≡ queue.now }
         ensures { result ≡ record { buffer = buffer; window = pass } }
@@ -71,21 +72,21 @@ impl<'a> PutEnd<'a> {
         }
     }
 
-    /// The pass, with the answers of the calls.
+    /// Gives the end up, and hands out its right to put, with the answers of the calls in the open window.
     pub fn into_pass(self) -> PutPass
         ensures { result ≡ self.entry.window }
     {
         self.pass
     }
 
-    /// The number of the buffer.
+    /// The number of the buffer to which the clock gives here.
     pub fn buffer(&self) -> u32
         ensures { result ≡ self.now.buffer }
     {
         self.buffer
     }
 
-    // How many puts were accepted in the open window, and how many found the queue full.
+    // How many puts at this end were accepted in the open window, and how many found the queue full.
     fn counted(&self) -> (u64, u64)
         ensures yes { result.0 ≡ count_by yes (map is_chunk self.now.window.answers) }
         ensures no { result.1 ≡ count_by not (map is_chunk self.now.window.answers) }
@@ -93,8 +94,8 @@ impl<'a> PutEnd<'a> {
         counted(self.pass.answers())
     }
 
-    // Closes the window at both ends of the queue, of which `take` is the other, and opens the next one. It answers the
-    // answers of the closed window.
+    // Closes the window (the calls since the ends last met) at both ends of the queue, of which `take` is the other,
+    // and opens the next one. It returns the answers of the closed window.
     fn close(&mut self, alloc: Global, take: &mut TakeEnd<'_>) -> WindowLog
         requires { self.old.window.queue ≡ take.old.window.queue }
         ensures closes { Closes self.old.window take.old.window self.old.window.queue self.new.window take.new.window }
@@ -122,7 +123,8 @@ impl<'a> PutEnd<'a> {
 }
 
 impl<'a> TakeEnd<'a> {
-    /// The end of a buffer with its queue and the queue's pass.
+    /// A clock's end of a buffer from which it takes, over the queue that both ends share. `pass` is the right to
+    /// take from it, and keeps the answers.
     pub fn new(buffer: u32, queue: &'a BufferQueue, pass: TakePass) -> TakeEnd<'a>
         requires { pass.queue ≡ queue.now }
         ensures { result ≡ record { buffer = buffer; window = pass } }
@@ -134,21 +136,21 @@ impl<'a> TakeEnd<'a> {
         }
     }
 
-    /// The pass, with the answers of the calls.
+    /// Gives the end up, and hands out its right to take, with the answers of the calls in the open window.
     pub fn into_pass(self) -> TakePass
         ensures { result ≡ self.entry.window }
     {
         self.pass
     }
 
-    /// The number of the buffer.
+    /// The number of the buffer from which the clock takes here.
     pub fn buffer(&self) -> u32
         ensures { result ≡ self.now.buffer }
     {
         self.buffer
     }
 
-    // How many takes got a chunk in the open window, and how many found the queue empty.
+    // How many takes at this end got a chunk in the open window, and how many found the queue empty.
     fn counted(&self) -> (u64, u64)
         ensures yes { result.0 ≡ count_by yes (map is_chunk self.now.window.answers) }
         ensures no { result.1 ≡ count_by not (map is_chunk self.now.window.answers) }
@@ -156,7 +158,7 @@ impl<'a> TakeEnd<'a> {
         counted(self.pass.answers())
     }
 
-    // Takes a chunk from the queue; nothing where it is empty.
+    // Takes a chunk from the queue at this end; nothing where it is empty.
     fn take<R: Wait>(&mut self, rt: &R) -> Result<Option<Chunk>, Memory>
         ensures same { SameSide self.old self.new }
         ensures answer { IfOk result (Takes self.old.window self.new.window) }
@@ -166,7 +168,8 @@ impl<'a> TakeEnd<'a> {
     }
 }
 
-// The counts of a buffer, where those of its puts are the ones of its end, if one is there.
+// The counts of a buffer, with its puts counted at this clock's end of it; as they were where the clock has no such
+// end.
 pub(crate) fn with_puts(ends: &Vec<PutEnd<'_>>, buffer: u32, counts: Counts) -> Counts
     requires { Falling ends.now.items }
     ensures puts { (list : LocalBuffer) → counts ≡ counts_of (all_answers list)
@@ -186,7 +189,8 @@ pub(crate) fn with_puts(ends: &Vec<PutEnd<'_>>, buffer: u32, counts: Counts) -> 
     }
 }
 
-// The counts of a buffer, where those of its takes are the ones of its end, if one is there.
+// The counts of a buffer, with its takes counted at this clock's end of it; as they were where the clock has no such
+// end.
 pub(crate) fn with_takes(ends: &Vec<TakeEnd<'_>>, buffer: u32, counts: Counts) -> Counts
     requires { Falling ends.now.items }
     ensures takes { (list : LocalBuffer) → (counts.got ≡ count_by yes (all_answers list).takes)
@@ -206,7 +210,8 @@ pub(crate) fn with_takes(ends: &Vec<TakeEnd<'_>>, buffer: u32, counts: Counts) -
     }
 }
 
-// The place of the end of a buffer among those that put, if one is there. It halves the ends at each step.
+// The place of the end that puts into this buffer in a clock's list of ends, if one is there. The list is sorted by
+// falling buffers and is halved at each step.
 pub(crate) fn put_place(ends: &Vec<PutEnd<'_>>, buffer: u32) -> Option<usize>
     requires { Falling ends.now.items }
     ensures some { IfSome result (λ k. (k < length ends.now.items)
@@ -222,7 +227,8 @@ pub(crate) fn put_place(ends: &Vec<PutEnd<'_>>, buffer: u32) -> Option<usize>
     }
 }
 
-// The place of the end of a buffer among those that take, if one is there. It halves the ends at each step.
+// The place of the end that takes from this buffer in a clock's list of ends, if one is there. The list is sorted by
+// falling buffers and is halved at each step.
 pub(crate) fn take_place(ends: &Vec<TakeEnd<'_>>, buffer: u32) -> Option<usize>
     requires { Falling ends.now.items }
     ensures some { IfSome result (λ k. (k < length ends.now.items)
@@ -238,7 +244,8 @@ pub(crate) fn take_place(ends: &Vec<TakeEnd<'_>>, buffer: u32) -> Option<usize>
     }
 }
 
-// Puts a chunk at the end at this place.
+// Puts a chunk into the buffer whose end stands at this place. It comes back where the buffer is full or memory is
+// refused.
 pub(crate) fn give_at<R: Wait>(
     rt: &R,
     ends: &mut Vec<PutEnd<'_>>,
@@ -255,7 +262,7 @@ pub(crate) fn give_at<R: Wait>(
     ends[place].give(rt, chunk)
 }
 
-// Takes a chunk at the end at this place.
+// Takes a chunk from the buffer whose end stands at this place; nothing where it is empty.
 pub(crate) fn take_at<R: Wait>(
     rt: &R,
     ends: &mut Vec<TakeEnd<'_>>,
@@ -271,7 +278,7 @@ pub(crate) fn take_at<R: Wait>(
     ends[place].take(rt)
 }
 
-// How many answers are true, and how many are false.
+// How many of these answers are true (successes), and how many are false.
 fn counted(answers: &[bool]) -> (u64, u64)
     ensures yes { result.0 ≡ count_by yes answers.now }
     ensures no { result.1 ≡ count_by not answers.now }
@@ -281,7 +288,8 @@ fn counted(answers: &[bool]) -> (u64, u64)
     (yes, no)
 }
 
-// Closes the window of a buffer whose ends are at `place` among those that put, and at `other` among those that take.
+// Closes the window of a buffer whose ends stand at `place` among those that put and at `other` among those that
+// take, opens the next one, and returns the answers of the closed one.
 pub(crate) fn close_at(
     alloc: Global,
     puts: &mut Vec<PutEnd<'_>>,

@@ -53,7 +53,7 @@ impl Model for LocalList {
 }
 
 impl LocalList {
-    // An empty list of at most `capacity` chunks.
+    // A buffer that one thread keeps as a list, empty, for at most `capacity` chunks.
     fn new(alloc: Global, capacity: u32) -> LocalList
         ensures { result ≡ empty_buffer capacity }
     {
@@ -67,14 +67,14 @@ impl LocalList {
         }
     }
 
-    /// How often the calls had which answer, in all windows.
+    /// How many puts and takes of the buffer succeeded and how many failed, over all windows.
     pub(crate) fn counted(&self) -> Counts
         ensures { result ≡ counts_of (all_answers self.now) }
     {
         self.counts
     }
 
-    // Takes the chunk at the front; nothing where the list is empty.
+    // Takes the chunk at the buffer's front and notes the answer; nothing where the buffer is empty.
     fn take(&mut self) -> Result<Option<Chunk>, Memory>
         ensures same { SameBuffer self.old self.new }
         ensures step { IfOk result (λ answer. (b : ℕ) → Step (held self.old) (Took b answer) (held self.new)) }
@@ -96,7 +96,8 @@ impl LocalList {
         }
     }
 
-    // Puts a chunk at the back. It comes back where the list is full, and where memory is refused.
+    // Puts a chunk at the buffer's back and notes the answer. It comes back where the buffer is full, and where
+    // memory is refused.
     fn give(&mut self, chunk: Chunk) -> Result<Gave, (Chunk, Memory)>
         ensures same { SameBuffer self.old self.new }
         ensures step { IfOk result (λ gave. (b : ℕ) → (call : Call) × IsGive b chunk gave call
@@ -125,7 +126,7 @@ impl LocalList {
         }
     }
 
-    // Closes the open window, and opens the next one.
+    // Closes the open window, so that its answers go to the closed ones, and opens the next one.
     fn close(&mut self, alloc: Global) -> Result<(), Memory>
         ensures closed { OnOk result (self.new ≡ closed self.old) }
         ensures memory { OnErr result (self.new ≡ self.old) }
@@ -137,7 +138,7 @@ impl LocalList {
         Ok(())
     }
 
-    // Opens the window again that was closed last, which had no calls after it.
+    // Undoes the closing of the last window, after which no call was made.
     fn reopen(&mut self)
         requires { (b : LocalBuffer) × (self.old ≡ closed b) }
         ensures { (b : LocalBuffer) → self.old ≡ closed b → self.new ≡ b }
@@ -148,7 +149,7 @@ impl LocalList {
         }
     }
 
-    // The answers of the closed windows.
+    // Gives the buffer up, and hands out the answers of its closed windows.
     fn into_log(self) -> BufferLog
         ensures { result ≡ self.closed }
     {
@@ -158,7 +159,7 @@ impl LocalList {
     }
 }
 
-// Takes from the list of this buffer.
+// Takes a chunk from the buffer of this number; nothing where it is empty.
 pub(crate) fn take_from(lists: &mut Vec<LocalList>, buffer: u32) -> Result<Option<Chunk>, Memory>
     requires { buffer < length lists.old.items }
     ensures ok { IfOk result (λ answer. (l : LocalBuffer) × (lists.new.items ≡ slice_set lists.old.items buffer l)
@@ -169,7 +170,7 @@ pub(crate) fn take_from(lists: &mut Vec<LocalList>, buffer: u32) -> Result<Optio
     lists[buffer as usize].take()
 }
 
-// Puts a chunk into the list of this buffer.
+// Puts a chunk into the buffer of this number. It comes back where the buffer is full or memory is refused.
 pub(crate) fn give_into(
     lists: &mut Vec<LocalList>,
     buffer: u32,
@@ -185,7 +186,7 @@ pub(crate) fn give_into(
     lists[buffer as usize].give(chunk)
 }
 
-// One empty list for each buffer of a plan.
+// The buffers of a plan as lists, each empty.
 pub(crate) fn empty_lists(alloc: Global, buffers: &[BufferPlan]) -> Result<Vec<LocalList>, Memory>
     ensures empty { IfOk result (λ lists. lists.items ≡ map planned buffers.now) }
     ensures none { buffers.now ≡ [] → IsOk result }
@@ -197,7 +198,7 @@ pub(crate) fn empty_lists(alloc: Global, buffers: &[BufferPlan]) -> Result<Vec<L
     Ok(lists)
 }
 
-// Closes the window of the list of this buffer.
+// Closes the open window of the buffer of this number, and opens its next one.
 pub(crate) fn close_in(alloc: Global, lists: &mut Vec<LocalList>, buffer: u32) -> Result<(), Memory>
     requires { buffer < length lists.old.items }
     ensures closed { OnOk result ((d : LocalBuffer)
@@ -208,7 +209,7 @@ pub(crate) fn close_in(alloc: Global, lists: &mut Vec<LocalList>, buffer: u32) -
     lists[buffer as usize].close(alloc)
 }
 
-// Closes the window of each list, or, where memory is refused, of none.
+// Closes the open window of each buffer and opens its next one, or, where memory is refused, of none.
 pub(crate) fn close_all(alloc: Global, lists: &mut Vec<LocalList>) -> Result<(), Memory>
     ensures closed { OnOk result (lists.new.items ≡ map closed lists.old.items) }
     ensures memory { OnErr result (lists.new.items ≡ lists.old.items) }
@@ -223,7 +224,8 @@ pub(crate) fn close_all(alloc: Global, lists: &mut Vec<LocalList>) -> Result<(),
     Ok(())
 }
 
-// The answers of each list's closed windows. They are added to `logs`, which is empty and has room for them.
+// Gives the buffers up, and hands out the answers of their closed windows, one log for each. They are added to
+// `logs`, which is empty and has room for them.
 pub(crate) fn into_logs(lists: Vec<LocalList>, mut logs: Vec<BufferLog>) -> Vec<BufferLog>
     requires empty { logs.items ≡ [] }
     requires room { length lists.items ≤ vec_capacity logs }
@@ -235,7 +237,7 @@ pub(crate) fn into_logs(lists: Vec<LocalList>, mut logs: Vec<BufferLog>) -> Vec<
     logs
 }
 
-// Opens the windows again that were closed last, in the first `many` lists.
+// Undoes the closing of the last window of the first `many` buffers.
 fn reopen_first(lists: &mut Vec<LocalList>, many: usize)
     requires { (bs : List LocalBuffer) × (many ≤ length bs) × (lists.old.items ≡ closed_first many bs) }
     ensures { (bs : List LocalBuffer) → many ≤ length bs → lists.old.items ≡ closed_first many bs

@@ -39,7 +39,7 @@ impl Model for LocalTaps {
 }
 
 impl LocalTaps {
-    /// The buffers of a plan, each empty. Without buffers it takes no memory.
+    /// The buffers of a plan, each empty and kept by one thread alone. Without buffers it takes no memory.
     pub fn new(alloc: Global, plan: &Plan) -> Result<LocalTaps, Memory>
         ensures empty { IfOk result (λ taps. taps ≡ map planned plan.now.buffers) }
         ensures none { plan.now.buffers ≡ [] → IsOk result }
@@ -50,7 +50,7 @@ impl LocalTaps {
         Ok(LocalTaps { lists, logs })
     }
 
-    /// How often the calls on a buffer had which answer, in all windows.
+    /// How many puts and takes of a buffer succeeded and how many failed, over all windows.
     pub fn counts(&self, buffer: u32) -> Counts
         requires { buffer < length self.now }
         ensures { (d : LocalBuffer) → result ≡ counts_of (all_answers (slice_index_or self.now buffer d)) }
@@ -69,14 +69,15 @@ impl LocalTaps {
         close_all(alloc, &mut self.lists)
     }
 
-    /// The closed windows, one log for each buffer. It takes no memory.
+    /// Gives the buffers up, and hands out the answers of their closed windows, one log for each buffer. It takes no
+    /// memory.
     pub fn into_logs(self) -> Vec<BufferLog>
         ensures { result.items ≡ map closed_windows self }
     {
         into_logs(self.lists, self.logs)
     }
 
-    // Closes the window of the list of this buffer, and opens the next one.
+    // Closes the open window of the buffer of this number, and opens its next one.
     pub(crate) fn close_one(&mut self, alloc: Global, buffer: u32) -> Result<(), Memory>
         requires { buffer < length self.old }
         ensures closed { OnOk result ((d : LocalBuffer)
@@ -86,7 +87,7 @@ impl LocalTaps {
         close_in(alloc, &mut self.lists, buffer)
     }
 
-    // Takes from the list of this buffer.
+    // Takes a chunk from the buffer of this number; nothing where it is empty.
     pub(crate) fn take_of(&mut self, buffer: u32) -> Result<Option<Chunk>, Memory>
         requires { buffer < length self.old }
         ensures ok { IfOk result (λ answer. (l : LocalBuffer) × (self.new ≡ slice_set self.old buffer l)
@@ -97,7 +98,7 @@ impl LocalTaps {
         take_from(&mut self.lists, buffer)
     }
 
-    // Puts a chunk into the list of this buffer.
+    // Puts a chunk into the buffer of this number. It comes back where the buffer is full or memory is refused.
     pub(crate) fn give_to(&mut self, buffer: u32, chunk: Chunk) -> Result<Gave, (Chunk, Memory)>
         requires { buffer < length self.old }
         ensures ok { IfOk result (λ gave. (l : LocalBuffer) × (self.new ≡ slice_set self.old buffer l) × (call : Call)
@@ -125,10 +126,13 @@ impl Taps for LocalTaps {
 
     ghost same_trans = { λ s t u a b. same_buffers_trans s t u a b };
 
+    // Takes a chunk from the buffer of this number, which the clock keeps alone; nothing where it is empty.
     fn take(&mut self, buffer: u32) -> Result<Option<Chunk>, Memory> {
         self.take_of(buffer)
     }
 
+    // Puts a chunk into the buffer of this number, which the clock keeps alone. It comes back where the buffer is
+    // full or memory is refused.
     fn give(&mut self, buffer: u32, chunk: Chunk) -> Result<Gave, (Chunk, Memory)> {
         self.give_to(buffer, chunk)
     }

@@ -30,8 +30,9 @@ pub struct ThreadTaps<'a, R> {
 }
 
 impl<'a, R> ThreadTaps<'a, R> {
-    /// The taps of one clock. Each list of ends goes from the buffer with the largest number to the one with the
-    /// smallest, and has each at most once.
+    /// The buffers of one clock (its taps): those that it keeps alone, and its ends of those shared with other
+    /// clocks. Each list of ends goes from the buffer with the largest number to the one with the smallest, and has
+    /// each at most once.
     pub fn new(
         rt: &'a R,
         local: LocalTaps,
@@ -77,7 +78,8 @@ impl<'a, R> ThreadTaps<'a, R> {
         Ok(())
     }
 
-    /// Hands out the lists and the ends, with the answers of the calls.
+    /// Gives the taps up, and hands out the buffers kept alone and the ends of the shared ones, with the answers of
+    /// the calls.
     pub fn into_parts(self) -> (LocalTaps, Vec<PutEnd<'a>>, Vec<TakeEnd<'a>>)
         ensures { (result.0 ≡ self.entry.local) × (result.1 ≡ self.entry.puts) × (result.2 ≡ self.entry.takes) }
     {
@@ -90,8 +92,9 @@ impl<'a, R> ThreadTaps<'a, R> {
         (local, puts, takes)
     }
 
-    /// Closes the window of a buffer to which these taps give, and opens the next one. `takes` are the ends of the
-    /// clock that takes from it. It answers the answers of the closed window, and takes no memory.
+    /// Closes the window (the calls since the ends last met) of a buffer into which this clock puts, and opens the
+    /// next one. `takes` are the ends of the clock that takes from it. It returns the answers of the closed window,
+    /// and takes no memory.
     pub fn close_with(
         &mut self,
         alloc: Global,
@@ -114,7 +117,8 @@ impl<'a, R> ThreadTaps<'a, R> {
         close_at(alloc, &mut self.puts, place, takes, at)
     }
 
-    /// Takes out the ends that take, so that their windows can be closed.
+    /// Takes out the clock's ends that take, so that the windows of their buffers can be closed together with the
+    /// clocks that put.
     pub fn lend_takes(&mut self, alloc: Global) -> Vec<TakeEnd<'a>>
         ensures lent { result.items ≡ self.old.takes.items }
         ensures falling { Falling result.items }
@@ -123,7 +127,7 @@ impl<'a, R> ThreadTaps<'a, R> {
         mem::replace(&mut self.takes, Vec::new(alloc))
     }
 
-    /// Puts the ends back that were taken out to close their windows.
+    /// Puts the clock's ends that take back, which were taken out to close their windows.
     pub fn put_back(&mut self, takes: Vec<TakeEnd<'a>>)
         requires { Falling takes.items }
         ensures back { self.new.takes ≡ takes.entry }
@@ -132,7 +136,8 @@ impl<'a, R> ThreadTaps<'a, R> {
         self.takes = takes;
     }
 
-    /// Closes the window of the list of a buffer and opens the next one. Where memory is refused all is as before.
+    /// Closes the open window of a buffer that the clock keeps alone, and opens the next one. Where memory is refused
+    /// all is as before.
     pub fn close_list(&mut self, alloc: Global, buffer: u32) -> Result<(), Memory>
         requires { buffer < length self.old.local }
         ensures closed { OnOk result ((d : LocalBuffer)
@@ -146,8 +151,8 @@ impl<'a, R> ThreadTaps<'a, R> {
         self.local.close_one(alloc, buffer)
     }
 
-    /// How often the calls on a buffer had which answer, by the answers that are held: those of its end's window, or
-    /// those of its list where it has no end.
+    /// How many puts and takes of a buffer succeeded and how many failed: those of its end's open window, or all
+    /// those of a buffer that the clock keeps alone.
     pub fn counts(&self, buffer: u32) -> Counts
         requires { buffer < length self.now.local }
         ensures puts { (d : LocalBuffer)
@@ -183,6 +188,8 @@ impl<'a, R: Wait> Taps for ThreadTaps<'a, R> {
       same_buffers_trans s.local t.local u.local a.2 b.2,
     ) };
 
+    // Takes a chunk from the buffer of this number: at the clock's end, if it has one that takes, and otherwise from
+    // the list that it keeps alone.
     fn take(&mut self, buffer: u32) -> Result<Option<Chunk>, Memory> {
         match take_place(&self.takes, buffer) {
             Some(place) => take_at(self.rt, &mut self.takes, place),
@@ -190,6 +197,8 @@ impl<'a, R: Wait> Taps for ThreadTaps<'a, R> {
         }
     }
 
+    // Puts a chunk into the buffer of this number: at the clock's end, if it has one that puts, and otherwise into
+    // the list that it keeps alone.
     fn give(&mut self, buffer: u32, chunk: Chunk) -> Result<Gave, (Chunk, Memory)> {
         match put_place(&self.puts, buffer) {
             Some(place) => give_at(self.rt, &mut self.puts, place, chunk),

@@ -5,27 +5,28 @@ use Rattle.frame_core.specs.declared.cell.MarkRun.{MarkRun}
 use Rattle.cell_ring.specs.declared.mark_ring.Found.{Found}
 use Rattle.cell_ring.specs.Lanes.{begins_none, has_name}
 
--- each run has at least one mark
+-- each run of marks has at least one mark
 abbrev pub AreSome : List MarkRun → Type 0
 AreSome [] = Unit {0}
 AreSome (run ∷ runs) = (0 < run.count) × AreSome runs
 
--- the first mark of a run, if there is one
+-- the first mark of a run of marks with one title, if there is a run
 abbrev pub mark_of : Option MarkRun → Option CellMark
 mark_of None = None
 mark_of (Some run) = Some (record { first = run.first; title = run.title })
 
--- a run without its first `skip` marks
+-- a run of marks without its first `skip` ones; what is left begins no track if any was skipped
 abbrev pub rest_run : MarkRun → (skip : ℕ) → MarkRun
 rest_run run skip = record { first = run.first && nat_eq skip 0; title = run.title; count = run.count - skip }
 
--- whether there is a mark of this title that begins no track, or with `begins` may begin one
+-- whether a mark is there that a walk counts: it has this title and begins no track, or with `begins` true may begin
+-- one
 abbrev pub passing : (begins : Bool) → (title : ℕ) → Option CellMark → Bool
 passing true title mark = has_name title mark
 passing false title mark = begins_none title mark
 
--- What a walk over marks from mark `from` on found: those that pass, up to one that does not, to `most` of them, or to
--- the end of the list.
+-- What a walk over marks from place `from` on found. It counts marks that pass, up to one that does not, to `most` of
+-- them, or to the end of the list; then `skip` says how far the walk went past the end.
 pub record Walked (begins : Bool) (title : ℕ) (marks : List CellMark) (from most : ℕ) (walk : Found) : Type 0 where
   pub pass : (j : ℕ) → j < walk.count → passing begins title (slice_get marks (from + j)) ≡ true
   pub within : walk.count ≤ most

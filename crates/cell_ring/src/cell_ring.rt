@@ -40,7 +40,7 @@ impl Model for CellRing {
 }
 
 impl CellRing {
-    /// An empty ring, with room for `room` cells.
+    /// An empty ring (a bounded queue of cells), with room for `room` cells.
     pub fn new(alloc: Global, room: u32) -> Result<CellRing, Memory>
         ensures { IfOk result (λ ring. ring ≡ record { cells = []; room = room }) }
     {
@@ -50,7 +50,7 @@ impl CellRing {
         Ok(CellRing { left, right, marks })
     }
 
-    /// How many cells it holds.
+    /// How many cells the ring holds.
     pub fn len(&self) -> u32
         ensures len { result ≡ length self.now.cells }
         ensures within { result ≤ self.now.room }
@@ -58,14 +58,14 @@ impl CellRing {
         self.left.len() as u32
     }
 
-    /// How many cells it has room for.
+    /// How many cells the ring has room for in all.
     pub fn room(&self) -> u32
         ensures { result ≡ self.now.room }
     {
         self.left.capacity() as u32
     }
 
-    /// The first cell; `None` if there is none.
+    /// The cell at the front, which goes first; `None` if there is none.
     pub fn front(&self) -> Option<Cell>
         ensures { result ≡ slice_get self.now.cells 0 }
     {
@@ -96,7 +96,7 @@ impl CellRing {
         self.marks.titled(title, from, most)
     }
 
-    /// Appends a cell, for which there has to be room.
+    /// Appends a cell at the back, for which there has to be room.
     pub fn push(&mut self, cell: Cell)
         requires { length self.old.cells < self.old.room }
         ensures { self.new ≡ record { cells = self.old.cells ++ cell ∷ []; room = self.old.room } }
@@ -106,7 +106,8 @@ impl CellRing {
         self.marks.push(cell.first, cell.title, 1);
     }
 
-    /// Appends the cells of these samples and of the marks of these runs, without the first `skip` marks.
+    /// Appends cells at the back, given as lists side by side: their left and right samples, and the runs of their
+    /// marks, without the first `skip` marks.
     pub(crate) fn push_cells(&mut self, left: &[i16], right: &[i16], runs: &[MarkRun], skip: u32)
         requires same { (length left.now ≡ length (drop skip (marks_in runs.now)))
             × (length right.now ≡ length (drop skip (marks_in runs.now))) }
@@ -121,7 +122,8 @@ impl CellRing {
         self.marks.push_all(runs, skip);
     }
 
-    /// Appends cells of these samples with this title, none of which begins a track.
+    /// Appends cells in the middle of a track at the back, given by their samples: all have this title, and none
+    /// begins a track.
     pub fn push_inner(&mut self, title: u32, left: &[i16], right: &[i16])
         requires same { length right.now ≡ length left.now }
         requires there { length self.old.cells + length left.now ≤ self.old.room }
@@ -135,7 +137,7 @@ impl CellRing {
         self.marks.push(false, title, left.len() as u32);
     }
 
-    /// Takes the first cell away, if there is one.
+    /// Drops the cell at the front, if there is one.
     pub fn pop(&mut self)
         ensures { self.new ≡ record { cells = drop 1 self.old.cells; room = self.old.room } }
     {
@@ -144,7 +146,7 @@ impl CellRing {
         self.marks.drop_front(1);
     }
 
-    /// Moves the samples of the first cells out, as many as the slices are long.
+    /// Takes the cells at the front, as many as the slices are long, and writes their samples into the slices.
     pub fn take_into(&mut self, left: &mut [i16], right: &mut [i16])
         requires same { length right.old ≡ length left.old }
         requires there { length left.old ≤ length self.old.cells }
@@ -159,7 +161,8 @@ impl CellRing {
     }
 }
 
-// The cell of a left sample, a right sample and a mark; `None` where one is missing.
+// The cell of a left sample, a right sample and a mark (title, and whether a track begins); `None` where one of the
+// three is missing.
 pub(crate) fn slot_in(left: Option<i16>, right: Option<i16>, mark: Option<CellMark>) -> Option<Cell>
     ensures { result ≡ slot_in left right mark }
 {

@@ -37,7 +37,7 @@ impl Model for ChunkQueue {
 }
 
 impl ChunkQueue {
-    /// An empty queue, whose ring has room for `room` cells.
+    /// An empty queue of cells that come in chunks, whose ring has room for `room` cells.
     pub fn new(alloc: Global, room: u32) -> Result<ChunkQueue, Memory>
         ensures { IfOk result (λ queue. queue ≡ record { cells = []; room = room }) }
     {
@@ -49,7 +49,7 @@ impl ChunkQueue {
         })
     }
 
-    /// How many cells it holds.
+    /// How many cells the queue holds, those of the spare chunk among them.
     pub fn len(&self) -> u64
         ensures { result ≡ length self.now.cells }
     {
@@ -57,7 +57,7 @@ impl ChunkQueue {
         u64::from(self.ring.len()) + left.len() as u64
     }
 
-    /// The first cell; `None` if there is none.
+    /// The cell at the front, which goes first; `None` if there is none.
     pub fn front(&self) -> Option<Cell>
         ensures { result ≡ slice_get self.now.cells 0 }
     {
@@ -108,7 +108,7 @@ impl ChunkQueue {
         }
     }
 
-    /// Takes the first cell away, if there is one.
+    /// Drops the cell at the front, if there is one.
     pub fn pop(&mut self)
         ensures { self.new ≡ record { cells = drop 1 self.old.cells; room = self.old.room } }
     {
@@ -122,7 +122,7 @@ impl ChunkQueue {
         }
     }
 
-    /// Moves the samples of the first cells out, as many as the slices are long.
+    /// Takes the cells at the front, as many as the slices are long, and writes their samples into the slices.
     pub fn take_into(&mut self, left: &mut [i16], right: &mut [i16])
         requires same { length right.old ≡ length left.old }
         requires there { length left.old ≤ length self.old.cells }
@@ -142,8 +142,8 @@ impl ChunkQueue {
     }
 }
 
-// What is left of a spare chunk of which `gone` cells have gone: its left and its right samples, its runs of marks, and
-// how many marks of these have gone.
+// What is left of the spare chunk (the one for which the ring had no room) when `gone` of its cells were taken: its
+// left and its right samples, its runs of marks, and how many marks of these have gone.
 fn spare_of(spare: &Option<Chunk>, gone: usize) -> (&[i16], &[i16], &[MarkRun], u32)
     ensures cells { cells_in result.0.now result.1.now (drop result.3 (marks_in result.2.now))
         ≡ spare_cells spare.now gone }

@@ -43,7 +43,8 @@ impl Model for MarkRing {
 }
 
 impl MarkRing {
-    /// An empty ring, with room for `room` marks.
+    /// An empty queue of marks, with room for `room` of them. A mark says whether a track begins at a cell, and its
+    /// title.
     pub fn new(alloc: Global, room: u32) -> Result<MarkRing, Memory>
         ensures { IfOk result (λ marks. marks ≡ buffer [] room) }
     {
@@ -51,7 +52,7 @@ impl MarkRing {
         Ok(MarkRing { runs })
     }
 
-    /// The first mark; `None` if there is none.
+    /// The mark at the front, which goes first; `None` if there is none.
     pub fn front(&self) -> Option<CellMark>
         ensures { result ≡ slice_get self.now.items 0 }
     {
@@ -77,7 +78,7 @@ impl MarkRing {
         walk_both(true, title, &self.runs, from, most)
     }
 
-    /// Appends `count` marks of this title, the first of which may begin a track.
+    /// Appends the marks of `count` cells in a row with this title, the first of which may begin a track.
     pub fn push(&mut self, first: bool, title: u32, count: u32)
         requires { length self.old.items + count ≤ self.old.capacity }
         ensures { self.new ≡ buffer (self.old.items ++ run_marks first title count) self.old.capacity }
@@ -92,7 +93,7 @@ impl MarkRing {
         );
     }
 
-    /// Appends the marks of these runs, without the first `skip` of them.
+    /// Appends the marks that these runs stand for, without the first `skip` of them.
     pub fn push_all(&mut self, runs: &[MarkRun], skip: u32)
         requires { length self.old.items + length (drop skip (marks_in runs.now)) ≤ self.old.capacity }
         ensures { self.new ≡ buffer (self.old.items ++ drop skip (marks_in runs.now)) self.old.capacity }
@@ -100,7 +101,7 @@ impl MarkRing {
         push_each(&mut self.runs, runs, skip);
     }
 
-    /// Takes the first `count` marks away.
+    /// Drops the first `count` marks.
     pub fn drop_front(&mut self, count: u32)
         ensures { self.new ≡ buffer (drop count self.old.items) self.old.capacity }
     {
@@ -108,7 +109,7 @@ impl MarkRing {
     }
 }
 
-// The first mark of a run; `None` without a run.
+// The first mark of a run of marks with one title; `None` without a run.
 fn first_mark(run: Option<MarkRun>) -> Option<CellMark>
     ensures { result ≡ mark_of run }
 {
@@ -119,14 +120,15 @@ fn first_mark(run: Option<MarkRun>) -> Option<CellMark>
     })
 }
 
-// Whether a run goes on with the one before it: it begins no track and has the same title.
+// Whether a run of marks goes on with the run `last` before it, so that both could be one: it begins no track and has
+// the same title.
 fn joins(last: MarkRun, run: MarkRun) -> bool
     ensures { result ≡ joins last run }
 {
     !run.first && last.title == run.title
 }
 
-// Appends a run, or lengthens the last one if the run goes on with it. A run without marks is dropped.
+// Appends a run of marks, or lengthens the last one if the run goes on with it. A run without marks is dropped.
 fn push_run(runs: &mut HeapCircularBuffer<MarkRun>, run: MarkRun)
     requires some { AreSome runs.old.items }
     requires there { length (marks_in runs.old.items) + run.count ≤ runs.old.capacity }
@@ -154,7 +156,7 @@ fn push_run(runs: &mut HeapCircularBuffer<MarkRun>, run: MarkRun)
     }
 }
 
-// Appends runs, one after another, without their first `skip` marks.
+// Appends runs of marks, one after another, without their first `skip` marks.
 fn push_each(runs: &mut HeapCircularBuffer<MarkRun>, more: &[MarkRun], skip: u32)
     requires some { AreSome runs.old.items }
     requires there { length (marks_in runs.old.items) + length (drop skip (marks_in more.now)) ≤ runs.old.capacity }
@@ -175,7 +177,7 @@ fn push_each(runs: &mut HeapCircularBuffer<MarkRun>, more: &[MarkRun], skip: u32
     }
 }
 
-// A run without its first `skip` marks.
+// A run of marks without its first `skip` ones; what is left begins no track if any was skipped.
 fn rest_of(run: MarkRun, skip: u32) -> MarkRun
     requires { skip ≤ run.count }
     ensures { result ≡ rest_run run skip }
@@ -187,7 +189,7 @@ fn rest_of(run: MarkRun, skip: u32) -> MarkRun
     }
 }
 
-// Takes the first `count` marks away.
+// Drops the first `count` marks of these runs.
 fn drop_marks(runs: &mut HeapCircularBuffer<MarkRun>, count: u32)
     requires some { AreSome runs.old.items }
     requires there { length (marks_in runs.old.items) ≤ runs.old.capacity }
@@ -212,8 +214,8 @@ fn drop_marks(runs: &mut HeapCircularBuffer<MarkRun>, count: u32)
     }
 }
 
-// How many marks of a ring from mark `from` on, at most `most`, have this title and begin no track, or with `begins`
-// may begin one; up to the first that does not pass.
+// Counts the marks of a ring from mark `from` on, at most `most`, that have this title and begin no track, up to the
+// first that does not pass; with `begins` they may begin one. The ring stands in two slices.
 fn walk_both(
     begins: bool,
     title: u32,
@@ -234,8 +236,8 @@ fn walk_both(
     first.count + next.count
 }
 
-// How many marks of these runs from mark `from` on, at most `most`, have this title and begin no track, or with
-// `begins` may begin one; and how the walk ended.
+// Counts the marks of these runs from mark `from` on, at most `most`, that have this title and begin no track; with
+// `begins` they may begin one. It tells too whether a mark ended the count, or how far past the runs it came.
 pub(crate) fn walk_runs(begins: bool, title: u32, runs: &[MarkRun], from: u32, most: u32) -> Found
     ensures { Walked begins title (marks_in runs.now) from most result }
 {
@@ -275,7 +277,7 @@ pub(crate) fn walk_runs(begins: bool, title: u32, runs: &[MarkRun], from: u32, m
     }
 }
 
-// Run `at` of these, counted from 0.
+// The run of marks at place `at` in this list, counted from 0.
 fn run_at(runs: &[MarkRun], at: usize) -> MarkRun
     requires { at < length runs.now }
     ensures { slice_get runs.now at ≡ Some result }
@@ -283,7 +285,8 @@ fn run_at(runs: &[MarkRun], at: usize) -> MarkRun
     runs[at]
 }
 
-// Whether mark `at` of a run has this title, and begins no track or with `begins` may begin one.
+// Whether the mark at place `at` of a run counts: it has this title and begins no track, or with `begins` may begin
+// one.
 fn passes(begins: bool, title: u32, run: MarkRun, at: u32) -> bool
     ensures { result ≡ passing begins title (Some (mark_at run at)) }
 {

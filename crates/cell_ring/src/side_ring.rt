@@ -28,7 +28,7 @@ impl Model for SideRing {
 }
 
 impl SideRing {
-    /// An empty ring, with room for `room` samples.
+    /// An empty queue of one side's samples, with room for `room` of them.
     pub fn new(alloc: Global, room: usize) -> Result<SideRing, Memory>
         ensures { IfOk result (λ ring. ring ≡ buffer [] room) }
     {
@@ -36,7 +36,7 @@ impl SideRing {
         Ok(SideRing { zeros: 0, held })
     }
 
-    /// The first sample; `None` if there is none.
+    /// The sample at the front, which goes first; `None` if there is none.
     pub fn front(&self) -> Option<i16>
         ensures { result ≡ slice_get self.now.items 0 }
     {
@@ -46,7 +46,8 @@ impl SideRing {
         self.held.front().copied()
     }
 
-    /// Appends samples, for which there has to be room.
+    /// Appends samples at the back, for which there has to be room; silence is only counted as long as nothing else
+    /// is held.
     pub fn push_all(&mut self, samples: &[i16])
         requires { length self.old.items + length samples.now ≤ self.old.capacity }
         ensures { self.new ≡ buffer (self.old.items ++ samples.now) self.old.capacity }
@@ -60,7 +61,7 @@ impl SideRing {
         self.held.extend_from_slice(samples);
     }
 
-    /// Takes the first sample away, if there is one.
+    /// Drops the sample at the front, if there is one.
     pub fn pop(&mut self)
         ensures { self.new ≡ buffer (drop 1 self.old.items) self.old.capacity }
     {
@@ -71,7 +72,7 @@ impl SideRing {
         }
     }
 
-    /// Moves the first samples out, as many as the slice is long.
+    /// Takes the samples at the front, as many as the slice is long, and writes them into it.
     pub fn take_into(&mut self, into: &mut [i16])
         requires { length into.old ≤ length self.old.items }
         ensures read { into.new ≡ take (length into.old) self.old.items }
@@ -86,7 +87,7 @@ impl SideRing {
     }
 }
 
-// Appends `zeros` samples of 0 to a ring.
+// Appends `zeros` samples of 0 to a ring: silence that was only counted is held once a sound follows.
 fn hold(held: &mut HeapCircularBuffer<i16>, zeros: usize)
     requires { length held.old.items + zeros ≤ held.old.capacity }
     ensures { held.new ≡ buffer (held.old.items ++ replicate zeros (pos 0)) held.old.capacity }

@@ -4,11 +4,12 @@ use Rattle.std.specs.Char.{is_ascii_digit}
 use Rattle.std.specs.List.{list_all}
 use Rattle.std.specs.Str.Parse.{IsNumeral, AllDigits, digits_value}
 
--- the millionths that digits before and after a point write
+-- the millionths that a decimal text writes: `whole` are the digits before its point, and `fraction` those behind it,
+-- at most six
 abbrev pub millionths : List ℕ → List ℕ → ℕ
 millionths whole fraction = digits_value 10 whole * 1000000 + digits_value 10 fraction * 10 ^ (6 - length fraction)
 
--- digits, a point and at most six digits write a number of millionths, of at most 10 ^ 15
+-- a decimal text writes this many millionths: digits, a point and at most six digits, for at most 10 ^ 15 millionths
 pub record IsDecimalText (text : List ℕ) (value : ℕ) : Type 0 where
   pub whole : List ℕ
   pub fraction : List ℕ
@@ -19,13 +20,13 @@ pub record IsDecimalText (text : List ℕ) (value : ℕ) : Type 0 where
   pub bounded : value ≤ 10 ^ 15
   pub means : value ≡ millionths whole fraction
 
--- digits, at least one, without a leading zero
+-- whether a text is a whole number as it is printed: digits, at least one, without a leading zero
 abbrev pub is_plain : List ℕ → Bool
 is_plain [] = false
 is_plain (b ∷ []) = is_ascii_digit b
 is_plain (b ∷ c ∷ bs) = not (b == 48) && list_all is_ascii_digit (b ∷ c ∷ bs)
 
--- the whole samples in a time of so many millionths of a second, at so many samples a second
+-- how many whole samples a time of so many millionths of a second lasts at `rate` samples a second
 abbrev pub samples_in : ℤ → ℕ → ℕ
 samples_in millionths rate = unsigned_abs millionths * rate / 10 ^ 6
 

@@ -38,8 +38,8 @@ impl Decimal {
         })
     }
 
-    /// How many samples this many seconds last at `rate` samples a second, rounded down.
-    /// `None` exactly for a time below zero. It takes no memory.
+    /// How many samples a time of this many seconds lasts at `rate` samples a second, rounded down. `None` exactly
+    /// for a time below zero. It takes no memory.
     pub fn samples(self, rate: u32) -> Option<u64>
         ensures none { IsNone result ↔ (self.millionths <ℤ pos 0) }
         ensures count { IfSome result (λ n. n ≡ samples_in self.millionths rate) }
@@ -60,7 +60,7 @@ pub fn read_decimal(text: &[u8]) -> Option<Decimal>
     Decimal::from_digits(whole, fraction)
 }
 
-// What one unit of the last of these places behind the point is worth, in millionths; `None` for more than six places.
+// What one unit of the last of so many decimal places is worth, in millionths; `None` for more than six places.
 fn scale(places: usize) -> Option<u64>
     ensures { result ≡ (if nat_le places 6 then Some (10 ^ (6 - places)) else None) }
 {
@@ -76,14 +76,15 @@ fn scale(places: usize) -> Option<u64>
     }
 }
 
-// The byte at which the first point of a text stands, from 0.
+// Where the first point of a text stands, as an index of its bytes from 0; `None` without one.
 fn first_point(text: &[u8]) -> Option<usize>
     ensures { result ≡ position (λ b. b == 46) text.now }
 {
     text.iter().position(|byte| *byte == b'.')
 }
 
-// The digits before and behind the point of a text; `None` where it has no point, no digit before it, or another byte.
+// The digits before and behind the point of a decimal text; `None` where it has no point, no digit before it, or
+// another byte.
 fn parts(text: &[u8]) -> Option<(&[u8], &[u8])>
     ensures found { IfSome result (λ p. IsNumeral 10 p.0.now × AllDigits 10 p.1.now
         × (text.now ≡ p.0.now ++ 46 ∷ p.1.now)) }

@@ -4,7 +4,8 @@ ghost use Rattle.std.specs.Str.Parse.{AllDigits, digits_value};
 ghost use Rattle.std.specs.List.{list_all};
 ghost use Rattle.std.specs.Char.{is_ascii_digit};
 
-/// The number that digits write. `None` exactly where it is larger than `most`. No digits write 0. It takes no memory.
+/// The number that decimal digits write. `None` exactly where it is larger than `most`. No digits write 0. It takes
+/// no memory.
 pub fn value_up_to(digits: &[u8], most: u64) -> Option<u64>
     requires { AllDigits 10 digits.now }
     ensures value { result ≡ (if nat_le (digits_value 10 digits.now) most then Some (digits_value 10 digits.now)
@@ -27,7 +28,7 @@ pub fn value_up_to(digits: &[u8], most: u64) -> Option<u64>
     Some(value)
 }
 
-/// Whether each byte is a digit, from `0` to `9`.
+/// Whether each byte of a text is a digit, from `0` to `9`.
 pub fn are_digits(text: &[u8]) -> bool
     ensures { result ≡ list_all is_ascii_digit text.now }
 {

@@ -40,7 +40,7 @@ pub fn write_i64(into: &mut Vec<u8>, value: i64) -> Result<(), Memory>
     Ok(())
 }
 
-// Digits, at least one, without a leading zero.
+// Whether a text is a whole number as it is printed: digits, at least one, without a leading zero.
 fn is_plain(text: &[u8]) -> bool
     ensures { result ≡ is_plain text.now }
 {

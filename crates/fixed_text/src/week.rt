@@ -33,7 +33,7 @@ pub fn read_start(text: &[u8]) -> Option<WeekSecond>
     }
 }
 
-// The number below 100 that two digits write, if it is at most `most`.
+// The number below 100 that two digits of a time write; `None` if it is more than `most`, or if one is no digit.
 fn two_digits(tens: u8, ones: u8, most: u32) -> Option<u32>
     requires { most < 100 }
     ensures found { IfSome result (λ n. (n ≤ most) × (tens ≡ 48 + n / 10) × (ones ≡ 48 + n % 10)) }

@@ -3,7 +3,7 @@ use Rattle.std.specs.Prelude.{ℕ, ℤ, Bool, refl}
 use Rattle.std.specs.Coded.{Coded, code_by, coded×, coded_ℤ, coded_bool, coded_ℕ}
 use Rattle.frame_core.specs.declared.cell.Cell.{Cell}
 
--- a cell as nested pairs, which code to numbers
+-- how a cell is coded as a number, by way of nested pairs, so that contracts may see a value that holds cells
 abbrev pub cell_coded : Coded Cell
 cell_coded =
     code_by (ℤ × (ℤ × (Bool × ℕ))) (coded× coded_ℤ (coded× coded_ℤ (coded× coded_bool coded_ℕ)))

@@ -5,19 +5,21 @@ use Rattle.frame_core.specs.Bytes.{samples_from}
 use Rattle.frame_core.specs.declared.track.Held.{Held}
 use Rattle.frame_core.specs.declared.track.Held.TheVariants.{Numbers, Bytes, OtherRate}
 
--- the samples that are held, those of both channels where there are two
+-- the samples of a track, left before right where it is stereo, however they are held: as numbers, as bytes of the
+-- file, or made from a file at another rate
 abbrev pub samples_held : Held → List ℤ
 samples_held (Numbers samples) = samples.items
 samples_held (Bytes raw) = samples_from (take raw.size (drop raw.from raw.bytes.items))
 samples_held (OtherRate changed) = changed.samples
 
--- the bytes of the samples are there
+-- where a track's samples stand as bytes of the file, the part of the bytes that holds them lies within the file; else
+-- nothing
 abbrev pub are_inside : Held → Type 0
 are_inside (Numbers samples) = ⊤
 are_inside (Bytes raw) = raw.from + raw.size ≤ length raw.bytes.items
 are_inside (OtherRate changed) = ⊤
 
--- a file at another rate is of this kind
+-- where a track is made from a file at another rate, that file is mono or stereo as `kind` says; else nothing
 abbrev pub are_of : Kind → Held → Type 0
 are_of kind (Numbers samples) = ⊤
 are_of kind (Bytes raw) = ⊤

@@ -7,19 +7,20 @@ pub data Move (X : Type 0) : Type 0 where
   Put : X → ℕ → Move X
   Got : X → ℕ → Move X
 
--- the items that were put, each with how many items the queue held afterwards
+-- the items that these moves of a queue put, each with how many items the queue held afterwards
 abbrev pub puts_of : {X : Type 0} → List (Move X) → List (X × ℕ)
 puts_of [] = []
 puts_of (Put x left ∷ moves) = (x, left) ∷ puts_of moves
 puts_of (Got x left ∷ moves) = puts_of moves
 
--- the items that were got, each with how many items the queue held afterwards
+-- the items that these moves of a queue got, each with how many items the queue held afterwards
 abbrev pub gots_of : {X : Type 0} → List (Move X) → List (X × ℕ)
 gots_of [] = []
 gots_of (Put x left ∷ moves) = gots_of moves
 gots_of (Got x left ∷ moves) = (x, left) ∷ gots_of moves
 
--- from the items `queue` these moves lead to `rest`, in a queue that never holds more than `capacity` items
+-- these moves are possible one after another on a queue: from the items `queue` they lead to `rest`, items come out as
+-- they went in, and never more than `capacity` are held
 abbrev pub Ordered : {X : Type 0} → ℕ → List X → List (Move X) → List X → Type 0
 Ordered capacity queue [] rest = queue ≡ rest
 Ordered capacity queue (Put x left ∷ moves) rest =
@@ -27,13 +28,14 @@ Ordered capacity queue (Put x left ∷ moves) rest =
 Ordered {X} capacity queue (Got x left ∷ moves) rest =
     (behind : List X) × (queue ≡ x ∷ behind) × (left ≡ length behind) × Ordered capacity behind moves rest
 
--- the number of items that the last of these moves left, or `before` without a move
+-- how many items the last of these moves left in the queue, or `before` without a move
 abbrev pub last_or : {X : Type 0} → ℕ → List (X × ℕ) → ℕ
 last_or before [] = before
 last_or before (move ∷ moves) = last_or move.1 moves
 
--- The answers that are true are the moves. At each false one the move before it, or the beginning, left just `stop`
--- items: the capacity where puts are told, none where takes are. `before` is what the beginning left.
+-- One end's answers fit its moves, each an item with how many the queue held afterwards: true answers are the moves in
+-- order. A false one stands where the last count was `stop`, the capacity for puts and 0 for takes. `before` is the
+-- first count.
 abbrev pub Fits : {X : Type 0} → ℕ → ℕ → List Bool → List (X × ℕ) → Type 0
 Fits stop before [] [] = Unit {0}
 Fits stop before [] (move ∷ moves) = ⊥
@@ -41,13 +43,13 @@ Fits stop before (true ∷ answers) [] = ⊥
 Fits stop before (true ∷ answers) (move ∷ moves) = Fits stop move.1 answers moves
 Fits stop before (false ∷ answers) moves = (before ≡ stop) × Fits stop before answers moves
 
--- the answers with the items of their moves; none for a false one
+-- one end's answers with their items: that of the next move for a true answer, and none for a false one
 abbrev pub answers_of : {X : Type 0} → List Bool → List (X × ℕ) → List (Option X)
 answers_of [] moves = []
 answers_of (false ∷ answers) moves = None ∷ answers_of answers moves
 answers_of (true ∷ answers) [] = []
 answers_of (true ∷ answers) (move ∷ moves) = Some move.0 ∷ answers_of answers moves
 
--- what a queue that began with the items `queue` holds after these puts and gets
+-- the items that a queue holds in the end, if it began with the items `queue` and had these puts and gets
 abbrev pub left_by : {X : Type 0} → List X → List (X × ℕ) → List (X × ℕ) → List X
 left_by queue puts gots = drop (length gots) (queue ++ map (λ move. move.0) puts)

@@ -6,7 +6,7 @@ use Rattle.liq_base.specs.declared.memory.Kind.{Kind}
 use Rattle.liq_base.specs.declared.memory.Kind.TheVariants.{Mono, Stereo}
 use Rattle.frame_core.specs.declared.cell.Cell.{Cell}
 
--- the samples of a file, left before right where it is stereo
+-- the sound of an audio file: mono or stereo, and its samples, left before right where it is stereo
 pub record Sound : Type 0 where
   pub kind : Kind
   pub samples : List ℤ
@@ -15,24 +15,24 @@ pub record Sound : Type 0 where
 abbrev pub length_of : Sound → ℕ
 length_of sound = length sound.samples / channels_of sound.kind
 
--- the samples of a file are whole blocks, and at least one
+-- the samples of a file are whole blocks (one sample, or a left and a right one), and at least one block
 pub record IsSound (sound : Sound) : Type 0 where
   pub whole_blocks : length sound.samples % channels_of sound.kind ≡ 0
   pub some : 0 < length_of sound
 
--- sample `at`, counted from 0; 0 past the end
+-- the sample at place `at` of a list, counted from 0; 0 past its end
 abbrev pub sample_at : List ℤ → ℕ → ℤ
 sample_at samples at = slice_index_or samples at (pos 0)
 
--- the left sample of a cell in a source of kind `kind`, of a file's block `at`; of a stereo file in a mono source it is
--- half the sum of the block, rounded toward zero
+-- The left sample that block `at` of a file gives. The first kind is the file's, the last that of the source that plays
+-- it. A stereo file in a mono source gives half the sum of the block, rounded toward zero.
 abbrev pub left_at : Kind → List ℤ → Kind → ℕ → ℤ
 left_at Mono samples kind at = sample_at samples at
 left_at Stereo samples Stereo at = sample_at samples (2 * at)
 left_at Stereo samples Mono at = int_div (sample_at samples (2 * at) +ℤ sample_at samples (2 * at + 1)) (pos 2)
 
--- the right sample of a cell in a source of the second kind, of a file's block `at`: of a mono file its only one, and 0
--- in a mono source
+-- The right sample that block `at` of a file gives. The first kind is the file's, the last that of the source that
+-- plays it. A mono file gives its only sample, and in a mono source it is always 0.
 abbrev pub right_at : Kind → List ℤ → Kind → ℕ → ℤ
 right_at source samples Mono at = pos 0
 right_at Mono samples Stereo at = sample_at samples at

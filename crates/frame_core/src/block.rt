@@ -39,7 +39,7 @@ impl Model for Block {
 }
 
 impl Block {
-    // The cells of a frame, in order. `None` comes exactly where it has none.
+    // The block of the cells of a frame (a tick in the making), in order. `None` comes exactly where it has none.
     pub fn from_frame(alloc: Global, frame: &Frame) -> Result<Option<Block>, Memory>
         ensures cells { IfOk result (λ block. block ≡ some_list frame.now.cells) }
     {
@@ -53,7 +53,7 @@ impl Block {
         Ok(Some(Block { left, right, runs }))
     }
 
-    // How many cells it has, from 1 to 65536.
+    // How many cells the block has, from 1 to 65536.
     pub fn len(&self) -> u32
         ensures count { result ≡ length self.now }
         ensures some { 0 < result }
@@ -62,28 +62,28 @@ impl Block {
         self.left.len() as u32
     }
 
-    // The left samples of its cells.
+    // The left samples of the block's cells, in order.
     pub fn left(&self) -> &[i16]
         ensures { result.now ≡ map (λ cell. cell.left) self.now }
     {
         self.left.as_slice()
     }
 
-    // The right samples of its cells.
+    // The right samples of the block's cells, in order.
     pub fn right(&self) -> &[i16]
         ensures { result.now ≡ map (λ cell. cell.right) self.now }
     {
         self.right.as_slice()
     }
 
-    // What its cells have beside their samples, as runs of one title.
+    // The marks of the block's cells (where tracks begin, and their titles), as runs of one title.
     pub fn runs(&self) -> &[MarkRun]
         ensures { marks_in result.now ≡ map mark_in self.now }
     {
         self.runs.as_slice()
     }
 
-    // Cell `at` of the tick, counted from 0.
+    // The cell at place `at` of the block, counted from 0.
     pub fn cell(&self, at: u32) -> Cell
         requires { at < length self.now }
         ensures { Some result ≡ slice_get self.now at }

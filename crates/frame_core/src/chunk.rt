@@ -34,7 +34,7 @@ impl Model for Chunk {
 }
 
 impl Chunk {
-    /// The cells of a frame, in order. `None` comes exactly where it has none.
+    /// The chunk of the cells of a frame (a tick in the making), in order. `None` comes exactly where it has none.
     pub fn from_frame(alloc: Global, frame: &Frame) -> Result<Option<Chunk>, Memory>
         ensures cells { IfOk result (λ chunk. chunk ≡ some_list frame.now.cells) }
     {
@@ -45,7 +45,8 @@ impl Chunk {
         Ok(Some(Chunk { block }))
     }
 
-    /// Another holder of the same cells. They take no memory again, and an error comes only past 2^63 holders.
+    /// A second chunk that holds the same cells, without a copy. They take no memory again, and an error comes only
+    /// past 2^63 holders.
     pub fn share(&self) -> Result<Chunk, Memory>
         ensures { IfOk result (λ chunk. chunk ≡ self.now) }
     {
@@ -53,7 +54,7 @@ impl Chunk {
         Ok(Chunk { block })
     }
 
-    /// How many cells it has, from 1 to 65536.
+    /// How many cells the chunk has, from 1 to 65536.
     pub fn len(&self) -> u32
         ensures count { result ≡ length self.now }
         ensures some { 0 < result }
@@ -62,28 +63,28 @@ impl Chunk {
         self.block.len()
     }
 
-    /// The left samples of its cells.
+    /// The left samples of the chunk's cells, in order.
     pub fn left(&self) -> &[i16]
         ensures { result.now ≡ map (λ cell. cell.left) self.now }
     {
         self.block.left()
     }
 
-    /// The right samples of its cells.
+    /// The right samples of the chunk's cells, in order.
     pub fn right(&self) -> &[i16]
         ensures { result.now ≡ map (λ cell. cell.right) self.now }
     {
         self.block.right()
     }
 
-    /// What its cells have beside their samples, as runs of one title.
+    /// The marks of the chunk's cells (where tracks begin, and their titles), as runs of one title.
     pub fn runs(&self) -> &[MarkRun]
         ensures { marks_in result.now ≡ map mark_in self.now }
     {
         self.block.runs()
     }
 
-    /// Cell `at` of the tick, counted from 0.
+    /// The cell at place `at` of the chunk, counted from 0.
     pub fn cell(&self, at: u32) -> Cell
         requires { at < length self.now }
         ensures { Some result ≡ slice_get self.now at }

@@ -40,7 +40,7 @@ impl Model for Frame {
 }
 
 impl Frame {
-    /// A frame without a cell, with room for `room` of them, at most 65536.
+    /// A frame (the cells of one tick in the making) without a cell, with room for `room` of them, at most 65536.
     pub fn new(alloc: Global, room: u32) -> Result<Frame, Memory>
         requires { room ≤ MAX_FRAME }
         ensures none { IfOk result (λ frame. frame ≡ record { cells = []; room = room }) }
@@ -56,7 +56,8 @@ impl Frame {
         })
     }
 
-    // The runs of marks, the left samples and the right samples of its cells.
+    // The cells of the frame as lists side by side: the runs of their marks, their left samples and their right
+    // samples.
     pub(crate) fn lanes(&self) -> (&[MarkRun], &[i16], &[i16])
         ensures cells { cells_in result.1.now result.2.now (marks_in result.0.now) ≡ self.now.cells }
         ensures left { length result.1.now ≡ length (marks_in result.0.now) }
@@ -66,7 +67,7 @@ impl Frame {
         (&self.runs, &self.left, &self.right)
     }
 
-    /// Whether another frame has the same cells.
+    /// Whether another frame has the same cells, in samples, titles and where tracks begin.
     pub fn is_same(&self, other: &Frame) -> bool
         ensures { (result ≡ true) ↔ (self.now.cells ≡ other.now.cells) }
     {
@@ -75,7 +76,7 @@ impl Frame {
             && are_samples(&self.right, &other.right)
     }
 
-    /// Drops its cells; the room stays.
+    /// Drops all cells of the frame, for the next tick; the room stays.
     pub fn clear(&mut self)
         ensures { self.new ≡ record { cells = []; room = self.old.room } }
     {
@@ -107,21 +108,21 @@ impl Frame {
     }
 }
 
-// Whether two lists of runs are equal.
+// Whether two lists of runs of marks are equal.
 fn are_runs(one: &[MarkRun], other: &[MarkRun]) -> bool
     ensures { (result ≡ true) ↔ (one.now ≡ other.now) }
 {
     one == other
 }
 
-// Whether two lists of samples are equal.
+// Whether two lists of samples of one side are equal.
 fn are_samples(one: &[i16], other: &[i16]) -> bool
     ensures { (result ≡ true) ↔ (one.now ≡ other.now) }
 {
     one == other
 }
 
-// Appends samples to a list that has room for them.
+// Appends samples of one side to a list that has room for them.
 fn put_samples(into: &mut Vec<i16>, samples: &[i16])
     requires { vec_len into.old + length samples.now ≤ vec_capacity into.old }
     ensures items { into.new.items ≡ into.old.items ++ samples.now }

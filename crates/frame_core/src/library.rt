@@ -85,7 +85,7 @@ impl Library {
         }
     }
 
-    // The numbers of the files that a leaf plays.
+    // The numbers of the files that a leaf (a node that plays files) plays, in order.
     fn list(&self, leaf: u32) -> &[u32]
         requires { leaf < length self.now.leaves }
         ensures list { result.now ≡ tracks_of self.now leaf }
@@ -97,7 +97,8 @@ impl Library {
         }
     }
 
-    /// How many files a leaf plays. The library is well formed: each of them has whole blocks and at least one sample.
+    /// How many files a leaf (a node that plays files) plays. The library is well formed: each of them has whole
+    /// blocks and at least one sample.
     pub fn tracks(&self, leaf: u32) -> u32
         requires { leaf < length self.now.leaves }
         ensures count { result ≡ length (tracks_of self.now leaf) }
@@ -106,7 +107,7 @@ impl Library {
         self.list(leaf).len() as u32
     }
 
-    /// How many samples each channel of a leaf's file number `track` has: at least 1.
+    /// How many samples each channel of the file has that a leaf plays at place `track` of its list: at least 1.
     pub fn samples(&self, leaf: u32, track: u32) -> u64
         requires leaf { leaf < length self.now.leaves }
         requires track { track < length (tracks_of self.now leaf) }
@@ -117,8 +118,8 @@ impl Library {
         self.files[file as usize].samples()
     }
 
-    /// The samples of as many cells as the slices are long, in a source of this kind, from sample `at` of a leaf's file
-    /// number `track` on.
+    /// Writes the samples of the file that a leaf plays at place `track` of its list, from sample `at` on, for as
+    /// many cells as the slices are long. They are those that a source of this kind has.
     pub fn read(
         &self,
         leaf: u32,
@@ -139,8 +140,8 @@ impl Library {
         self.files[file as usize].read(at, kind, left, right);
     }
 
-    /// The cell at sample `at` of a leaf's file number `track`, in a source of this kind, with the file's title.
-    /// Samples and files are counted from 0.
+    /// The cell at sample `at` of the file that a leaf plays at place `track` of its list, in a source of this kind,
+    /// with the file's title. Samples and places are counted from 0.
     pub fn cell(&self, leaf: u32, track: u32, at: u64, kind: Kind) -> Cell
         requires leaf { leaf < length self.now.leaves }
         requires track { track < length (tracks_of self.now leaf) }

@@ -6,7 +6,8 @@ ghost use Rattle.liq_base.specs.declared.limits.TheConstants.{MAX_FRAME};
 use crate::{CellMark, MarkRun};
 use liq_base::limits::MAX_FRAME;
 
-/// Mark `at` of those in these runs, counted from 0; `None` if there are fewer.
+/// The mark at place `at` of all those in these runs, counted from 0; `None` if there are fewer. A mark says whether
+/// a track begins at a cell, and its title.
 pub fn mark_at(runs: &[MarkRun], at: u32) -> Option<CellMark>
     ensures { result ≡ slice_get (marks_in runs.now) at }
 {
@@ -21,7 +22,7 @@ pub fn mark_at(runs: &[MarkRun], at: u32) -> Option<CellMark>
     None
 }
 
-// Mark `at` of a run, counted from 0.
+// The mark at place `at` of a run, counted from 0: only the one at place 0 may begin a track.
 fn mark_of(run: MarkRun, at: u32) -> CellMark
     ensures { result ≡ mark_at run at }
 {
@@ -31,7 +32,7 @@ fn mark_of(run: MarkRun, at: u32) -> CellMark
     }
 }
 
-// Run `at` of these, counted from 0.
+// The run of marks at place `at` in this list, counted from 0.
 fn run_at(runs: &[MarkRun], at: usize) -> MarkRun
     requires { at < length runs.now }
     ensures { slice_get runs.now at ≡ Some result }
@@ -39,14 +40,15 @@ fn run_at(runs: &[MarkRun], at: usize) -> MarkRun
     runs[at]
 }
 
-// Whether a run goes on with the one before it: it begins no track and has the same title.
+// Whether a run of marks goes on with the run `last` before it, so that both could be one: it begins no track and has
+// the same title.
 fn joins(last: MarkRun, run: MarkRun) -> bool
     ensures { result ≡ joins last run }
 {
     !run.first && last.title == run.title
 }
 
-// Appends a run, or lengthens the last one if the run goes on with it. A run without marks is dropped.
+// Appends a run of marks, or lengthens the last one if the run goes on with it. A run without marks is dropped.
 pub(crate) fn put_run(runs: &mut Vec<MarkRun>, run: MarkRun)
     requires tight { AreTight runs.old.items }
     requires room { length (marks_in runs.old.items) + run.count ≤ vec_capacity runs.old }

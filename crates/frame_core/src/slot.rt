@@ -4,7 +4,7 @@ ghost use Rattle.frame_core.specs.Slots.{goes_on, title_of};
 
 use crate::Cell;
 
-/// The title of the track of a cell; 0 for nothing.
+/// The title of a slot's cell, which is that of its track; 0 for an empty slot.
 pub fn title_of(slot: Option<Cell>) -> u32
     ensures { result ≡ title_of slot }
 {
@@ -14,7 +14,7 @@ pub fn title_of(slot: Option<Cell>) -> u32
     }
 }
 
-/// Whether this is a cell of the track of this title that does not begin it.
+/// Whether a slot has a cell of this title that does not begin its track.
 pub fn goes_on(title: u32, slot: Option<Cell>) -> bool
     ensures { result ≡ goes_on title slot }
 {

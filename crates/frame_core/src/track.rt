@@ -50,7 +50,7 @@ impl Model for Track {
 }
 
 impl Track {
-    /// The file of these samples, left before right where there are two channels.
+    /// The audio file of these samples, left before right where there are two channels.
     pub fn new(kind: Kind, samples: Vec<i16>) -> Track
         requires { IsSound (record { kind = kind; samples = samples.items }) }
         ensures { result ≡ record { kind = kind; samples = samples.items } }
@@ -61,7 +61,7 @@ impl Track {
         }
     }
 
-    /// The file whose samples stand in `size` of these bytes, from byte `from` on.
+    /// The audio file whose samples stand in `size` of these bytes, from byte `from` on.
     pub fn of_bytes(kind: Kind, bytes: Vec<u8>, from: usize, size: usize) -> Track
         requires inside { from + size ≤ length bytes.items }
         requires sound { IsSound (record { kind = kind; samples = samples_from (take size (drop from bytes.items)) }) }
@@ -73,7 +73,7 @@ impl Track {
         }
     }
 
-    /// A file that is read at another rate than its own.
+    /// The audio file that a file at another rate makes, resampled where it is read.
     pub fn of_changed(changed: Changed) -> Track
         requires { IsSound (record { kind = changed.kind; samples = changed.samples }) }
         ensures { result ≡ record { kind = changed.kind; samples = changed.samples } }
@@ -84,7 +84,7 @@ impl Track {
         }
     }
 
-    // How many samples it has, those of both channels where there are two.
+    // How many samples the file has, those of both channels where there are two.
     fn count(&self) -> usize
         ensures count { result ≡ length self.now.samples }
         ensures few { result < 2 ^ 63 }
@@ -92,7 +92,7 @@ impl Track {
         count_held(&self.held)
     }
 
-    // Sample `at`, counted from 0 over both channels where there are two.
+    // The sample at place `at` of the file, counted from 0 over both channels where there are two.
     fn sample(&self, at: usize) -> i16
         requires { at < length self.now.samples }
         ensures { result ≡ sample_at self.now.samples at }
@@ -100,14 +100,14 @@ impl Track {
         held_at(&self.held, at)
     }
 
-    /// How many channels it has.
+    /// Whether the file is mono or stereo.
     pub fn kind(&self) -> Kind
         ensures { result ≡ self.now.kind }
     {
         self.kind
     }
 
-    /// How many samples each channel has, at least 1.
+    /// How many samples each channel of the file has, at least 1.
     pub fn samples(&self) -> u64
         ensures samples { result ≡ length_of self.now }
         ensures some { 0 < result }
@@ -159,8 +159,8 @@ impl Track {
 }
 
 impl Track {
-    /// The samples of as many cells as the slices are long, in a source of this kind, from sample `at` of each channel
-    /// on.
+    /// Writes the file's samples from sample `at` of each channel on, for as many cells as the slices are long. They
+    /// are those that a source of this kind has.
     pub fn read(&self, at: u64, kind: Kind, left: &mut [i16], right: &mut [i16])
         requires same { length right.old ≡ length left.old }
         requires within { at + length left.old ≤ length_of self.now }
@@ -184,7 +184,7 @@ impl Track {
     }
 }
 
-// How many samples are held, those of both channels where there are two.
+// How many samples of a file are held, those of both channels where there are two.
 fn count_held(held: &Held) -> usize
     requires { are_inside held.now }
     ensures count { result ≡ length (samples_held held.now) }
@@ -197,7 +197,7 @@ fn count_held(held: &Held) -> usize
     }
 }
 
-// Sample `at` of those that are held, counted from 0.
+// The sample of a file at place `at`, counted from 0 over both channels where there are two.
 fn held_at(held: &Held, at: usize) -> i16
     requires inside { are_inside held.now }
     requires there { at < length (samples_held held.now) }
@@ -210,7 +210,7 @@ fn held_at(held: &Held, at: usize) -> i16
     }
 }
 
-// The bytes in which the samples stand.
+// The part of a file's bytes that holds its samples.
 fn body_of(raw: &Raw) -> &[u8]
     requires { raw.now.from + raw.now.size ≤ length raw.now.bytes.items }
     ensures { result.now ≡ take raw.now.size (drop raw.now.from raw.now.bytes.items) }
@@ -219,7 +219,7 @@ fn body_of(raw: &Raw) -> &[u8]
     &body[..raw.size]
 }
 
-// Sample `at` of those that stand in these bytes.
+// The sample at place `at` of those that these bytes hold, two bytes each with the lower first.
 fn number_at(bytes: &[u8], at: usize) -> i16
     requires { 2 * at + 1 < length bytes.now }
     ensures { result ≡ sample_at (samples_from bytes.now) at }
@@ -227,8 +227,8 @@ fn number_at(bytes: &[u8], at: usize) -> i16
     i16::from_le_bytes([bytes[2 * at], bytes[2 * at + 1]])
 }
 
-// The samples of as many cells as the slices are long, from sample `at` of each channel on, by numbers. The file is of
-// kind `own`, and the source of `kind`.
+// Writes the samples of a file that is held as numbers, from sample `at` of each channel on, for as many cells as the
+// slices are long. The file is of kind `own`, and the source that plays it of `kind`.
 fn read_numbers(
     own: Kind,
     samples: &[i16],
@@ -260,8 +260,8 @@ fn read_numbers(
     }
 }
 
-// The samples of as many cells as the slices are long, from sample `at` of each channel on, by bytes. The file is of
-// kind `own`, and the source of `kind`.
+// Writes the samples of a file that is held as its bytes, from sample `at` of each channel on, for as many cells as
+// the slices are long. The file is of kind `own`, and the source that plays it of `kind`.
 fn read_bytes(own: Kind, bytes: &[u8], at: usize, kind: Kind, left: &mut [i16], right: &mut [i16])
     requires same { length right.old ≡ length left.old }
     requires within { 2 * channels_of own * (at + length left.old) ≤ length bytes.now }
@@ -287,8 +287,8 @@ fn read_bytes(own: Kind, bytes: &[u8], at: usize, kind: Kind, left: &mut [i16], 
     }
 }
 
-// The samples of as many cells as the slices are long, from sample `at` of each channel on, of a file at another rate.
-// The file is of kind `own`, and the source of `kind`.
+// Writes the samples of a file at another rate, from sample `at` of each channel on, for as many cells as the slices
+// are long. The file is of kind `own`, and the source that plays it of `kind`.
 fn read_changed(
     own: Kind,
     changed: &Changed,
@@ -327,7 +327,8 @@ fn read_changed(
     }
 }
 
-// Half the sum of each left sample and the right one beside it, which takes the place of the left one.
+// Puts half the sum of each left sample and the right one beside it in the place of the left one: stereo becomes
+// mono.
 fn halve_sides(left: &mut [i16], right: &[i16])
     requires { length right.now ≡ length left.old }
     ensures { left.new ≡ zip2 (λ l r. int_div (l +ℤ r) (pos 2)) left.old right.now }
@@ -337,7 +338,7 @@ fn halve_sides(left: &mut [i16], right: &[i16])
     }
 }
 
-// The samples that stand in these bytes, from sample `at` on.
+// Writes the samples that these bytes hold, from sample `at` on, as many as the slice is long.
 fn read_singles(bytes: &[u8], at: usize, into: &mut [i16])
     requires { 2 * (at + length into.old) ≤ length bytes.now }
     ensures { into.new ≡ map (sample_at (samples_from bytes.now)) (range_with_len at (length into.old)) }
@@ -347,7 +348,8 @@ fn read_singles(bytes: &[u8], at: usize, into: &mut [i16])
     }
 }
 
-// The two samples of each stereo block that stands in these bytes, from block `at` on.
+// Writes the samples of the stereo blocks (a left and a right sample) that these bytes hold, from block `at` on, each
+// to its side.
 fn read_pairs(bytes: &[u8], at: usize, left: &mut [i16], right: &mut [i16])
     requires same { length right.old ≡ length left.old }
     requires within { 4 * (at + length left.old) ≤ length bytes.now }
@@ -363,7 +365,7 @@ fn read_pairs(bytes: &[u8], at: usize, left: &mut [i16], right: &mut [i16])
     }
 }
 
-// Half the sum of the two samples of each stereo block, from block `at` on.
+// Writes half the sum of each stereo block (a left and a right sample) that these bytes hold, from block `at` on.
 fn read_halves(bytes: &[u8], at: usize, halves: &mut [i16])
     requires { 4 * (at + length halves.old) ≤ length bytes.now }
     ensures { halves.new
@@ -375,7 +377,7 @@ fn read_halves(bytes: &[u8], at: usize, halves: &mut [i16])
     }
 }
 
-// The two samples of each stereo block, from block `at` on, each to its side.
+// Writes the samples of stereo blocks (a left and a right sample), from block `at` on, each to its side.
 fn part_pairs(samples: &[i16], at: usize, left: &mut [i16], right: &mut [i16])
     requires same { length right.old ≡ length left.old }
     requires within { 2 * (at + length left.old) ≤ length samples.now }
@@ -392,7 +394,7 @@ fn part_pairs(samples: &[i16], at: usize, left: &mut [i16], right: &mut [i16])
     }
 }
 
-// Half the sum of the two samples of each stereo block, from block `at` on.
+// Writes half the sum of each stereo block (a left and a right sample), from block `at` on.
 fn halve_pairs(samples: &[i16], at: usize, halves: &mut [i16])
     requires { 2 * (at + length halves.old) ≤ length samples.now }
     ensures { halves.new ≡ lefts_from (record { kind = Stereo; samples = samples.now }) Mono at (length halves.old) }
@@ -403,7 +405,7 @@ fn halve_pairs(samples: &[i16], at: usize, halves: &mut [i16])
     }
 }
 
-// Half the sum of two samples, rounded toward zero.
+// The mono sample of a stereo block: half the sum of its two samples, rounded toward zero.
 fn half_sum(left: i16, right: i16) -> i16
     ensures { result ≡ int_div (left +ℤ right) (pos 2) }
 {

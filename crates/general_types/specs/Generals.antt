@@ -14,17 +14,18 @@ use Rattle.general_types.specs.declared.generalising.TextKind.{TextKind}
 use Rattle.general_types.specs.declared.generalising.TextKind.TheVariants.{Open, Outer}
 use Rattle.general_types.specs.Holding.{SameTypes}
 
--- a kind of a text as that of a use, where the variables outside of the text are as in `a`
+-- a kind in a def's text as that of a use: an open one by its number, and one from outside as `a` gives it
 abbrev pub settled : Assignment → TextKind → KindOf
 settled a (Outer k) = Fixed (kind_meaning a k)
 settled a (Open j) = Given j
 
--- Under `a` outside of it, a text with these open kinds has the kinds that the kind terms mean under `b`.
+-- Once the open kinds are chosen as `opens`, the kinds of a def's text are those that these kind terms mean under `b`.
+-- The variables from outside of the text are as in `a`.
 abbrev pub AreKindsOf : Assignment → List TextKind → List Kind → List KindTerm → Assignment → Type 0
 AreKindsOf a text opens kinds b = kinds_of opens (map (settled a) text) ≡ Some (map (kind_meaning b) kinds)
 
--- At each solution the instances of the scheme are what the types and kinds of the text are at the solutions that give
--- the names the same types.
+-- The scheme g, with its text, is the general type of a def with these parameters, result and kinds. At each solution
+-- its instances are just the types that the def has at the solutions that give the outer names the same types.
 pub record IsGeneral (s : Table) (names params : List Term) (result : Term) (kinds : List KindTerm) (g : Scheme)
     (text : List TextKind) : Type 0 where
   pub sound : (a : Assignment) → Solves a s → (ts : List Ground) (r : Ground) (opens : List Kind)
@@ -35,21 +36,21 @@ pub record IsGeneral (s : Table) (names params : List Term) (result : Term) (kin
       (opens : List Kind) × IsInstance g a (map (meaning b) params) (meaning b result) opens
       × AreKindsOf a text opens kinds b
 
--- the number of a text's kind, if it is an open one
+-- the number of a kind in a def's text as a list, if the kind is open; empty if it is from outside
 abbrev pub open_of : TextKind → List ℕ
 open_of (Outer k) = []
 open_of (Open j) = j ∷ []
 
--- The open kinds of a text have the numbers from 0 in the order of first mention, and are as many as the scheme has.
+-- a def's text numbers its open kinds from 0 in the order of first mention, and has as many as its scheme
 abbrev pub IsNumberedText : Scheme → List TextKind → Type 0
 IsNumberedText g text = numbered_on 0 (flat_map open_of text) ≡ Some (length (open_numbers 0 g.kinds))
 
--- a kind of a text is there, if it is from outside
+-- a kind in a def's text that is from outside names only variables of the substitution s
 abbrev pub IsTextKindOver : Table → TextKind → Type 0
 IsTextKindOver s (Outer k) = InKind (λ n. n < length s.kinds) k
 IsTextKindOver s (Open j) = ⊤
 
--- the kinds of a text from outside are there
+-- all kinds in a def's text that are from outside name only variables of the substitution s
 abbrev pub AreTextKindsOver : Table → List TextKind → Type 0
 AreTextKindsOver s [] = ⊤
 AreTextKindsOver s (k ∷ ks) = IsTextKindOver s k × AreTextKindsOver s ks

@@ -9,8 +9,9 @@ use Rattle.type_terms.specs.Resolved.{IsFreeType, IsFreeKind}
 use Rattle.type_terms.specs.Table.{Table, Solves}
 use Rattle.type_terms.specs.Term.{Term, meaning}
 
--- The variables that are held, and the bound ones that were gone through: what they are bound to holds no others. They
--- were found among so many type variables and kind variables, so many of which were free.
+-- The free variables of the types of outer names, which a def may not make general: type and kind variables. `passed`
+-- are bound type variables that were gone through; what they are bound to holds no others. The counts say how many
+-- variables, and how many free ones, there were at the search.
 pub record HeldVariables : Type 0 where
   pub types : List ℕ
   pub kinds : List ℕ
@@ -19,34 +20,36 @@ pub record HeldVariables : Type 0 where
   pub kind_count : ℕ
   pub free_count : ℕ
 
--- the number is one of these
+-- whether the number is in the list
 abbrev pub is_held : List ℕ → ℕ → Bool
 is_held ks k = list_any (nat_eq k) ks
 
--- both say the same of the held variables
+-- both assignments give the held variables the same types and kinds
 pub record AgreeOn (h : HeldVariables) (a b : Assignment) : Type 0 where
   pub types : (k : ℕ) → is_held h.types k ≡ true → a.type_of k ≡ b.type_of k
   pub kinds : (k : ℕ) → is_held h.kinds k ≡ true → a.kind_of k ≡ b.kind_of k
 
--- both say the same of the held kinds, and of those held variables that have fewer than n nodes under the first
+-- both assignments give the held kind variables the same kinds, and those held type variables the same types whose type
+-- under the first has fewer than n nodes
 pub record AgreeBelow (h : HeldVariables) (n : ℕ) (a b : Assignment) : Type 0 where
   pub types : (k : ℕ) → is_held h.types k ≡ true → size (a.type_of k) < n → a.type_of k ≡ b.type_of k
   pub kinds : (k : ℕ) → is_held h.kinds k ≡ true → a.kind_of k ≡ b.kind_of k
 
--- both say the same of those passed variables that have fewer than n nodes under the first
+-- both assignments give those passed variables the same types whose type under the first has fewer than n nodes
 abbrev pub AgreeOnPassed : HeldVariables → ℕ → Assignment → Assignment → Type 0
 AgreeOnPassed h n a b = (k : ℕ) → is_held h.passed k ≡ true → size (a.type_of k) < n → a.type_of k ≡ b.type_of k
 
--- the names have the same types under both
+-- the types of these names mean the same under both assignments
 abbrev pub SameTypes : List Term → Assignment → Assignment → Type 0
 SameTypes names a b = map (meaning a) names ≡ map (meaning b) names
 
--- the held variables are there
+-- each held variable is one of the substitution s
 pub record AreThere (s : Table) (h : HeldVariables) : Type 0 where
   pub types : (k : ℕ) → is_held h.types k ≡ true → k < length s.types
   pub kinds : (k : ℕ) → is_held h.kinds k ≡ true → k < length s.kinds
 
--- the held variables are among those that were counted
+-- The counts that are kept with the held variables fit the substitution s: it has at least as many variables, the held
+-- ones are among those counted, and as many of these are free.
 pub record AreCounted (s : Table) (h : HeldVariables) : Type 0 where
   pub enough_types : h.type_count ≤ length s.types
   pub enough_kinds : h.kind_count ≤ length s.kinds
@@ -54,9 +57,8 @@ pub record AreCounted (s : Table) (h : HeldVariables) : Type 0 where
   pub kinds : (k : ℕ) → is_held h.kinds k ≡ true → k < h.kind_count
   pub free : free_among s h.type_count h.kind_count ≡ h.free_count
 
--- The names hold exactly these variables, which are bound to nothing: two solutions give the names the same types just
--- where they say the same of the variables. A passed variable is larger than the held ones that stand behind it, and
--- these alone fix it.
+-- h are exactly the free variables on which the types of these names depend: two solutions of s give the names the same
+-- types just where they agree on h. A passed variable is bound to a larger type, which the held ones in it fix.
 pub record IsHeldBy (s : Table) (names : List Term) (h : HeldVariables) : Type 0 where
   pub free_types : (k : ℕ) → is_held h.types k ≡ true → IsFreeType s k
   pub free_kinds : (k : ℕ) → is_held h.kinds k ≡ true → IsFreeKind s k
@@ -65,7 +67,7 @@ pub record IsHeldBy (s : Table) (names : List Term) (h : HeldVariables) : Type 0
   pub behind : (a b : Assignment) → Solves a s → Solves b s → (n : ℕ) → AgreeBelow h n a b → AgreeOnPassed h (suc n) a b
   pub counted : AreCounted s h
 
--- held variables as nested pairs, which code to numbers
+-- how held variables are coded as a number, by way of nested pairs, so that contracts may see a value that holds them
 abbrev pub held_code : Coded HeldVariables
 held_code =
     code_by (List ℕ × (List ℕ

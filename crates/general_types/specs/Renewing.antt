@@ -7,19 +7,20 @@ use Rattle.type_terms.specs.Table.{Table, Solves}
 use Rattle.type_terms.specs.Term.{Term}
 use Rattle.general_types.specs.Holding.{HeldVariables, AgreeBelow, AgreeOn, AgreeOnPassed, SameTypes, is_held}
 
--- the names hold these variables, of which some may be bound by now
+-- The types of these names depend on just the variables h: two solutions give the names the same types where they agree
+-- on h. Some of h may be bound by now.
 pub record IsFixedBy (s : Table) (names : List Term) (h : HeldVariables) : Type 0 where
   pub fixed : (a b : Assignment) → Solves a s → Solves b s → SameTypes names a b → AgreeOn h a b
   pub enough : (a b : Assignment) → Solves a s → Solves b s → AgreeOn h a b → SameTypes names a b
   pub behind : (a b : Assignment) → Solves a s → Solves b s → (n : ℕ) → AgreeBelow h n a b → AgreeOnPassed h (suc n) a b
 
--- the names hold exactly these variables, which are bound to nothing, whatever was counted
+-- the types of these names hold exactly the variables h, all of them free; the counts kept in h may be anything
 pub record AreHeldBy (s : Table) (names : List Term) (h : HeldVariables) : Type 0 where
   pub free_types : (k : ℕ) → is_held h.types k ≡ true → IsFreeType s k
   pub free_kinds : (k : ℕ) → is_held h.kinds k ≡ true → IsFreeKind s k
   pub fixed_by : IsFixedBy s names h
 
--- these held variables, with all variables of the substitution counted
+-- held variables with their counts set to those of the substitution s as it is now
 abbrev pub counted_in : Table → HeldVariables → HeldVariables
 counted_in s h = record {
   types = h.types;
@@ -30,18 +31,18 @@ counted_in s h = record {
   free_count = free_among s (length s.types) (length s.kinds);
 }
 
--- the number was there, and is none of the list
+-- the number k is in the list `old` and not in the list `gone`
 abbrev pub IsLeft : List ℕ → List ℕ → ℕ → Type 0
 IsLeft old gone k = (is_held old k ≡ true) × (is_held gone k ≡ true → ⊥)
 
--- Names that held the old variables hold the new ones: in the place of those of the two lists stand others, which are
--- bound to nothing.
+-- Held variables were renewed after more was bound: names that held the old ones hold the new ones. In place of the
+-- bound ones (the lists `types` and `kinds`) stand the free variables of what they are bound to.
 pub record Renews (s : Table) (types kinds : List ℕ) (old new : HeldVariables) : Type 0 where
   pub fixed : (names : List Term) → IsFixedBy s names old → IsFixedBy s names new
   pub types_only : (k : ℕ) → is_held new.types k ≡ true → IsLeft old.types types k ⊎ IsFreeType s k
   pub kinds_only : (k : ℕ) → is_held new.kinds k ≡ true → IsLeft old.kinds kinds k ⊎ IsFreeKind s k
 
--- some of the numbers were found, and P holds of the others
+-- the list `found` is some of the numbers, and P holds of all that it leaves out
 pub record FindsBut (P : ℕ → Type 0) (numbers found : List ℕ) : Type 0 where
   pub among : (k : ℕ) → is_held found k ≡ true → is_held numbers k ≡ true
   pub others : (k : ℕ) → is_held numbers k ≡ true → (is_held found k ≡ true) ⊎ P k

@@ -17,58 +17,62 @@ use Rattle.general_types.specs.declared.generalising.TextKind.TheVariants.{Open,
 use Rattle.general_types.specs.Holding.{HeldVariables}
 use Rattle.general_types.specs.Numbering.{AreSettled, IsFront, kind_parameters, place_of, type_parameter}
 
--- of each parameter how many before it are open, where n are before the first
+-- For each kind parameter, how many open ones stand before it. The count begins with n for the first.
 abbrev pub open_counts : ℕ → List KindParameter → List ℕ
 open_counts n [] = []
 open_counts n (p ∷ ps) = n ∷ open_counts (n + length (open_numbers 0 (p ∷ []))) ps
 
--- variable i, as a text has it: by what it may stand for, and by how many open ones are before it
+-- Kind variable i of a general type, as a def's text writes it. An open one is written by its number among the open
+-- ones, which is `before`; one from outside is written as that variable.
 abbrev pub variable_in_text : ℕ → ℕ → Option KindParameter → TextKind
 variable_in_text i before None = Outer (Var i)
 variable_in_text i before (Some OpenKind) = Open before
 variable_in_text i before (Some Unread) = Outer (Var i)
 variable_in_text i before (Some (OuterKind n)) = Outer (Var n)
 
--- a kind of the general type, as the text of a def has it
+-- a kind of a general type, as a def's text writes it: an open one by its number among the open ones, and any other as
+-- a kind from outside
 abbrev pub text_kind : List KindParameter → KindTerm → TextKind
 text_kind ps (Fixed k) = Outer (Fixed k)
 text_kind ps (Var i) = variable_in_text i (length (open_numbers 0 (take i ps))) (slice_get ps i)
 
--- us are xs with all that is bound put in, and then each variable written by its place in the lists ts and ks
+-- The types us are xs in numbered form: bound variables are replaced by what s binds them to, and then each variable by
+-- its place in the lists ts (types) and ks (kinds).
 pub record AreOpened (s : Table) (ts ks : List ℕ) (xs us : List Term) : Type 0 where
   pub settled : List Term
   pub are : AreSettled s xs settled
   pub inside : InTerms (λ n. n < length ts) (λ n. n < length ks) (terms_of us)
   pub same : map (instance ts ks) us ≡ settled
 
--- u is x with all that is bound put in, and then each variable written by its place in the lists ts and ks
+-- The type u is x in numbered form: bound variables are replaced by what s binds them to, and then each variable by its
+-- place in the lists ts (types) and ks (kinds).
 pub record IsOpened (s : Table) (ts ks : List ℕ) (x u : Term) : Type 0 where
   pub settled : Term
   pub is : IsResolved s x settled
   pub inside : InTerm (λ n. n < length ts) (λ n. n < length ks) u
   pub same : instance ts ks u ≡ settled
 
--- us are xs with all that is bound put in, and each variable written by its place in the lists ts' and ks', which have
--- ts and ks in front
+-- The types us are xs in numbered form, where each variable is written by its place in the lists ts' and ks'. These
+-- lists grew at their ends from ts and ks.
 pub record OpenMore (s : Table) (ts ks ts' ks' : List ℕ) (xs us : List Term) : Type 0 where
   pub types : IsFront ts ts'
   pub kinds : IsFront ks ks'
   pub are : AreOpened s ts' ks' xs us
 
--- u is x with all that is bound put in, and each variable written by its place in the lists ts' and ks', which have ts
--- and ks in front
+-- The type u is x in numbered form, where each variable is written by its place in the lists ts' and ks'. These lists
+-- grew at their ends from ts and ks.
 pub record OpensOne (s : Table) (ts ks ts' ks' : List ℕ) (x u : Term) : Type 0 where
   pub types : IsFront ts ts'
   pub kinds : IsFront ks ks'
   pub is : IsOpened s ts' ks' x u
 
--- the types of a def, those of its parameters and of its result, and the kinds at the uses of its text
+-- the types of a def as terms, those of its parameters and of its result, and the kinds at the uses in its text
 pub record DefTerms : Type 0 where
   pub params : List Term
   pub result : Term
   pub kinds : List KindTerm
 
--- the types and kinds of a def, from those that the program holds
+-- the types and kinds of a def as terms of the rules, from the types that the program holds
 abbrev pub def_terms : List Ty → Ty → List KindTerm → DefTerms
 def_terms params result kinds = record {
   params = map term_of params;
@@ -76,8 +80,8 @@ def_terms params result kinds = record {
   kinds = kinds;
 }
 
--- `opened` is what was found of a def, with each variable written by its place in the lists ts and ks; the text names
--- the first n kinds, in their order
+-- A def in numbered form: `opened` is `found` with each variable replaced by its place in the lists ts and ks. The
+-- def's text names the first n kinds of the list, in order of first mention.
 pub record OpensDef (s : Table) (found : DefTerms) (ts ks : List ℕ) (n : ℕ) (opened : DefTerms) : Type 0 where
   pub params : AreOpened s ts ks found.params opened.params
   pub result : IsOpened s ts ks found.result opened.result
@@ -85,7 +89,8 @@ pub record OpensDef (s : Table) (found : DefTerms) (ts ks : List ℕ) (n : ℕ) 
   pub order : numbered_on 0 (flat_map place_of opened.kinds) ≡ Some n
   pub few : n ≤ length ks
 
--- the scheme of a def over the variables of these numbers, where its text names the first n kinds
+-- The general type of a def in numbered form, over the type variables ts and the kind variables ks. h are held by outer
+-- names, and the def's text names the first n of ks.
 abbrev pub scheme_with : Table → HeldVariables → List ℕ → List ℕ → ℕ → DefTerms → Scheme
 scheme_with s h ts ks n opened = record {
   params = opened.params;

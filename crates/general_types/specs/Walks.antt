@@ -8,7 +8,7 @@ use Rattle.type_terms.specs.declared.ty.KindTerm.{KindTerm}
 use Rattle.general_types.specs.declared.walking.Reached.{Reached}
 use Rattle.general_types.specs.Holding.{HeldVariables, AgreeBelow, AgreeOnPassed, is_held}
 
--- held variables and passed ones, with nothing counted
+-- held variables and passed ones as one record, with its counts left at 0
 abbrev pub held : List ℕ → List ℕ → List ℕ → HeldVariables
 held types kinds passed = record {
   types = types;
@@ -19,36 +19,37 @@ held types kinds passed = record {
   free_count = 0;
 }
 
--- what walks have reached
+-- the free variables that walks through types have reached, and the bound ones that they passed
 abbrev pub held_of : Reached → HeldVariables
 held_of r = held r.types.keys r.kinds.keys r.passed.keys
 
--- P holds of each term
+-- P holds of each term of the list
 abbrev pub Every : (Term → Type 0) → List Term → Type 0
 Every P [] = Unit {0}
 Every P (t ∷ ts) = P t × Every P ts
 
--- the term means the same under both
+-- the term means the same under both assignments a and b
 abbrev pub IsSame : Assignment → Assignment → Term → Type 0
 IsSame a b t = meaning a t ≡ meaning b t
 
--- the term means the same under both, if it has fewer than n nodes under the first, or at most n where it is no
--- variable
+-- The term means the same under both assignments, if it has few nodes under the first: fewer than n, or at most n where
+-- it is no variable.
 abbrev pub IsSameBelow : Assignment → Assignment → ℕ → Term → Type 0
 IsSameBelow a b n t = size (meaning a t) < n + extra t → meaning a t ≡ meaning b t
 
--- the type variable is bound to nothing, and two solutions under which the terms mean the same say the same of it
+-- type variable k is free and occurs in the terms ts: two solutions that give ts the same meaning agree on it
 pub record IsTypeIn (s : Table) (ts : List Term) (k : ℕ) : Type 0 where
   pub free : IsFreeType s k
   pub fixed : (a b : Assignment) → Solves a s → Solves b s → Every (IsSame a b) ts → a.type_of k ≡ b.type_of k
 
--- the kind variable is bound to nothing, and two solutions under which the terms mean the same say the same of it
+-- kind variable k is free and occurs in the terms ts: two solutions that give ts the same meaning agree on it
 pub record IsKindIn (s : Table) (ts : List Term) (k : ℕ) : Type 0 where
   pub free : IsFreeKind s k
   pub fixed : (a b : Assignment) → Solves a s → Solves b s → Every (IsSame a b) ts → a.kind_of k ≡ b.kind_of k
 
--- A walk was to go through some terms and has these left, and what was held is as it is now. Where what is left means
--- the same under two solutions, as far as it has few nodes, so do the terms, and what the walk passed.
+-- A walk that gathers free variables went on: of the terms `todo` it has `left` still to go through, and its findings
+-- grew from `old` to `new`. Two solutions that agree on what is left and on the findings agree on `todo` and on what
+-- was passed.
 pub record Leads (s : Table) (todo left : List Term) (old new : HeldVariables) : Type 0 where
   pub over : Every (IsOver s) todo → Every (IsOver s) left
   pub needed : (a b : Assignment) → Solves a s → Solves b s → Every (IsSame a b) todo → Every (IsSame a b) left
@@ -62,7 +63,7 @@ pub record Leads (s : Table) (todo left : List Term) (old new : HeldVariables) :
   pub types_only : (k : ℕ) → is_held new.types k ≡ true → (is_held old.types k ≡ true) ⊎ IsTypeIn s todo k
   pub kinds_only : (k : ℕ) → is_held new.kinds k ≡ true → (is_held old.kinds k ≡ true) ⊎ IsKindIn s todo k
 
--- the variable that a kind is in the end was added, if it is one
+-- The list of kind variables grew by the free variable that a kind comes to under s, if it comes to one.
 pub record AddsKind (s : Table) (kind : KindTerm) (old new : List ℕ) : Type 0 where
   pub kept : (k : ℕ) → is_held old k ≡ true → is_held new k ≡ true
   pub only : (k : ℕ) → is_held new k ≡ true → (is_held old k ≡ true) ⊎ IsKindIn s (source_term kind ∷ []) k

@@ -70,8 +70,8 @@ pub fn generalise(
     )
 }
 
-/// Makes the types of a def general in all variables that are bound to nothing and that earlier names do not hold, with
-/// the sets of the numbers of its variables, both empty at first.
+/// Makes the types of a def general in all variables that are bound to nothing and that earlier names do not hold.
+/// `type_numbers` and `kind_numbers` are empty sets at first, for the numbers of its variables.
 fn generalise_with(
     alloc: Global,
     subst: &Subst,
@@ -133,8 +133,9 @@ fn generalise_with(
     })
 }
 
-/// Says what the variables of these numbers may stand for, and puts the kinds `named` of the text over them. The text
-/// names the first `read` of the kind variables. The three lists are empty at first.
+/// Says what each variable of a def may stand for in its general type, and puts the kinds `named` of the def's text
+/// into that form. The text names the first `read` of the kind variables. The three lists `types`, `kinds` and `text`
+/// are empty at first.
 fn say_parameters(
     alloc: Global,
     subst: &Subst,
@@ -161,7 +162,8 @@ fn say_parameters(
     Ok(())
 }
 
-/// What the type variable of this number may stand for.
+/// What the type variable of this number may stand for in a def's general type: itself if an earlier name holds it,
+/// any number type if it is one, and otherwise any type.
 fn type_parameter_of(subst: &Subst, held: &Held, number: u64) -> TypeParameter
     ensures { result ≡ type_parameter subst.now held.now number }
 {
@@ -174,7 +176,7 @@ fn type_parameter_of(subst: &Subst, held: &Held, number: u64) -> TypeParameter
     }
 }
 
-/// Adds, to an empty list, the type parameter of each of these variables: what it may stand for.
+/// Adds, to an empty list, what each of these type variables may stand for in a general type.
 fn push_types(
     parameters: &mut Vec<TypeParameter>,
     subst: &Subst,
@@ -190,7 +192,8 @@ fn push_types(
     Ok(())
 }
 
-/// What the kind variable of this number may stand for; `free` if it is not held.
+/// What the kind variable of this number may stand for in a def's general type: itself if an earlier name holds it,
+/// and otherwise `free`.
 fn kind_parameter_of(held: &Held, free: KindParameter, number: u64) -> KindParameter
     ensures { result ≡ kind_parameter held.now free number }
 {
@@ -201,7 +204,8 @@ fn kind_parameter_of(held: &Held, free: KindParameter, number: u64) -> KindParam
     }
 }
 
-/// Adds what the kind variables of these numbers may stand for; `free` for each that is not held.
+/// Adds what each of these kind variables may stand for in a general type; `free` for each that no earlier name
+/// holds.
 fn push_parameters(
     parameters: &mut Vec<KindParameter>,
     held: &Held,
@@ -217,8 +221,8 @@ fn push_parameters(
     Ok(())
 }
 
-/// Adds what the kind variables of these numbers may stand for to an empty list. The text names the first `read` of
-/// them.
+/// Adds, to an empty list, what each of these kind variables may stand for in a general type. The def's text names
+/// the first `read` of them, which are open to each use.
 fn push_kinds(
     parameters: &mut Vec<KindParameter>,
     held: &Held,
@@ -235,7 +239,7 @@ fn push_kinds(
     Ok(())
 }
 
-/// 1 for an open parameter, else 0.
+/// How many open kinds a kind parameter is: 1 if it is open, else 0.
 fn one_if_open(parameter: KindParameter) -> u64
     ensures open { result ≡ length (open_numbers 0 (parameter ∷ [])) }
     ensures few { result ≤ 1 }
@@ -247,7 +251,7 @@ fn one_if_open(parameter: KindParameter) -> u64
     }
 }
 
-/// Of each parameter how many before it are open, put into an empty list.
+/// Adds, to an empty list, how many open kind parameters stand before each of these.
 fn push_open_counts(counts: &mut Vec<u64>, parameters: &[KindParameter]) -> Result<(), Memory>
     requires { counts.old.items ≡ [] }
     ensures { OnOk result (counts.new.items ≡ open_counts 0 parameters.now) }
@@ -261,7 +265,7 @@ fn push_open_counts(counts: &mut Vec<u64>, parameters: &[KindParameter]) -> Resu
     Ok(())
 }
 
-/// How many of the parameters before the one of this number are open, by the counts of all.
+/// How many open kind parameters stand before the one of this number, by `counts`, which has this for all.
 fn open_before(parameters: &[KindParameter], counts: &[u64], number: u64) -> u64
     requires counts { counts.now ≡ open_counts 0 parameters.now }
     requires inside { number < length parameters.now }
@@ -271,8 +275,8 @@ fn open_before(parameters: &[KindParameter], counts: &[u64], number: u64) -> u64
     counts[number as usize]
 }
 
-/// A kind of the general type, as the text of the def has it. `counts` has for each parameter how many before it are
-/// open.
+/// A kind of the general type, as the def's text writes it: an open one by its number among the open ones. `counts`
+/// has for each parameter how many open ones stand before it.
 fn text_kind(parameters: &[KindParameter], counts: &[u64], kind: KindTerm) -> TextKind
     requires { counts.now ≡ open_counts 0 parameters.now }
     ensures { result ≡ the_text_kind parameters.now kind }
@@ -289,7 +293,8 @@ fn text_kind(parameters: &[KindParameter], counts: &[u64], kind: KindTerm) -> Te
     }
 }
 
-/// Adds kinds of the general type, as the text of the def has them, to an empty list.
+/// Adds, to an empty list, kinds of the general type as the def's text writes them: open ones by their number among
+/// the open ones.
 fn push_text(
     alloc: Global,
     text: &mut Vec<TextKind>,

@@ -15,7 +15,7 @@ use std::alloc::Global;
 use std::marker::Model;
 use type_terms::{Subst, Ty};
 
-/// Adds to `reached` the variables that the type of a name holds.
+/// Adds to `reached` the free variables in the type of a name.
 fn add_name(alloc: Global, subst: &Subst, reached: &mut Reached, name: &Ty) -> Result<(), Memory>
     requires over { IsOver subst.now (term_of name.now) }
     ensures { OnOk result ((names : List Term) → AreHeldBy subst.now names (held_of reached.old)
@@ -54,7 +54,7 @@ impl Model for Held {
 }
 
 impl Held {
-    /// What no names hold. It takes no memory.
+    /// The free variables of no names: none. It takes no memory.
     pub fn new(alloc: Global) -> Held
         ensures none { (s : Table) → IsHeldBy s [] result }
     {
@@ -70,14 +70,14 @@ impl Held {
         }
     }
 
-    /// Whether the type variable of this number is held.
+    /// Whether the type variable of this number is held: it is free in the type of an earlier name.
     pub fn holds_type(&self, number: u64) -> bool
         ensures { result ≡ is_held self.now.types number }
     {
         self.reached.types.contains(&number)
     }
 
-    /// Whether the kind variable of this number is held.
+    /// Whether the kind variable of this number is held: it is free in the type of an earlier name.
     pub fn holds_kind(&self, number: u64) -> bool
         ensures { result ≡ is_held self.now.kinds number }
     {
@@ -116,7 +116,7 @@ impl Held {
         Ok(())
     }
 
-    // Counts the variables that are there, and those that are bound to nothing.
+    // Notes how many variables the substitution has now, and how many of them are free.
     fn count(&mut self, subst: &Subst)
         ensures { self.new ≡ counted_in subst.now self.old }
     {
@@ -125,7 +125,7 @@ impl Held {
         self.free_count = subst.free_among(self.type_count, self.kind_count);
     }
 
-    // Puts in the place of each held variable that is bound now what it holds.
+    // Puts in the place of each held variable that is bound now the free variables of what it is bound to.
     fn renew_bound(&mut self, alloc: Global, subst: &Subst) -> Result<(), Memory>
         requires there { AreThere subst.now self.old }
         ensures held { OnOk result ((s : Table) (names : List Term) → Follows s subst.now

@@ -57,7 +57,7 @@ pub fn number_def(
     })
 }
 
-/// The place of a number in the set, which is added if it is not there.
+/// The place of a variable in a set of numbers, which it joins at the end if it is not there.
 fn place(numbers: &mut IndexSet<u64>, number: u64) -> Result<u64, Memory>
     ensures there { IfOk result (λ i. slice_get numbers.new.keys i ≡ Some number) }
     ensures front { OnOk result (IsFront numbers.old.keys numbers.new.keys) }
@@ -67,7 +67,7 @@ fn place(numbers: &mut IndexSet<u64>, number: u64) -> Result<u64, Memory>
     Ok(place as u64)
 }
 
-/// The kind, with its variable written by its place in the set.
+/// A kind with its variable replaced by the place of that in the set; a fixed kind stays.
 fn kind_place(kinds: &mut IndexSet<u64>, kind: KindTerm) -> Result<KindTerm, Memory>
     ensures numbered { IfOk result (λ k. (ts : List ℕ)
         → IsNumbered ts kinds.old.keys ts kinds.new.keys (source_term kind) (source_term k)) }
@@ -82,7 +82,8 @@ fn kind_place(kinds: &mut IndexSet<u64>, kind: KindTerm) -> Result<KindTerm, Mem
     }
 }
 
-/// The type, with each variable written by its place in the sets, if it has at most so many levels.
+/// A type with each variable replaced by its place in the sets `types` and `kinds`, which it joins if it is not
+/// there. Memory is refused for a type of more than so many levels.
 #[cycle(numbering)]
 fn numbered(
     alloc: Global,
@@ -123,7 +124,8 @@ fn numbered(
     }
 }
 
-/// The types, with each variable written by its place in the sets, if they have at most so many levels.
+/// Types with each variable replaced by its place in the sets `types` and `kinds`, which it joins if it is not there.
+/// Memory is refused for types of more than so many levels.
 #[cycle(numbering)]
 fn all_numbered(
     alloc: Global,
@@ -143,7 +145,7 @@ fn all_numbered(
     Ok(places)
 }
 
-/// The types with all that is bound put in.
+/// Types with each bound variable replaced by what it is bound to, so that free ones alone are left.
 fn all_resolved(alloc: Global, subst: &Subst, tys: &[Ty]) -> Result<Vec<Ty>, Memory>
     requires over { AreAmong (length subst.now.types) (length subst.now.kinds) (map term_of tys.now) }
     ensures { IfOk result (λ us. AreSettled subst.now (map term_of tys.now) (map term_of us.items)) }
@@ -156,7 +158,7 @@ fn all_resolved(alloc: Global, subst: &Subst, tys: &[Ty]) -> Result<Vec<Ty>, Mem
     Ok(settled)
 }
 
-/// Sources of these kinds.
+/// For each kind the type of a source of that kind, so that kinds can be resolved as types are.
 fn sources(alloc: Global, kinds: &[KindTerm]) -> Result<Vec<Ty>, Memory>
     ensures { IfOk result (λ us. map term_of us.items ≡ map source_term kinds.now) }
 {
@@ -167,7 +169,8 @@ fn sources(alloc: Global, kinds: &[KindTerm]) -> Result<Vec<Ty>, Memory>
     Ok(types)
 }
 
-/// The types with all that is bound put in, and then each variable written by its place in the sets.
+/// Types in numbered form: bound variables are replaced by what they are bound to, and then each free one by its
+/// place in the sets.
 fn opened(
     alloc: Global,
     subst: &Subst,
@@ -183,7 +186,8 @@ fn opened(
     all_numbered(alloc, types, kinds, &settled, MOST_LEVELS)
 }
 
-/// The type with all that is bound put in, and then each variable written by its place in the sets.
+/// A type in numbered form: bound variables are replaced by what they are bound to, and then each free one by its
+/// place in the sets.
 fn opened_one(
     alloc: Global,
     subst: &Subst,
@@ -199,8 +203,8 @@ fn opened_one(
     numbered(alloc, types, kinds, &settled, MOST_LEVELS)
 }
 
-/// Adds the kinds of sources to an empty list, with each variable written by its place in the set. New places come in
-/// the order of first mention.
+/// Adds the kinds of these sources to an empty list, each variable replaced by its place in the set. New places come
+/// in the order of first mention.
 fn push_places(
     places: &mut Vec<KindTerm>,
     kinds: &mut IndexSet<u64>,
@@ -226,8 +230,8 @@ fn push_places(
     Ok(())
 }
 
-/// Adds the kinds to an empty list, with all that is bound put in, and then each variable written by its place in the
-/// set.
+/// Adds kinds to an empty list in numbered form: bound variables are replaced by what they are bound to, and then
+/// each free one by its place in the set.
 fn push_opened_kinds(
     alloc: Global,
     places: &mut Vec<KindTerm>,

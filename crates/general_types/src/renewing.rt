@@ -10,7 +10,7 @@ use liq_base::Memory;
 use std::alloc::Global;
 use type_terms::{KindTerm, Subst};
 
-/// Adds those of the type variables that are bound now to an empty list.
+/// Adds, to an empty list, those of these type variables that the substitution has bound by now.
 pub fn push_bound_types(subst: &Subst, numbers: &[u64], found: &mut Vec<u64>) -> Result<(), Memory>
     requires { found.old.items ≡ [] }
     ensures { OnOk result (FindsBut (λ k. bound_at subst.now.types k ≡ None) numbers.now found.new.items) }
@@ -24,7 +24,7 @@ pub fn push_bound_types(subst: &Subst, numbers: &[u64], found: &mut Vec<u64>) ->
     Ok(())
 }
 
-/// Adds those of the kind variables that are bound now to an empty list.
+/// Adds, to an empty list, those of these kind variables that the substitution has bound by now.
 pub fn push_bound_kinds(subst: &Subst, numbers: &[u64], found: &mut Vec<u64>) -> Result<(), Memory>
     requires { found.old.items ≡ [] }
     ensures { OnOk result (FindsBut (λ k. kind_at subst.now.kinds k ≡ None) numbers.now found.new.items) }
@@ -38,7 +38,7 @@ pub fn push_bound_kinds(subst: &Subst, numbers: &[u64], found: &mut Vec<u64>) ->
     Ok(())
 }
 
-/// Puts in the place of a held type variable, which is bound now, the variables that it holds.
+/// Puts the free variables of what a held type variable is bound to by now in its place.
 fn renew_type(
     alloc: Global,
     subst: &Subst,
@@ -56,7 +56,7 @@ fn renew_type(
     walk(&mut work, subst, reached)
 }
 
-/// Puts in the place of each of these held type variables the variables that it holds.
+/// Puts the free variables of what each of these held type variables is bound to by now in its place.
 fn renew_types(
     alloc: Global,
     subst: &Subst,
@@ -72,7 +72,7 @@ fn renew_types(
     Ok(())
 }
 
-/// Puts in the place of a held kind variable, which is bound now, the variable that it is in the end, if it is one.
+/// Puts the free kind variable that a held one comes to by now in its place, if it comes to one.
 fn renew_kind(subst: &Subst, reached: &mut Reached, number: u64) -> Result<(), Memory>
     requires inside { number < length subst.now.kinds }
     ensures { OnOk result (Renews subst.now [] (number ∷ []) (held_of reached.old) (held_of reached.new)) }
@@ -83,7 +83,7 @@ fn renew_kind(subst: &Subst, reached: &mut Reached, number: u64) -> Result<(), M
     add_kind(subst, &mut reached.kinds, KindTerm::Var(number))
 }
 
-/// Puts in the place of each of these held kind variables the variable that it is in the end, if it is one.
+/// Puts the free kind variable that each of these held ones comes to by now in its place, if it comes to one.
 fn renew_kinds(subst: &Subst, reached: &mut Reached, numbers: &[u64]) -> Result<(), Memory>
     requires there { (k : ℕ) → is_held numbers.now k ≡ true → k < length subst.now.kinds }
     ensures { OnOk result (Renews subst.now [] numbers.now (held_of reached.old) (held_of reached.new)) }
@@ -94,7 +94,8 @@ fn renew_kinds(subst: &Subst, reached: &mut Reached, numbers: &[u64]) -> Result<
     Ok(())
 }
 
-/// Puts in the place of each of these held type variables and kind variables the variables that it holds.
+/// Puts in the place of each of these held variables, of types and of kinds, the free variables of what it is bound
+/// to by now.
 pub fn renew_both(
     alloc: Global,
     subst: &Subst,

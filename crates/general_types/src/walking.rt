@@ -20,7 +20,7 @@ pub struct Reached {
     pub passed: IndexSet<u64>,
 }
 
-/// Adds the variable that a kind is, if it is one that is bound to nothing in the end.
+/// Adds the kind variable to which a kind comes when all bindings are followed, if that is one.
 pub fn add_kind(subst: &Subst, kinds: &mut IndexSet<u64>, kind: KindTerm) -> Result<(), Memory>
     requires over { IsOver subst.now (source_term kind) }
     ensures { OnOk result (AddsKind subst.now kind kinds.old.keys kinds.new.keys) }
@@ -34,8 +34,8 @@ pub fn add_kind(subst: &Subst, kinds: &mut IndexSet<u64>, kind: KindTerm) -> Res
     }
 }
 
-/// Puts what the type variable of this number is bound to on the stack, if that was not done before. A variable that is
-/// bound to a variable is not noted: what that leads to is.
+/// Puts what a type variable is bound to on the stack of types to walk, if that was not done before. A variable that
+/// is bound to a variable is not noted: what that leads to is.
 fn push_bound<'a>(
     work: &mut Vec<&'a Ty>,
     reached: &mut Reached,
@@ -62,7 +62,8 @@ fn push_bound<'a>(
     }
 }
 
-/// Adds the type variable of this number, if it is bound to nothing; else puts what it is bound to on the stack.
+/// Notes the type variable of this number, if it is free; else puts what it is bound to on the stack of types to
+/// walk.
 pub fn visit_variable<'a>(
     work: &mut Vec<&'a Ty>,
     subst: &'a Subst,
@@ -83,7 +84,7 @@ pub fn visit_variable<'a>(
     }
 }
 
-/// Puts the parts of a tuple on the stack.
+/// Puts the parts of a tuple on the stack of types to walk.
 fn push_parts<'a>(work: &mut Vec<&'a Ty>, parts: &'a [Ty]) -> Result<(), Memory>
     ensures { OnOk result (terms work.new.items ≡ terms work.old.items ++ map term_of parts.now) }
 {
@@ -93,7 +94,7 @@ fn push_parts<'a>(work: &mut Vec<&'a Ty>, parts: &'a [Ty]) -> Result<(), Memory>
     Ok(())
 }
 
-/// One step of the walk: takes up a type that stood on top of the stack.
+/// One step of the walk that gathers free variables: takes up a type that stood on top of the stack.
 fn visit<'a>(
     work: &mut Vec<&'a Ty>,
     subst: &'a Subst,
@@ -116,7 +117,8 @@ fn visit<'a>(
     }
 }
 
-/// Adds the variables that the types on the stack hold.
+/// Gathers the free variables of all types on the stack, and of what they lead to. Too long a walk ends as if memory
+/// were refused.
 pub fn walk<'a>(
     work: &mut Vec<&'a Ty>,
     subst: &'a Subst,

@@ -5,8 +5,8 @@ use Rattle.sample_kernels.specs.Mixing.{faded}
 use Rattle.frame_core.specs.Slots.{Slot}
 use Rattle.op_cross.specs.Tracks.{Border, Flag, Gap, Unended, Piece, is_closed, track_pieces}
 
--- cell `at` of a mix of two tracks over `whole` cells: the first cell of the mix alone is marked, and each has the
--- title of the next track's cell
+-- Cell `at` of the fade from track cell a to next-track cell b, over `whole` cells. Its samples are faded from a to b,
+-- it has the title of b, and the first one alone begins a track.
 abbrev pub mixed_cell : Cell → Cell → ℕ → ℕ → Cell
 mixed_cell a b at whole = record {
   left = faded a.left b.left at whole;
@@ -15,29 +15,32 @@ mixed_cell a b at whole = record {
   title = b.title;
 }
 
--- the mix of the cells of two tracks, from cell `at` of a mix over `whole` cells on
+-- the fade from the end of one track, `from`, to the front of the next one, `to`: cell by cell, from cell `at` of
+-- `whole` on
 abbrev pub mixed_cells : List Cell → List Cell → ℕ → ℕ → List Slot
 mixed_cells [] to at whole = []
 mixed_cells (a ∷ from) [] at whole = []
 mixed_cells (a ∷ from) (b ∷ to) at whole = Some (mixed_cell a b at whole) ∷ mixed_cells from to (suc at) whole
 
--- by how many cells the track r overlaps the next one, at most `most`
+-- by how many cells a track r overlaps the next one: at most `most`, and no more than either has
 abbrev pub overlap_of : ℕ → List Cell → List Cell → ℕ
 overlap_of most r next = min most (min (length r) (length next))
 
--- whether the next track can be mixed into the end of track r: it has ended, or has as many cells as may overlap
+-- whether enough of the next track is known to fade the end of track r into it: it has ended, or has as many cells as
+-- may overlap
 abbrev pub takes_part : ℕ → List Cell → Piece → Bool
 takes_part most r next = is_closed next.border || nat_le (min most (length r)) (length next.cells)
 
--- what is settled of the track r, after which nothing is known: all but the last cells, which may be mixed
+-- what is settled of a track r while nothing after it is known: all but the last `most` cells, which may still be faded
 abbrev pub held_back : ℕ → List Cell → List Slot
 held_back most r = map Some (take (length r - min most (length r)) r)
 
--- the track r, whose last o cells are mixed with the first o of the next track
+-- the track r with its last o cells faded into the first o cells of the next track
 abbrev pub overlapped : ℕ → List Cell → List Cell → List Slot
 overlapped o r next = map Some (take (length r - o) r) ++ mixed_cells (drop (length r - o) r) (take o next) 0 o
 
--- the settled items from the track r on, after which this border and these pieces come
+-- The output that is settled, that is, that no later slot changes, from the track r on. Behind r come this border and
+-- these pieces; tracks overlap by at most `most` cells.
 abbrev pub settled : ℕ → List Cell → Border → List Piece → List Slot
 settled most r Unended pieces = held_back most r
 settled most r Gap [] = map Some r ++ None ∷ []
@@ -49,11 +52,12 @@ settled most r Flag (next ∷ pieces) =
     ++ settled most (drop (overlap_of most r next.cells) next.cells) next.border pieces
     else held_back most r
 
--- the settled items of these pieces
+-- the output that is settled of a list of tracks with their borders, where tracks overlap by at most `most` cells
 abbrev pub settled_from : ℕ → List Piece → List Slot
 settled_from most [] = []
 settled_from most (piece ∷ pieces) = settled most piece.cells piece.border pieces
 
--- the settled items of a list of slots, where tracks overlap by at most `most` cells
+-- The settled output of a crossfade (what no later slot changes) after these slots of its source: tracks one after
+-- another, each faded into the next one over at most `most` cells.
 abbrev pub cross : ℕ → List Slot → List Slot
 cross most slots = settled_from most (track_pieces slots)

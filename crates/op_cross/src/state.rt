@@ -80,7 +80,7 @@ impl CrossState {
         })
     }
 
-    /// Whether its item is not settled: a slot that is still to come may change it.
+    /// Whether the item at which it stands is not settled: a slot that is still to come may change it.
     pub fn wants(&self) -> bool
         ensures wants { result ≡ wants self.now }
         ensures unsettled { (slots : List Slot) (p : ℕ) → StandsFor self.now slots p → IsTrue result
@@ -92,7 +92,8 @@ impl CrossState {
         self.ready == 0 && !self.gap
     }
 
-    /// Takes the next slot of its source. At most twice the overlap of slots settle its item.
+    /// Takes the next slot of the crossfade's source: a cell, or nothing. At most twice the overlap of slots settle
+    /// its item.
     pub fn feed(&mut self, slot: Option<Cell>)
         requires { wants self.old ≡ true }
         ensures overlap { self.new.overlap ≡ self.old.overlap }
@@ -127,7 +128,7 @@ impl CrossState {
         }
     }
 
-    /// How many cells of a track that goes on settle its item, which is not settled.
+    /// How many further cells of the track that is going on settle the item at which it stands, which is not settled.
     pub fn room(&self) -> u32
         requires { wants self.now ≡ true }
         ensures { result ≡ track_room self.now }
@@ -140,8 +141,8 @@ impl CrossState {
         }
     }
 
-    /// Takes the next slots of its source, which are cells of this title and of a track that goes on, no more than
-    /// settle its item. They are given by their samples.
+    /// Takes several slots of the crossfade's source at once: cells of this title of the track that is going on,
+    /// given by their samples, and no more than settle its item.
     pub fn fill_stretch(&mut self, title: u32, lefts: &[i16], rights: &[i16])
         requires wants { wants self.old ≡ true }
         requires same { length rights.now ≡ length lefts.now }
@@ -168,16 +169,16 @@ impl CrossState {
         }
     }
 
-    /// Whether as many cells of a track are held as overlap, and nothing else: each cell that goes on with it settles
-    /// one item.
+    /// Whether cells pass through: as many cells of a track are held back as may overlap, and nothing else, so that
+    /// each cell that goes on with the track settles one item.
     pub fn passes(&self) -> bool
         ensures { result ≡ passes self.now }
     {
         self.ready == 0 && !self.gap && self.next.len() == 0 && self.cells.len() == self.overlap
     }
 
-    /// Takes the next slots of its source, which are cells of this title and of the track that goes on, by their
-    /// samples, and writes those of as many items to `left` and `right`.
+    /// Passes cells through: takes the next cells of the track that is going on, given by their title and samples,
+    /// and writes the samples of as many settled items to `left` and `right`.
     pub fn pass(
         &mut self,
         title: u32,
@@ -209,7 +210,7 @@ impl CrossState {
         self.cells.take_into(left, right);
     }
 
-    /// The item at which the state stands, which is settled: a cell, or nothing.
+    /// The item at which it stands, which is settled: a cell, or nothing for a gap.
     pub fn offer(&self) -> Option<Cell>
         requires { wants self.now ≡ false }
         ensures item { (slots : List Slot) (p : ℕ) → StandsFor self.now slots p
@@ -243,7 +244,8 @@ impl CrossState {
         }
     }
 
-    /// Writes the samples of as many items as the slices are long, of a stretch that is ready, and goes on after them.
+    /// Writes the samples of the next settled items, as many as the slices are long, and goes on after them. None of
+    /// these items but the first begins a track.
     pub fn copy(&mut self, left: &mut [i16], right: &mut [i16])
         requires same { length right.old ≡ length left.old }
         requires ready { length left.old ≤ ready_stretch self.old }
@@ -264,8 +266,8 @@ impl CrossState {
         }
     }
 
-    // Writes the samples of as many items as the slices are long, which are cells of one track alone, and goes on after
-    // them.
+    // Writes the samples of the next items, as many as the slices are long, and goes on after them. They are cells of
+    // one track alone, which are not faded.
     fn copy_plain(&mut self, left: &mut [i16], right: &mut [i16])
         requires same { length right.old ≡ length left.old }
         requires plain { length self.old.next < self.old.ready }
@@ -282,8 +284,8 @@ impl CrossState {
         self.ready -= left.len() as u32;
     }
 
-    // Writes the samples of as many items as the slices are long, which are mixed of two tracks, and goes on after
-    // them.
+    // Writes the samples of the next items, as many as the slices are long, and goes on after them. They are faded
+    // from one track to the next.
     fn copy_mixed(&mut self, left: &mut [i16], right: &mut [i16])
         requires same { length right.old ≡ length left.old }
         requires mixed { self.old.ready ≤ length self.old.next }
@@ -305,7 +307,8 @@ impl CrossState {
         }
     }
 
-    // Writes the samples of as many mixed items as the slices are long, from 1 to 256, and goes on after them.
+    // Fades the next items from one track to the next, as many as the slices are long, from 1 to 256: writes their
+    // samples, and goes on after them.
     fn mix_block(&mut self, left: &mut [i16], right: &mut [i16])
         requires same { length right.old ≡ length left.old }
         requires few { (0 < length left.old) × (length left.old ≤ 256) }
@@ -337,8 +340,8 @@ impl CrossState {
     }
 
     /// How many items, from its item on and at most `most`, are known to be cells of this title that begin no track.
-    /// Where cells pass through, they are at most `below`: so many cells of title `below_title` does its source go on
-    /// with.
+    /// Where cells pass through (each further cell settles one item), its source goes on with `below` cells of title
+    /// `below_title`, and the answer is no larger.
     pub fn rest(&self, title: u32, below: u32, below_title: u32, most: u32) -> u32
         ensures ready { (slots : List Slot) (p j : ℕ) → StandsFor self.now slots p → passes self.now ≡ false
             → j < result
@@ -366,8 +369,8 @@ impl CrossState {
         self.ready(most)
     }
 
-    // How many items, at most `most`, are known to be cells of this title that begin no track, where cells pass through
-    // and its source goes on with `most` cells of title `below_title`.
+    // How many items, at most `most`, are known to be cells of this title that begin no track, where each further
+    // cell settles one item and its source goes on with `most` cells of title `below_title`.
     fn rest_through(&self, title: u32, below_title: u32, most: u32) -> u32
         requires passes { passes self.now ≡ true }
         ensures within { result ≤ most }
@@ -404,7 +407,8 @@ impl CrossState {
     }
 }
 
-// How many cells of a ring, from the front one on and at most `most`, have the title of the front one.
+// How many cells of a ring (a queue of cells), from the front one on and at most `most`, have the title of the front
+// one.
 fn of_one_title(ring: &CellRing, most: u32) -> u32
     ensures within { result ≤ most }
     ensures some { 0 < most → 0 < result }
@@ -419,8 +423,8 @@ fn of_one_title(ring: &CellRing, most: u32) -> u32
     1 + ring.titled(title_of(ring.front()), 1, most - 1)
 }
 
-// Cell `at` of a mix of two tracks over `whole` cells: the first cell of the mix alone is marked, and each has the
-// title of the next track's cell.
+// Cell `at` of a fade from one track to the next over `whole` cells, of the cells that meet there. It has the next
+// track's title, and the first cell of the fade alone begins a track.
 fn mixed_cell(from: Cell, to: Cell, at: u32, whole: u32) -> Cell
     requires { at < whole }
     ensures { result ≡ mixed_cell from to at whole }

@@ -9,36 +9,36 @@ use Rattle.plan_core.specs.declared.sink.SinkPlan.{SinkPlan}
 use Rattle.plan_core.specs.declared.sink.SinkPlan.TheVariants.{Output, Feed}
 use Rattle.plan_core.specs.Plans.{HasChildren, HasKind, IsInRange, IsNodeOver, IsNoReader, IsWellFormed, is_output}
 
--- a stereo node over these children
+-- a stereo node of a plan, of this operator, over the children with these numbers
 abbrev pub stereo_node : Op → (children : List ℕ) → Node
 stereo_node op children = record { op = op; kind = Stereo; children = children }
 
--- an endless blank
+-- a stereo node that gives silence without end
 abbrev pub blank : Node
 blank = stereo_node (Blank 0) []
 
--- a well-formed plan whose nodes are all stereo
+-- a plan is well formed, and each of its nodes gives stereo
 pub record IsStereo (plan : Plan) : Type 0 where
   pub well_formed : IsWellFormed plan
   pub stereo : (i : ℕ) (node : Node) → slice_get plan.nodes i ≡ Some node → node.kind ≡ Stereo
 
--- a stereo node of this operator may have so many stereo children
+-- a stereo node of this operator may have so many stereo children, reads no buffer, and has its numbers in range
 pub record IsSuited (op : Op) (children : ℕ) : Type 0 where
   pub count : HasChildren op children
   pub kind : HasKind op Stereo Stereo
   pub range : IsInRange op
   pub reader : IsNoReader op
 
--- a node may be the next one of a plan
+-- a node may be added to a plan: its children are there and suit it, and it reads no buffer
 pub record CanStand (plan : Plan) (node : Node) : Type 0 where
   pub over : IsNodeOver plan.nodes node
   pub reader : IsNoReader node.op
 
--- none of these sinks is an output
+-- none of these sinks is an output: each feeds a buffer
 abbrev pub AreFeeds : List SinkPlan → Type 0
 AreFeeds sinks = All (λ sink. is_output sink ≡ false) sinks
 
--- the node of the only output, if that is the last sink
+-- the node that the only output writes, if a list of sinks has just one output and ends with it
 abbrev pub sole_node : List SinkPlan → Option ℕ
 sole_node [] = None
 sole_node (Feed buffer node ∷ sinks) = sole_node sinks

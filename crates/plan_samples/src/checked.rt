@@ -36,14 +36,14 @@ impl Model for CheckedDraft {
 }
 
 impl CheckedDraft {
-    /// No nodes, at 44100 samples a second in ticks of 1764.
+    /// A plan in the making without nodes, at 44100 samples a second in ticks of 1764.
     pub fn new(alloc: Global) -> CheckedDraft
         ensures { result ≡ record { rate = 44100; frame = 1764; nodes = []; sinks = []; buffers = [] } }
     {
         CheckedDraft::of(alloc, 44_100, 1764)
     }
 
-    /// No nodes, at so many samples a second in ticks of `frame` samples.
+    /// A plan in the making without nodes, at so many samples a second in ticks of `frame` samples.
     pub fn of(alloc: Global, rate: u32, frame: u32) -> CheckedDraft
         requires rate { (MIN_RATE ≤ rate) × (rate ≤ MAX_RATE) }
         requires frame { (1 ≤ frame) × (frame ≤ MAX_FRAME) }
@@ -99,8 +99,8 @@ impl CheckedDraft {
     }
 }
 
-// Adds this node, and answers its number; nothing where it may not stand over its children, where 4096 nodes are there,
-// or where memory is refused.
+// Adds this node to a plan in the making, and answers its number; nothing where it may not stand over its children,
+// where 4096 nodes are there, or where memory is refused.
 fn push_fitting(draft: &mut Draft, node: Node) -> Option<u32>
     requires stereo { IsStereo draft.old }
     requires kind { node.kind ≡ Kind.Stereo }
@@ -116,7 +116,8 @@ fn push_fitting(draft: &mut Draft, node: Node) -> Option<u32>
     draft.push_node(node).ok()
 }
 
-// Adds a buffer from this node, if it is there, and answers the number of its reader.
+// Adds a buffer that the node `source` feeds, if that is there and a plan may have the buffer, and answers the number
+// of the node that reads it.
 fn push_fed(alloc: Global, draft: &mut Draft, source: u32, buffer: BufferPlan) -> Option<u32>
     requires stereo { IsStereo draft.old }
     requires feeds { AreFeeds draft.old.sinks }
@@ -135,14 +136,15 @@ fn push_fed(alloc: Global, draft: &mut Draft, source: u32, buffer: BufferPlan) -
     }
 }
 
-// Whether a plan may have this buffer.
+// Whether a plan may have a buffer of this capacity and prefill.
 fn is_buffer(buffer: BufferPlan) -> bool
     ensures { result ≡ true → IsBuffer buffer }
 {
     buffer.pre <= u64::from(MAX_PREFILL) && buffer.capacity >= 1 && buffer.capacity <= MAX_CAPACITY
 }
 
-// Whether this stereo node may stand over those of a plan.
+// Whether this stereo node may be added to a plan in the making: its children are there and suit its operator, and
+// not too many crossfades come.
 fn fits(draft: &Draft, node: &Node) -> bool
     requires stereo { IsStereo draft.now }
     requires kind { node.now.kind ≡ Kind.Stereo }
@@ -158,14 +160,15 @@ fn fits(draft: &Draft, node: &Node) -> bool
     suits(&node.op, children.len()) && draft.crossfades_from(node) <= MAX_CROSSFADES
 }
 
-// Whether all of these are below the count.
+// Whether each number is below the count, as those of nodes that are there are.
 fn are_below(numbers: &[u32], count: usize) -> bool
     ensures { result ≡ true → All (λ number. number < count) numbers.now }
 {
     numbers.iter().all(|number| (*number as usize) < count)
 }
 
-// Whether a stereo node of this operator may have so many stereo children.
+// Whether a stereo node of this operator may have so many stereo children, with its numbers in range. Buffers and
+// what makes other kinds may not be added so.
 fn suits(op: &Op, children: usize) -> bool
     ensures { result ≡ true → IsSuited op.now children }
 {

@@ -16,6 +16,7 @@ impl Sink for DroppingSink {
 
     ghost told = { λ s. faults_alone 0 };
 
+    // Counts the bytes of a piece, up to the most that a `u64` holds, and drops them.
     fn append(&mut self, piece: &[u8]) -> Result<(), Failed>
         ensures sure { result ≡ Ok tt }
         ensures count { self.new.taken ≡ min (self.old.taken + length piece.now) (2 ^ 64 - 1) }

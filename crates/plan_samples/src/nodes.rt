@@ -10,7 +10,7 @@ use liq_base::{Kind, Memory};
 use plan_core::{Draft, Items, Node, Op, PlanFault, laws};
 use std::alloc::Global;
 
-// Adds a blank, and answers its number.
+// Adds a blank (a source of silence without end) to a plan in the making, and answers its number.
 pub(crate) fn push_blank(alloc: Global, draft: &mut Draft) -> Result<u32, PlanFault>
     requires { IsStereo draft.old }
     ensures stereo { OnOk result (IsStereo draft.new) }
@@ -22,7 +22,7 @@ pub(crate) fn push_blank(alloc: Global, draft: &mut Draft) -> Result<u32, PlanFa
     Ok(number)
 }
 
-// Adds a node that amplifies this one by 1.
+// Adds a node to a plan in the making that amplifies the node `child` by 1.
 pub(crate) fn push_amplified(alloc: Global, draft: &mut Draft, child: u32) -> Result<(), PlanFault>
     requires stereo { IsStereo draft.old }
     requires child { child < length draft.old.nodes }
@@ -36,7 +36,7 @@ pub(crate) fn push_amplified(alloc: Global, draft: &mut Draft, child: u32) -> Re
     Ok(())
 }
 
-// Adds a crossfade of a blank, and answers its number.
+// Adds a crossfade of the node `child` to a plan in the making, and answers its number.
 pub(crate) fn push_crossfade(alloc: Global, draft: &mut Draft, child: u32) -> Result<u32, PlanFault>
     requires stereo { IsStereo draft.old }
     requires child { slice_get draft.old.nodes child ≡ Some blank }
@@ -49,7 +49,7 @@ pub(crate) fn push_crossfade(alloc: Global, draft: &mut Draft, child: u32) -> Re
     Ok(number)
 }
 
-// Adds the sum of these two.
+// Adds the sum of these two nodes to a plan in the making.
 pub(crate) fn push_sum(
     alloc: Global,
     draft: &mut Draft,
@@ -70,7 +70,7 @@ pub(crate) fn push_sum(
     Ok(())
 }
 
-// Adds a stereo node, and answers its number.
+// Adds a stereo node to a plan in the making, and answers its number.
 fn push_stereo(draft: &mut Draft, op: Op, children: Vec<u32>) -> Result<u32, PlanFault>
     requires stereo { IsStereo draft.old }
     requires below { All (λ child. child < length draft.old.nodes) children.items }
@@ -92,7 +92,7 @@ fn push_stereo(draft: &mut Draft, op: Op, children: Vec<u32>) -> Result<u32, Pla
     Ok(number)
 }
 
-// Adds a stereo node that is no crossfade, and answers its number.
+// Adds a stereo node that is no crossfade to a plan in the making, and answers its number.
 fn push_plain(draft: &mut Draft, op: Op, children: Vec<u32>) -> Result<u32, PlanFault>
     requires stereo { IsStereo draft.old }
     requires below { All (λ child. child < length draft.old.nodes) children.items }
@@ -111,14 +111,14 @@ fn push_plain(draft: &mut Draft, op: Op, children: Vec<u32>) -> Result<u32, Plan
     Ok(number)
 }
 
-// One child.
+// A list of children for a node with one child.
 fn one(alloc: Global, child: u32) -> Result<Vec<u32>, Memory>
     ensures { IfOk result (λ children. children.items ≡ child ∷ []) }
 {
     Ok(vec![in alloc; child]?)
 }
 
-// Two children.
+// A list of children for a node with two children.
 fn two(alloc: Global, first: u32, second: u32) -> Result<Vec<u32>, Memory>
     ensures { IfOk result (λ children. children.items ≡ first ∷ second ∷ []) }
 {

@@ -42,7 +42,7 @@ pub fn plan_of_nested_crossfades(alloc: Global, count: u32) -> Result<Plan, Plan
     Ok(draft.into_plan())
 }
 
-// A draft without nodes, at 44100 samples a second in ticks of 1764.
+// A plan in the making without nodes, at 44100 samples a second in ticks of 1764.
 fn begun(alloc: Global) -> Draft
     ensures stereo { IsStereo result }
     ensures nodes { result.nodes ≡ [] }
@@ -50,7 +50,7 @@ fn begun(alloc: Global) -> Draft
     begun_at(alloc, 44_100, 1764)
 }
 
-// A draft without nodes, at so many samples a second in ticks of `frame` samples.
+// A plan in the making without nodes, at so many samples a second in ticks of `frame` samples.
 pub(crate) fn begun_at(alloc: Global, rate: u32, frame: u32) -> Draft
     requires rate { (MIN_RATE ≤ rate) × (rate ≤ MAX_RATE) }
     requires frame { (1 ≤ frame) × (frame ≤ MAX_FRAME) }
@@ -61,7 +61,7 @@ pub(crate) fn begun_at(alloc: Global, rate: u32, frame: u32) -> Draft
     Draft::new(alloc, rate, frame)
 }
 
-// Adds an output of this node, without a name.
+// Gives a plan in the making an output of this node, without a name; nothing is written here.
 pub(crate) fn write(alloc: Global, draft: &mut Draft, node: u32) -> Result<(), Memory>
     requires well_formed { IsWellFormed draft.old }
     requires node { node < length draft.old.nodes }

@@ -21,7 +21,8 @@ use Rattle.sound_looks.specs.declared.look.Look.TheVariants.{Unread, Bad, Sound}
 use Rattle.sound_looks.specs.declared.list.ListLook.{ListLook}
 use Rattle.sound_looks.specs.declared.list.ListLook.TheVariants as list_look
 
--- what is told of the WAV file of these bytes
+-- what is told of a WAV file that was read whole, from its bytes: kind, rate, width, where the samples begin, how many
+-- there are, how many are played, and for how many bytes it counts
 abbrev pub facts_of : Rules → (bytes : List ℕ) → Wav → Facts
 facts_of rules bytes wav = record {
   kind = wav.kind;
@@ -33,7 +34,7 @@ facts_of rules bytes wav = record {
   bytes = counted_bytes (length bytes) (sound_of rules.rate wav);
 }
 
--- what is told of a WAV file by its head, where the file has `size` bytes
+-- what is told of a WAV file from its head alone, where the file has `size` bytes
 abbrev pub head_facts : Rules → (size : ℕ) → Head → Facts
 head_facts rules size head = record {
   kind = head.kind;
@@ -45,59 +46,61 @@ head_facts rules size head = record {
   bytes = max size (written_size head rules.rate);
 }
 
--- what a look finds in bytes that were read as a WAV file, or were none
+-- what a look finds in bytes that were read as a WAV file: the facts of it, or why they are none
 abbrev pub look_in : Rules → (bytes : List ℕ) → Result Wav WavFault → Look
 look_in rules bytes (Err fault) = Bad (NotWav fault)
 look_in rules bytes (Ok wav) = Sound (facts_of rules bytes wav)
 
--- what a look finds in a file, by its bytes, or why it has none of use
+-- what a look finds in a file, from its bytes, or from the reason why these are of no use
 abbrev pub look_of : Rules → Result (List ℕ) Unusable → Look
 look_of rules (Err fault) = Bad fault
 look_of rules (Ok bytes) = look_in rules bytes (read_of bytes)
 
--- if the shelf tells its files, this is what a look finds in the file of this name
+-- What a look at the file of this name finds is `found`, by the bytes that the shelf tells of it. Nothing is said where
+-- the shelf does not tell its files.
 abbrev pub Looks : Rules → (name : List ℕ) → ShelfTold → Look → Type 0
 Looks rules name told found = ForSome told.files
     (λ files. look_of rules (bytes_in rules.file (file_at files name)) ≡ found)
 
--- what a look at the file of this name found: if it says that the read failed, the count of these rose, and otherwise
--- it is what the file is
+-- What a look at the file of this name answered is true. `Unread` comes only if the shelf's count of failed reads rose,
+-- and any other answer is what the file's bytes say.
 abbrev pub IsLooked : Rules → (name : List ℕ) → (old new : ShelfTold) → Look → Type 0
 IsLooked rules name old new Unread = Rose old.reads new.reads
 IsLooked rules name old new (Bad fault) = Looks rules name old (Bad fault)
 IsLooked rules name old new (Sound facts) = Looks rules name old (Sound facts)
 
--- a line that would be a name if it were UTF-8
+-- whether a line of a list is skipped: it is not empty, no comment (it does not begin with `#`), and not UTF-8
 abbrev pub is_skipped : List ℕ → Bool
 is_skipped line = not (nat_eq (length line) 0) && not (nat_eq (slice_index line 0) 35) && not (is_utf8 line)
 
--- how many of these lines would be names if they were UTF-8
+-- how many of these lines are skipped since they are not UTF-8
 abbrev pub skipped_among : List (List ℕ) → ℕ
 skipped_among [] = 0
 skipped_among (line ∷ lines) = if is_skipped (without_cr line) then 1 + skipped_among lines else skipped_among lines
 
--- how many lines of a list would be names if they were UTF-8
+-- how many lines of a list, given by its bytes, are skipped since they are not UTF-8
 abbrev pub skipped_in : List ℕ → ℕ
 skipped_in bytes = skipped_among (lines (without_mark bytes))
 
--- the names of a list and how many lines are skipped, by its bytes, or why it has none of use
+-- the names in a list and how many lines are skipped, from its bytes, or from the reason why these are of no use
 abbrev pub list_look_of : Result (List ℕ) Unusable → Result (List (List ℕ) × ℕ) Unusable
 list_look_of (Err fault) = Err fault
 list_look_of (Ok bytes) = Ok (names_listed bytes, skipped_in bytes)
 
--- if the shelf tells its files, the list of this name is of no use for this reason, or has these names and so many
--- skipped lines
+-- The list of this name is what `found` says, by the bytes that the shelf tells of it: of no use for a reason, or names
+-- and so many skipped lines. Nothing is said where the shelf does not tell its files.
 abbrev pub ListLooks : (name : List ℕ) → ShelfTold → Result (List (List ℕ) × ℕ) Unusable → Type 0
 ListLooks name told found = ForSome told.files (λ files. list_look_of (bytes_in (2 ^ 20) (file_at files name)) ≡ found)
 
--- what a look at the list of this name found: that it was not read, why it is of no use, or its names and how many
--- lines are skipped
+-- What a look at the list of this name answered is true. `Unread` comes only if the shelf's count of failed reads rose,
+-- and any other answer is what the list's bytes say.
 abbrev pub IsListLook : (name : List ℕ) → (old new : ShelfTold) → ListLook → Type 0
 IsListLook name old new list_look.Unread = Rose old.reads new.reads
 IsListLook name old new (list_look.Bad fault) = ListLooks name old (Err fault)
 IsListLook name old new (list_look.Names names skipped) = ListLooks name old (Ok (names.items, skipped))
 
--- the bytes for which a file that was looked at counts, if it is used where it is met alone; otherwise why it is not
+-- for how many bytes a file counts that was looked at, if a plan uses it where it is met alone; otherwise why it is not
+-- used
 abbrev pub counted_as : Rules → Look → Result ℕ Unusable
 counted_as rules Unread = Err NotThere
 counted_as rules (Bad fault) = Err fault

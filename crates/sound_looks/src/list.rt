@@ -22,7 +22,8 @@ pub enum ListLook {
     Names { names: Vec<Text>, skipped: u64 },
 }
 
-/// Looks at the list of this name.
+/// Reads the list of audio files of this name, and tells the names in it and how many lines are skipped, or why there
+/// are none.
 pub fn look_at_list<S: Shelf>(alloc: Global, shelf: &mut S, name: &str) -> Result<ListLook, Memory>
     ensures looked { IfOk result (IsListLook name.now (S.told shelf.old) (S.told shelf.new)) }
     ensures shelf { OnlyRead (S.told shelf.old) (S.told shelf.new) }
@@ -40,7 +41,7 @@ pub fn look_at_list<S: Shelf>(alloc: Global, shelf: &mut S, name: &str) -> Resul
     }
 }
 
-// How many lines of a list would be names, but are not UTF-8.
+// How many lines of a list are skipped: they would be names, but are not UTF-8.
 fn count_skipped(bytes: &[u8]) -> u64
     ensures { result ≡ skipped_in bytes.now }
 {
@@ -56,7 +57,7 @@ fn count_skipped(bytes: &[u8]) -> u64
     count
 }
 
-// Whether a line would be a name if it were UTF-8.
+// Whether a line of a list is skipped: it is not empty, no comment (it does not begin with `#`), and not UTF-8.
 fn is_skipped(line: &[u8]) -> bool
     ensures { result ≡ is_skipped (without_cr line.now) }
 {

@@ -47,7 +47,8 @@ pub enum Look {
     Sound(Facts),
 }
 
-/// Looks at the audio file of this name, by the rules of a plan. What was read of it is given back before it returns.
+/// Looks at the audio file of this name, by the rules of a plan, and tells what it holds or why it is of no use. What
+/// was read of it is given back before it returns.
 pub fn look_at<S: Shelf>(
     alloc: Global,
     shelf: &mut S,
@@ -66,7 +67,8 @@ pub fn look_at<S: Shelf>(
     }
 }
 
-// The facts of a WAV file of this head, which has `size` bytes.
+// What is told of a WAV file by its head: kind, rate, width, where its samples begin, how many there are, and for how
+// many bytes it counts. The file has `size` bytes.
 fn facts_of(size: u64, head: Head, rules: Rules) -> Facts
     requires rules { AreRules rules }
     requires rate { 0 < head.rate }

@@ -20,7 +20,7 @@ use script_lex::Token;
 use std::alloc::Global;
 use value_parse::value;
 
-/// inner*
+/// Reads the bindings in the body of a def, as many as there are: inner*. Answers them and the tokens behind.
 pub fn inners(
     alloc: Global,
     total: usize,
@@ -43,7 +43,7 @@ pub fn inners(
     Ok((items, rest))
 }
 
-// inner: binding `;`?
+// Reads a binding in the body of a def, with the `;` that may stand behind it. inner: binding `;`?
 #[tactic(auto, unfolding(script_grammar::specs::ReadScript::inner))]
 fn inner(alloc: Global, total: usize, tokens: &[Token]) -> Result<(Inner, &[Token]), Fault>
     requires within { length tokens.now ≤ total }
@@ -55,7 +55,7 @@ fn inner(alloc: Global, total: usize, tokens: &[Token]) -> Result<(Inner, &[Toke
     Ok((Inner { bind, semicolon }, rest))
 }
 
-// binding: Name `=` value. A `(` may stand behind it.
+// Reads a binding in the body of a def: Name `=` value. A `(` may stand behind it.
 #[tactic(auto, using(crate::proofs::Arms::bind_is))]
 fn bind(alloc: Global, total: usize, tokens: &[Token]) -> Result<(Bind, &[Token]), Fault>
     requires within { length tokens.now ≤ total }
@@ -69,7 +69,7 @@ fn bind(alloc: Global, total: usize, tokens: &[Token]) -> Result<(Bind, &[Token]
     bind_of(alloc, total, at, name, after)
 }
 
-// `=` value, behind the name, whose index is `at`.
+// Reads `=` and a value behind the name of a binding, whose token has the index `at`, and answers the binding.
 fn bind_of<'a>(
     alloc: Global,
     total: usize,

@@ -19,7 +19,8 @@ use script_lex::Token;
 use std::alloc::Global;
 use value_parse::result;
 
-/// def: `def` NameOpen (param (`,` param)*)? `)` `=`? inner* expression `end`
+/// Reads a def: `def` NameOpen (param (`,` param)*)? `)` `=`? inner* expression `end`. The tokens are the last of
+/// `total`.
 #[tactic(auto, using(crate::proofs::Arms::def_is))]
 pub fn def(alloc: Global, total: usize, tokens: &[Token]) -> Result<(Def, &[Token]), Fault>
     requires within { length tokens.now ≤ total }
@@ -34,7 +35,8 @@ pub fn def(alloc: Global, total: usize, tokens: &[Token]) -> Result<(Def, &[Toke
     def_of(alloc, total, at, name, after)
 }
 
-// (param (`,` param)*)? `)` `=`? inner* expression `end`, behind the name, whose index is `at`.
+// Reads a def from behind its name, whose token has the index `at`: (param (`,` param)*)? `)` `=`? inner* expression
+// `end`.
 fn def_of<'a>(
     alloc: Global,
     total: usize,
@@ -67,7 +69,7 @@ fn def_of<'a>(
     ))
 }
 
-// expression `end`
+// Reads the last of a def: expression `end`. Answers the expression, which is the result, and the tokens behind.
 fn ended(alloc: Global, total: usize, tokens: &[Token]) -> Result<(Expr, &[Token]), Fault>
     requires within { length tokens.now ≤ total }
     requires small { total < 2 ^ 32 }
@@ -77,7 +79,8 @@ fn ended(alloc: Global, total: usize, tokens: &[Token]) -> Result<(Expr, &[Token
     before_end(result, rest)
 }
 
-// `end`, behind what was read: one function for any tree, whose drop where no `end` stands is then one goal.
+// Reads `end` behind a tree that was read, and hands the tree on. It is one function for any tree, whose drop where
+// no `end` stands is then one goal.
 fn before_end<'a, T: Drop>(item: T, tokens: &'a [Token]) -> Result<(T, &'a [Token]), Fault>
     ensures shorter { IfOk result (λ x. length x.1.now < length tokens.now) }
     ensures kept { IfOk result (λ x. x.0 ≡ item) }

@@ -18,7 +18,8 @@ use script_lex::{Symbol, Token, TokenKind};
 use std::alloc::Global;
 use value_parse::value;
 
-/// (param (`,` param)*)? `)`, behind the name of a def.
+/// Reads the parameters of a def behind its name, and the bracket behind them: (param (`,` param)*)? `)`. The tokens
+/// are the last of `total`.
 pub fn params(
     alloc: Global,
     total: usize,
@@ -36,7 +37,8 @@ pub fn params(
     Ok((items, rest))
 }
 
-// (param (`,` param)*)? `)`, pushed to a list that is empty at first.
+// Reads the parameters of a def, maybe none, and the bracket behind them into a list that is empty at first: (param
+// (`,` param)*)? `)`.
 #[tactic(auto, unfolding(script_grammar::specs::Read::closed))]
 fn push_params<'a>(
     alloc: Global,
@@ -60,7 +62,8 @@ fn push_params<'a>(
     }
 }
 
-// param (`,` param)* `)`, pushed to a list that is empty at first.
+// Reads the parameters of a def, at least one, and the bracket behind them into a list that is empty at first: param
+// (`,` param)* `)`.
 #[tactic(auto, unfolding(script_grammar::specs::Read::chain))]
 fn some_params<'a>(
     alloc: Global,
@@ -83,7 +86,7 @@ fn some_params<'a>(
     Ok(rest)
 }
 
-// (`,` param)*, pushed to a list that holds the first parameter.
+// Reads the further parameters of a def into a list that holds the first one: (`,` param)*.
 fn more_params<'a>(
     alloc: Global,
     total: usize,
@@ -109,7 +112,7 @@ fn more_params<'a>(
     Ok(rest)
 }
 
-// `,` param
+// Reads a comma and the parameter behind it: `,` param.
 #[tactic(auto, unfolding(script_grammar::specs::Read::behind))]
 fn comma_param(alloc: Global, total: usize, tokens: &[Token]) -> Result<(Param, &[Token]), Fault>
     requires within { length tokens.now ≤ total }
@@ -120,7 +123,7 @@ fn comma_param(alloc: Global, total: usize, tokens: &[Token]) -> Result<(Param, 
     param(alloc, total, after)
 }
 
-// param: Name | `~` Name | `~` Name `=` value
+// Reads a parameter of a def. param: Name | `~` Name | `~` Name `=` value
 #[tactic(auto, unfolding(script_grammar::specs::ReadScript::param, crate::specs::Reads::behind_tilde))]
 fn param(alloc: Global, total: usize, tokens: &[Token]) -> Result<(Param, &[Token]), Fault>
     requires within { length tokens.now ≤ total }
@@ -151,7 +154,7 @@ fn param(alloc: Global, total: usize, tokens: &[Token]) -> Result<(Param, &[Toke
     }
 }
 
-// Name | Name `=` value, behind the `~`.
+// Reads a labelled parameter behind its `~`: Name | Name `=` value.
 #[tactic(auto, using(crate::proofs::Arms::tilde_is))]
 fn labelled(alloc: Global, total: usize, tokens: &[Token]) -> Result<(Param, &[Token]), Fault>
     requires within { length tokens.now ≤ total }
@@ -166,7 +169,8 @@ fn labelled(alloc: Global, total: usize, tokens: &[Token]) -> Result<(Param, &[T
     label_of(alloc, total, at, name, after)
 }
 
-// (`=` value)?, behind the `~` and the name, whose index is `at`.
+// Reads the default, if any, of a labelled parameter behind its name, and answers the parameter: (`=` value)?. `at`
+// is the index of the name's token.
 #[tactic(auto, unfolding(crate::specs::Reads::label_of))]
 fn label_of<'a>(
     alloc: Global,
@@ -192,7 +196,8 @@ fn label_of<'a>(
     }
 }
 
-// value, the default of a parameter. `at` is the index of its name.
+// Reads the default value of a labelled parameter behind `=`, and answers the parameter. `at` is the index of the
+// name's token.
 fn default_of<'a>(
     alloc: Global,
     total: usize,

@@ -25,7 +25,7 @@ use value_parse::{call, choice, value};
 /// not used is never touched, and a list that does not suffice grows as it is filled.
 const TOKENS_A_STATEMENT: usize = 3;
 
-/// statement*, up to the end of the tokens.
+/// Reads statements up to the end of the tokens, which are the last of `total`: statement*.
 pub fn statements(
     alloc: Global,
     total: usize,
@@ -45,7 +45,8 @@ pub fn statements(
     Ok((items, rest))
 }
 
-// statement: (binding | def | call | if) `;`? It is pushed.
+// Reads a statement and adds it to the list; answers the tokens behind it. statement: (binding | def | call | if)
+// `;`?
 fn statement<'a>(
     alloc: Global,
     total: usize,
@@ -73,7 +74,7 @@ fn statement<'a>(
     }
 }
 
-// binding `;`? It is pushed.
+// Reads a statement that is a binding and adds it to the list; answers the tokens behind it: binding `;`?
 #[tactic(auto, using(crate::proofs::Arms::bind_is))]
 fn bind_stmt<'a>(
     alloc: Global,
@@ -94,7 +95,8 @@ fn bind_stmt<'a>(
     bind_stmt_of(alloc, total, items, at, name, after)
 }
 
-// `=` value `;`?, behind the name of a binding, whose index is `at`. The binding is pushed.
+// Reads a statement that is a binding from behind its name, and adds it to the list: `=` value `;`?. `at` is the
+// index of the name's token.
 fn bind_stmt_of<'a>(
     alloc: Global,
     total: usize,
@@ -116,8 +118,8 @@ fn bind_stmt_of<'a>(
     keep_bind(items, at, name, value(alloc, total, false, rest))
 }
 
-// Pushes the binding of the value that was read, with the `;` that may stand behind it, and answers the tokens behind
-// both. `at` is the index of its name.
+// Adds the binding of the value that was read as a statement, with the `;` that may stand behind it, and answers the
+// tokens behind both. `at` is the index of the name's token.
 fn keep_bind<'a>(
     items: &mut Vec<Stmt>,
     at: u32,
@@ -136,7 +138,8 @@ fn keep_bind<'a>(
     Ok(keep(items, StmtPart::Bind(Bind { at, name, value }), rest))
 }
 
-// Pushes the def that was read, with the `;` that may stand behind it, and answers the tokens behind both.
+// Adds the def that was read as a statement, with the `;` that may stand behind it, and answers the tokens behind
+// both.
 fn keep_def<'a>(
     items: &mut Vec<Stmt>,
     read: Result<(Def, &'a [Token]), Fault>,
@@ -153,7 +156,8 @@ fn keep_def<'a>(
     Ok(keep(items, StmtPart::Def(def), rest))
 }
 
-// Pushes the call that was read, with the `;` that may stand behind it, and answers the tokens behind both.
+// Adds the call that was read as a statement, with the `;` that may stand behind it, and answers the tokens behind
+// both.
 fn keep_call<'a>(
     items: &mut Vec<Stmt>,
     read: Result<(Call, &'a [Token]), Fault>,
@@ -170,7 +174,8 @@ fn keep_call<'a>(
     Ok(keep(items, StmtPart::Call(call), rest))
 }
 
-// Pushes the `if` that was read, with the `;` that may stand behind it, and answers the tokens behind both.
+// Adds the `if` that was read as a statement, with the `;` that may stand behind it, and answers the tokens behind
+// both.
 fn keep_if<'a>(
     items: &mut Vec<Stmt>,
     read: Result<(If, &'a [Token]), Fault>,
@@ -187,7 +192,7 @@ fn keep_if<'a>(
     Ok(keep(items, StmtPart::If(choice), rest))
 }
 
-// Pushes a statement of this part, with the `;` that may stand behind it, and answers the tokens behind both.
+// Adds a statement of this part, with the `;` that may stand behind it, and answers the tokens behind both.
 fn keep<'a>(items: &mut Vec<Stmt>, part: StmtPart, tokens: &'a [Token]) -> &'a [Token]
     requires room { vec_len items.old < vec_capacity items.old }
     ensures shorter { length result.now ≤ length tokens.now }

@@ -8,7 +8,7 @@ use liq_base::Text;
 use parse_base::Fault;
 use script_lex::{Symbol, Token, TokenKind};
 
-/// Whether a binding stands first: a Name and `=`.
+/// Whether a binding stands at the front of the tokens: a name and `=`.
 pub fn at_binding(tokens: &[Token]) -> bool
     ensures { result ≡ binds (kinds tokens.now) }
 {
@@ -28,7 +28,7 @@ pub fn at_binding(tokens: &[Token]) -> bool
     )
 }
 
-/// The Name at the front, and the tokens behind it.
+/// The text of the name token at the front, and the tokens behind it; a syntax fault for another token.
 pub fn name(tokens: &[Token]) -> Result<(&Text, &[Token]), Fault>
     ensures shorter { IfOk result (λ x. length x.1.now < length tokens.now) }
     ensures gives { Gives (λ x. (x.0.now, kinds x.1.now)) result (a_name (kinds tokens.now)) }
@@ -45,7 +45,8 @@ pub fn name(tokens: &[Token]) -> Result<(&Text, &[Token]), Fault>
     }
 }
 
-/// The NameOpen at the front, and the tokens behind it.
+/// The text of the name token with `(` right behind it at the front, and the tokens behind it; a syntax fault for
+/// another token.
 pub fn open_name(tokens: &[Token]) -> Result<(&Text, &[Token]), Fault>
     ensures shorter { IfOk result (λ x. length x.1.now < length tokens.now) }
     ensures gives { Gives (λ x. (x.0.now, kinds x.1.now)) result (an_open_name (kinds tokens.now)) }

@@ -20,13 +20,14 @@ use Rattle.station_render.specs.Renders.{IsReady, order_of, written}
 use Rattle.station_render.specs.declared.job.Job.{Job}
 use Rattle.station_render.specs.declared.output_sink.OutputSink.{OutputSink}
 
--- every engine of a job has made the same number of ticks, in some run of the job's plan on its clocks
+-- all engines of a job have made the same number of ticks, under some setting with the job's plan and clocks
 abbrev pub HaveEnded : {S : Type 0} → Job → List (ClockEngine S) → Type 0
 HaveEnded job engines = (setting : Setting) × (world : Setting) × (ticks : ℕ) × (setting.plan ≡ job.plan)
     × (setting.clocks ≡ job.ready.clocks.of) × ArePast setting world ticks engines
 
--- The outputs of a plan were created on a shelf that told this, and the engines, one for each running clock, took the
--- sinks: each holds its header and has room for its samples. `order` has the clock of each output. No tick was made.
+-- The outputs of a plan were created, as the shelf tells, and no tick was made. Each of the engines, one for each
+-- running clock, took the sinks of its clock, which hold their headers and have room for the samples. `order` has the
+-- clock of each output; the lists in `groups` are empty.
 pub record AreOpened {O : Type 0} (told : O
     → SinkTold) (shelf : ShelfTold) (setting : Setting) (clocks : ClockMap) (ticks : ℕ)
     (order : List ℕ) (engines : List (ClockEngine (OutputSink O))) (groups : List (List (OutputSink O))) : Type 0 where
@@ -38,9 +39,8 @@ pub record AreOpened {O : Type 0} (told : O
   pub many : length groups ≡ length engines
   pub taken : AreEmptyBelow (length engines) groups
 
--- The engines of so many clocks made all ticks in this way, in a lawful run: each stands for its ticks and has written
--- their bytes, one piece for each tick, given what the takes got. `counts` and `logs` are what the run's buffers
--- answered.
+-- The engines of so many clocks made all ticks, as some lawful run in this way does. Each has written the bytes of its
+-- ticks, one piece for each tick. `counts` and `logs` are what the run's buffers answered.
 pub record RanAll {S : Type 0} (told : S → SinkTold) (setting : Setting) (clocks ticks : ℕ) (way : Way)
     (old new : List (ClockEngine S)) (counts : List Counts) (logs : List (List Answers)) : Type 0 where
   pub run : Run
@@ -49,9 +49,9 @@ pub record RanAll {S : Type 0} (told : S → SinkTold) (setting : Setting) (cloc
   pub counts_are : counts ≡ counts_of_run run
   pub logs_are : logs ≡ map (map told_of) run.buffers
 
--- The engines of so many clocks made some ticks in this way, as a lawful run begins: each has written its bytes of the
--- ticks that it made, and a front of those of the ticks that it tried, whatever answers follow. If a write ended the
--- run, a sink has failed.
+-- The engines of so many clocks made some ticks in this way, as a lawful run begins. Each has written its bytes of the
+-- ticks that it made, and maybe some of those that it tried, whatever answers follow. If a write ended the run, a sink
+-- has failed.
 pub record RanSome {S : Type 0} (told : S → SinkTold) (setting : Setting) (clocks ticks : ℕ) (way : Way)
     (old new : List (ClockEngine S)) (end : End) : Type 0 where
   pub run : Run

@@ -6,32 +6,32 @@ use Rattle.clock_ticks.specs.Engines.{EngineStands, setting_of}
 use Rattle.frame_core.specs.Calls.{Answer}
 use Rattle.rounds_run.specs.Rounds.{nothing}
 
--- the sinks of each engine
+-- for each engine (which runs one clock), the sinks that it writes
 abbrev pub outs_of : {S : Type 0} → List (ClockEngine S) → List (List S)
 outs_of engines = map (λ engine. engine.outs) engines
 
--- the second list, with its first items replaced by those of the first list
+-- Sinks put back clock by clock: the second list of lists, with its first items replaced by those of the first.
 abbrev pub pooled : {S : Type 0} → List (List S) → List (List S) → List (List S)
 pooled [] lists = lists
 pooled (first ∷ others) [] = []
 pooled (first ∷ others) (list ∷ lists) = first ∷ pooled others lists
 
--- the first n lists are empty
+-- the first n lists are empty, as those are whose sinks the engines took
 abbrev pub AreEmptyBelow : {S : Type 0} → (n : ℕ) → List (List S) → Type 0
 AreEmptyBelow n lists = (m : ℕ) (list : List _) → m < n → slice_get lists m ≡ Some list → list ≡ []
 
--- an engine of main clock m, before any tick
+-- an engine of main clock m is at its beginning, before any tick, over what the streams are computed from
 pub record IsAt {S : Type 0} (setting : Setting) (m : ℕ) (engine : ClockEngine S) : Type 0 where
   pub over : setting_of engine.parts ≡ setting
   pub clock_is : engine.parts.clock ≡ m
   pub stands : EngineStands engine.parts 0 nothing
 
--- the engines of all clocks, in clock order, before any tick
+-- the engines of all clocks, in clock order, are at their beginning, before any tick
 pub record AreAt {S : Type 0} (setting : Setting) (engines : List (ClockEngine S)) : Type 0 where
   pub each : (m : ℕ) (engine : ClockEngine S) → slice_get engines m ≡ Some engine → IsAt setting m engine
 
--- an engine of main clock m has made so many ticks; what its buffers answered, with answers that follow, is what they
--- answer in `world`
+-- An engine of main clock m has made so many ticks. `world` is the setting in which its buffers answer what they did
+-- answer, and then anything.
 pub record IsPast {S : Type 0} (setting world : Setting) (ticks m : ℕ) (engine : ClockEngine S) : Type 0 where
   pub over : setting_of engine.parts ≡ setting
   pub clock_is : engine.parts.clock ≡ m
@@ -40,11 +40,12 @@ pub record IsPast {S : Type 0} (setting world : Setting) (ticks m : ℕ) (engine
   pub given : with_rest setting answers rest ≡ world
   pub stands : EngineStands engine.parts ticks answers
 
--- the engines of all clocks, in clock order, have made so many ticks
+-- The engines of all clocks, in clock order, have made so many ticks. `world` is the setting in which their buffers
+-- answer as they did.
 pub record ArePast {S : Type 0} (setting world : Setting) (ticks : ℕ) (engines : List (ClockEngine S)) : Type 0 where
   pub each : (m : ℕ) (engine : ClockEngine S) → slice_get engines m ≡ Some engine → IsPast setting world ticks m engine
 
--- each engine keeps marks if they are wanted, and none otherwise
+-- each engine keeps marks of where tracks begin if cue files are wanted, and keeps none otherwise
 abbrev pub AreKeeping : {S : Type 0} → (wanted : Bool) → List (ClockEngine S) → Type 0
 AreKeeping wanted engines = (m : ℕ) (engine : ClockEngine _) → slice_get engines m ≡ Some engine
     → engine.parts.cues.keeping ≡ wanted

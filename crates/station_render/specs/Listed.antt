@@ -8,34 +8,35 @@ use Rattle.stations.specs.Streams.{body_size, file_bytes}
 use Rattle.station_render.specs.OutputSinks.{HasEnded, size_of}
 use Rattle.station_render.specs.declared.output_sink.OutputSink.{OutputSink}
 
--- a shelf tells its files or its closings, so its sinks tell their names and bytes
+-- a shelf tells its files or its list of closed ones, so that each of its sinks tells its name and bytes
 abbrev pub TellsSinks : ShelfTold → Type 0
 TellsSinks shelf = IsSome shelf.files ⊎ IsSome shelf.closed
 
--- a sink tells for how many bytes it was created, and how many pieces it got
+-- a sink tells that it was created for `size` bytes, and that it got so many pieces
 pub record IsMeasured (size pieces : ℕ) (sink : SinkTold) : Type 0 where
   pub size_is : size_of sink ≡ Some size
   pub pieces_are : sink.appends ≡ Some pieces
 
--- a sink tells for how many bytes it was created, and that it got at least so many pieces
+-- a sink tells for how many bytes it was created, and that it got at least `least` pieces
 pub record AreTold (least : ℕ) (sink : SinkTold) : Type 0 where
   pub size_told : IsSome (size_of sink)
   pub pieces : ℕ
   pub pieces_are : sink.appends ≡ Some pieces
   pub enough : least ≤ pieces
 
--- a sink that did not fail holds a header, of 44 bytes at least
+-- a sink that did not fail holds a whole WAV header: 44 bytes at least
 abbrev pub HasHeader : SinkTold → Type 0
 HasHeader sink = sink.faults ≡ 0 → ForSome sink.held (λ held. 44 ≤ length held)
 
--- if the shelf lists its closings, in `closed`, the sink of an output tells what the list will say of it: this name,
--- its size, a piece at least, and a whole header, unless it failed
+-- An output's sink tells all that the shelf's list of closed files will say of it: this name, its size, a piece at
+-- least, and a whole header unless it failed. Where the shelf keeps no such list (`closed` is None), nothing is said.
 abbrev pub WillClose : {O : Type 0} → (told : O → SinkTold) → (closed : Option (List Closing)) → List ℕ → OutputSink O
     → Type 0
 WillClose told closed name output = ForSome closed (λ before. ((told output.sink).name ≡ Some name)
     × (AreTold 1 (told output.sink) × HasHeader (told output.sink)))
 
--- a closing lists the last state of a sink: its name, its size, how many bytes and pieces it got, and no fault
+-- an entry of the list of closed files says what the sink last told: its name, its size, how many bytes and pieces it
+-- got, and no fault
 pub record EndsAs (closing : Closing) (last : SinkTold) : Type 0 where
   pub named : last.name ≡ Some closing.name
   pub size_is : size_of last ≡ Some closing.room
@@ -45,8 +46,8 @@ pub record EndsAs (closing : Closing) (last : SinkTold) : Type 0 where
   pub pieces_are : last.appends ≡ Some closing.pieces
   pub sound : closing.faults ≡ 0
 
--- if the shelf lists its closings, this is the one of an output's sink, once that got the zero byte that it owes, if
--- any
+-- This entry is what the shelf will list when an output's sink is closed, after it got the zero byte that it owes, if
+-- any. Where the shelf keeps no such list, nothing is said.
 abbrev pub WillList : {O : Type 0} → (told : O → SinkTold) → (closed : Option (List Closing)) → Closing → OutputSink O
     → Type 0
 WillList told closed closing output = ForSome closed (λ before. (last : SinkTold)

@@ -11,19 +11,20 @@ use Rattle.stations.specs.Outputs.{OutputFile}
 use Rattle.station_render.specs.Sinks.{lists_of}
 use Rattle.station_render.specs.declared.job.Job.{Job}
 
--- a kept mark, as a cue file has it: its instant and its title
+-- a mark that an engine kept (where a track begins in an output), as an entry of a cue file: its instant and its title
 abbrev pub cue_of : CueMark → Cue
 cue_of mark = record { at = mark.at; title = mark.title }
 
--- the cues of each output, by the marks that were kept of it
+-- the cue entries of each output, from the marks that the engines kept of it
 abbrev pub cues_of : List (Vec CueMark Global) → List (List Cue)
 cues_of marks = map (map cue_of) (lists_of marks)
 
--- the cue file of the output of this name, which has these cues
+-- the cue file of the output of this name: its file name, and the text of these cues (instants at which tracks begin,
+-- with their titles)
 abbrev pub cue_file : Sounds → (name : List ℕ) → List Cue → OutputFile
 cue_file library name cues = record { name = cue_name name; bytes = cue_text library cues }
 
--- the cue files of the outputs among these sinks; the first list of cues is the first output's, and so on
+-- the cue files of the outputs among these sinks, in sink order; each list of cues is that of the next output
 abbrev pub cue_files_with : Sounds → List SinkPlan → List (List Cue) → List OutputFile
 cue_files_with library [] marks = []
 cue_files_with library (Output name node fallible wide ∷ sinks) [] = []
@@ -31,11 +32,11 @@ cue_files_with library (Output name node fallible wide ∷ sinks) (cues ∷ mark
     ∷ cue_files_with library sinks marks
 cue_files_with library (Feed buffer node ∷ sinks) marks = cue_files_with library sinks marks
 
--- the cue files of the outputs among these sinks if they are wanted, and otherwise none
+-- the cue files of the outputs among these sinks, from the cues of each, if cue files are wanted; otherwise none
 abbrev pub cue_files_if : (wanted : Bool) → Sounds → List SinkPlan → List (List Cue) → List OutputFile
 cue_files_if false library sinks marks = []
 cue_files_if true library sinks marks = cue_files_with library sinks marks
 
--- the cue files of a job, if it wants them, by the cues of each output
+-- the cue files of a job, from the cues of each output, if the job wants cue files; otherwise none
 abbrev pub cue_files_by : Job → List (List Cue) → List OutputFile
 cue_files_by job marks = cue_files_if job.cues job.ready.library job.plan.sinks marks

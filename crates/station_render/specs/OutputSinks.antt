@@ -5,54 +5,55 @@ use Rattle.stations.specs.Outputs.{OutputPart}
 use Rattle.station_render.specs.Sinks.{HoldsFront}
 use Rattle.station_render.specs.declared.output_sink.OutputSink.{OutputSink}
 
--- a room in bytes, with one byte kept back; `None` where it is not told
+-- the room that is left in bytes, with one byte kept back for the last zero byte; `None` where the room is not told
 abbrev pub but_one : Option ℕ → Option ℕ
 but_one None = None
 but_one (Some room) = Some (room - 1)
 
--- a room in bytes, with one byte kept back if the bytes of the samples are odd
+-- the room that is left for samples: one byte is kept back if the bytes of the samples are odd in number, for the last
+-- zero byte
 abbrev pub but_one_if : (odd : Bool) → Option ℕ → Option ℕ
 but_one_if false room = room
 but_one_if true room = but_one room
 
--- whether a sink has room for one byte more; true where the room is not told
+-- whether there is room for one byte more; true where the room is not told
 abbrev pub has_one : Option ℕ → Bool
 has_one None = true
 has_one (Some zero) = false
 has_one (Some (suc room)) = true
 
--- what a sink owes, as a number: 0 for nothing, 1 for a zero byte that it has no room for, 2 for one that it has room
--- for
+-- What an output owes its file, as a number. It is 0 for nothing, 1 for a last zero byte that the room does not hold,
+-- and 2 for one that it holds.
 abbrev pub owed_by : (odd : Bool) → Option ℕ → ℕ
 owed_by false room = 0
 owed_by true room = if has_one room then 2 else 1
 
--- for how many bytes a sink was created: those that it holds and those that it still takes, where it tells both
+-- for how many bytes a sink was created: those that it holds and those for which it has room left, where it tells both
 abbrev pub size_by : (held : Option (List ℕ)) (left : Option ℕ) → Option ℕ
 size_by None left = None
 size_by (Some held) None = None
 size_by (Some held) (Some left) = Some (length held + left)
 
--- for how many bytes a sink was created, where it tells this
+-- for how many bytes a sink was created, by what it tells; None where it does not tell enough
 abbrev pub size_of : SinkTold → Option ℕ
 size_of sink = size_by sink.held sink.room
 
--- a number that may be told, as one number: 0 where it is not, and otherwise one more
+-- a number that may be missing, coded as one number: 0 for none, and otherwise the number and one
 abbrev pub told_number : Option ℕ → ℕ
 told_number None = 0
 told_number (Some number) = suc number
 
--- a name that may be told, as numbers: none where it is not, and otherwise a 0 in front of its bytes
+-- a name that may be missing, coded as a list: empty for none, and otherwise a 0 in front of its bytes
 abbrev pub told_name : Option (List ℕ) → List ℕ
 told_name None = []
 told_name (Some name) = 0 ∷ name
 
--- what the sink of an output is known by, which no call changes: what it owes, its size, and its name
+-- What identifies an output's sink and stays over all calls, coded as one list: what it owes, its size, and its name.
 abbrev pub known : (odd : Bool) → SinkTold → List ℕ
 known odd sink = owed_by odd sink.room ∷ told_number (size_of sink) ∷ told_name sink.name
 
--- what the sink of an output tells, by the sink within: the byte that it owes is no room, and its name is what it is
--- known by
+-- What an output's sink tells, from what the plain sink within tells. The byte that it owes is no room for samples, and
+-- its constant code stands as its name.
 abbrev pub told_by : (odd : Bool) → SinkTold → SinkTold
 told_by odd sink = record {
   held = sink.held;
@@ -62,40 +63,42 @@ told_by odd sink = record {
   faults = sink.faults;
 }
 
--- what the sink of an output tells
+-- what an output's sink tells, where `told` says what the plain sink within tells
 abbrev pub output_told : {O : Type 0} → (told : O → SinkTold) → OutputSink O → SinkTold
 output_told told output = told_by output.odd (told output.sink)
 
--- the zero byte that ends an output, if the bytes of its samples are odd
+-- the zero byte that ends an output's file if the bytes of its samples are odd in number; otherwise no byte
 abbrev pub last_byte : (odd : Bool) → List ℕ
 last_byte false = []
 last_byte true = 0 ∷ []
 
--- a sink got the byte that it owed, in one piece, or it owed none and is as it was
+-- a sink got the zero byte that ends a file with an odd number of sample bytes; with an even number it is as it was
 abbrev pub HasEnded : (odd : Bool) → (old new : SinkTold) → Type 0
 HasEnded false old new = new ≡ old
 HasEnded true old new = TookPiece (0 ∷ []) old new
 
--- each sink that owes a byte has room for it
+-- each sink of each clock that owes a last zero byte has room for it
 abbrev pub HaveRooms : {O : Type 0} → (told : O → SinkTold) → List (List (OutputSink O)) → Type 0
 HaveRooms told groups = (m k : ℕ) (group : List (OutputSink _)) (output : OutputSink _)
     → slice_get groups m ≡ Some group → slice_get group k ≡ Some output → output.odd ≡ true
     → HasRoom (told output.sink).room 1
 
--- a sink holds all bytes of an output but for the last ones, which are the byte that it owes
+-- a sink holds an output's file but for the zero byte that it owes, if any: its least bytes, which make its most with
+-- that byte
 pub record HoldsBody {O : Type 0} (told : O → SinkTold) (part : OutputPart) (output : OutputSink O) : Type 0 where
   pub named : (told output.sink).name ≡ Some part.name
   pub holds : (told output.sink).held ≡ Some part.least
   pub whole : part.most ≡ part.least ++ last_byte output.odd
 
--- what the sink within the sink of an output tells
+-- what the plain sink within an output's sink tells
 abbrev pub inner : {O : Type 0} → (told : O → SinkTold) → OutputSink O → SinkTold
 inner told output = told output.sink
 
--- a sink is as it was, or took some bytes in one piece
+-- a sink is as it was, or it took some bytes in one piece
 abbrev pub MayHaveTaken : (old new : SinkTold) → Type 0
 MayHaveTaken old new = (new ≡ old) ⊎ ((taken : List ℕ) × TookPiece taken old new)
 
--- the sink within holds a front of an output, from its least to its most bytes; or it failed with fewer
+-- the plain sink within an output's sink holds a beginning of the output's file, from its least to its most bytes; or
+-- it failed with fewer
 abbrev pub HoldsSoMuch : {O : Type 0} → (told : O → SinkTold) → OutputPart → OutputSink O → Type 0
 HoldsSoMuch told part output = HoldsFront part (told output.sink)

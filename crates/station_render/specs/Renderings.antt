@@ -12,9 +12,9 @@ use Rattle.station_render.specs.declared.fault.RenderFault.{RenderFault}
 use Rattle.station_render.specs.declared.fault.RenderFault.TheVariants.{Write}
 use Rattle.station_render.specs.declared.rendered.Rendered.{Rendered}
 
--- A rendering of this station ended with this result. If it is done, all files were written, created and closed; in any
--- case a part was written, and the first were created and closed, in the order of their names. `Write` is returned only
--- if the count of failed writes rose. No count fell.
+-- A rendering of this station ended with this result. If it is done, all files were written, created and closed. In any
+-- case some part of them was written, and the first names were created and closed in order. `Write` comes only if the
+-- count of failed writes rose. No count fell.
 pub record Renders (station : Station) (old new : ShelfTold) (result : Result Rendered RenderFault) : Type 0 where
   pub done : IfOk result (IsRendered station old new)
   pub part : ForSome old.files (λ files. WrotePart station (ended_by_device result) files old new)

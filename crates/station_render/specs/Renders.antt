@@ -19,36 +19,37 @@ use Rattle.station_render.specs.OutputSinks.{but_one_if, owed_by}
 use Rattle.station_render.specs.Sinks.{AreCreated, HoldsFront, HoldsPart, HoldsWhole, WasAdded}
 use Rattle.station_render.specs.declared.output_sink.OutputSink.{OutputSink}
 
--- an output of a plan: its name, its node, and whether its samples are wide
+-- an output of a plan: its name, the node that it writes, and whether its samples have 24 bits (`wide`) or 16
 pub record Written : Type 0 where
   pub name : List ℕ
   pub node : ℕ
   pub wide : Bool
 
--- the outputs among these sinks, in their order
+-- the outputs among the sinks of a plan, in their order; a sink that feeds a buffer is left out
 abbrev pub written : List SinkPlan → List Written
 written [] = []
 written (Output name node fallible wide ∷ sinks) = record { name = name; node = node; wide = wide } ∷ written sinks
 written (Feed buffer node ∷ sinks) = written sinks
 
--- the number of a main clock, in which the node of a sink lies; 0 for a sub-clock, in which none lies
+-- the main clock in which the node of a sink lies, by its number; 0 stands for a sub-clock, in which no sink lies
 abbrev pub main_of : NodeClock → ℕ
 main_of (Main m) = m
 main_of (Sub k) = 0
 
--- the number of the main clock of each of these outputs
+-- for each of these outputs, in sink order, the number of the main clock that drives it
 abbrev pub order_of : Setting → List Written → List ℕ
 order_of setting outputs = map (λ output. main_of (clock_of setting output.node)) outputs
 
--- the whole file of an output, after so many ticks
+-- the whole WAV file of an output after so many ticks: its name and all its bytes
 abbrev pub file_of : Setting → (ticks : ℕ) → Written → OutputFile
 file_of setting ticks output = record { name = output.name; bytes = file_bytes setting output.wide ticks output.node }
 
--- the file of an output without the zero byte that may end it, after so many ticks
+-- the WAV file of an output after so many ticks, without the zero byte that ends a file of odd length
 abbrev pub body_of : Setting → (ticks : ℕ) → Written → OutputFile
 body_of setting ticks output = record { name = output.name; bytes = output_bytes setting output.wide ticks output.node }
 
--- what an output's file holds at least and at most once all ticks were made: all but its last zero byte, and all
+-- the bounds of what an output's file holds once all ticks were made: at least all but its last zero byte, and at most
+-- all
 abbrev pub end_of : Setting → (ticks : ℕ) → Written → OutputPart
 end_of setting ticks output = record {
   name = output.name;
@@ -56,7 +57,8 @@ end_of setting ticks output = record {
   most = file_bytes setting output.wide ticks output.node;
 }
 
--- what an output's file holds at least and at most, where clock m made `made m` of the ticks and tried `tried m`
+-- the bounds of what an output's file holds in the middle of a run: at least the bytes of the ticks that its clock
+-- made, and at most those of the ticks that it tried. For clock m, `made m` and `tried m` count these ticks.
 abbrev pub front_file : Setting → (ticks : ℕ) → (made tried : ℕ → ℕ) → Written → OutputPart
 front_file setting ticks made tried output = record {
   name = output.name;
@@ -64,11 +66,13 @@ front_file setting ticks made tried output = record {
   most = front_bytes setting output.wide ticks (tried (main_clock setting output.node)) output.node;
 }
 
--- what an output with so many bytes of samples owes, as `owed_by` counts it: 2 if they are odd, and otherwise 0
+-- what an output owes after so many bytes of samples, as a number: 2 (a last zero byte, with room for it) if the count
+-- is odd, and otherwise 0
 abbrev pub debt_of : (size : ℕ) → ℕ
 debt_of size = 2 * (size % 2)
 
--- what a shelf lists of an output that is closed once all ticks were made
+-- the entry in the list of closed files for an output that ran whole: its name, its size as reserved and as written, a
+-- piece for the header and for each tick and maybe for the last zero byte, and no fault
 abbrev pub closing_of : Setting → (ticks : ℕ) → Written → Closing
 closing_of setting ticks output = record {
   name = output.name;
@@ -78,12 +82,14 @@ closing_of setting ticks output = record {
   faults = 0;
 }
 
--- how many bytes an output's file has: 44 of its header, those of its samples, and a zero byte where these are odd
+-- how many bytes an output's file has if its samples take `body` bytes: 44 of the header, those of the samples, and a
+-- zero byte where these are odd in number
 abbrev pub whole_size : (body : ℕ) → ℕ
 whole_size body = 44 + body + body % 2
 
--- A sink was created for an output, by a shelf that told this: it holds the header, its one piece, and it was created
--- for just the bytes of the file; so it has room for the samples, and for the byte that it owes.
+-- An output's sink is ready for the first tick: it holds the header, its one piece, and was created for just the bytes
+-- of the file. So it has room for the samples, and for the zero byte that it owes. `told` says what a sink tells, and
+-- the shelf whether it tells so much.
 pub record IsReady {O : Type 0} (told : O
     → SinkTold) (shelf : ShelfTold) (setting : Setting) (ticks : ℕ) (output : Written) (sink : OutputSink O) : Type 0
   where
@@ -96,8 +102,8 @@ pub record IsReady {O : Type 0} (told : O
     pub room : HasRoom (but_one_if sink.odd (told sink.sink).room) (body_size setting output.wide ticks output.node)
     pub owes : owed_by sink.odd (told sink.sink).room ≡ debt_of (body_size setting output.wide ticks output.node)
 
--- the sink of an output holds all its bytes but for the one that it owes, and got a piece for the header and one for
--- each tick
+-- An output's sink has got all ticks: it holds all its bytes but for the zero byte that it owes, in a piece for the
+-- header and one for each tick. `told` says what a sink tells, and the shelf whether it tells so much.
 pub record IsWhole {O : Type 0} (told : O
     → SinkTold) (shelf : ShelfTold) (setting : Setting) (ticks : ℕ) (output : Written) (sink : OutputSink O) : Type 0
   where
@@ -107,16 +113,16 @@ pub record IsWhole {O : Type 0} (told : O
         (told sink.sink))
     pub owes : owed_by sink.odd (told sink.sink).room ≡ debt_of (body_size setting output.wide ticks output.node)
 
--- the sink of an output holds the bytes of the ticks that its clock made, and a front of those of the ticks that it
--- tried; or it failed with fewer
+-- An output's sink in the middle of a run holds the bytes of the ticks that its clock made, and maybe some of those
+-- that it tried; or it failed with fewer. For clock m, `made m` and `tried m` count these ticks.
 pub record IsPart {O : Type 0} (told : O → SinkTold) (shelf : ShelfTold) (setting : Setting) (ticks : ℕ) (made tried : ℕ
     → ℕ) (output : Written) (sink : OutputSink O) : Type 0 where
   pub holds : TellsSinks shelf → HoldsFront (front_file setting ticks made tried output) (told sink.sink)
   pub measured : ForSome shelf.closed (λ before. AreTold 1 (told sink.sink))
 
--- The first outputs of a plan were created, as the shelf tells. Each sink holds its bytes of the ticks that its clock
--- made in a run, and a front of those of the ticks that it tried, or it failed: whatever answers follow. `answers rest`
--- are those of the run, and then `rest`.
+-- A rendering began: the first outputs of a plan were created, and each sink holds its bytes of the ticks that its
+-- clock made, and maybe some of those that it tried, or it failed. This holds whatever `rest` of answers follows those
+-- of the run.
 pub record AreBegun {O : Type 0} (told : O → SinkTold) (shelf : ShelfTold) (setting : Setting) (answers : (ℕ
     → List Answer) → ℕ → List Answer) (ticks : ℕ) (made tried : ℕ → ℕ)
     (order : List ℕ) (groups : List (List (OutputSink O))) (created_now : Option (List (List ℕ))) : Type 0 where
@@ -127,8 +133,8 @@ pub record AreBegun {O : Type 0} (told : O → SinkTold) (shelf : ShelfTold) (se
   pub parts : (rest : ℕ → List Answer)
       → AreCreated (IsPart told shelf (answered setting (answers rest)) ticks made tried) created order groups
 
--- a sink was created, and holds these bytes, its one piece; it has room for `body` bytes more, and for the byte that it
--- owes then
+-- A sink was created with this name and holds these bytes, a file's header, as its one piece. It has room for `body`
+-- bytes of samples, and for the zero byte that it owes after an odd number.
 pub record IsOpened {O : Type 0} (told : O
     → SinkTold) (shelf : ShelfTold) (name bytes : List ℕ) (body : ℕ) (sink : OutputSink O) : Type 0 where
   pub holds : TellsSinks shelf → HoldsWhole (record { name = name; bytes = bytes }) (told sink.sink)
@@ -136,14 +142,15 @@ pub record IsOpened {O : Type 0} (told : O
   pub room : HasRoom (but_one_if sink.odd (told sink.sink).room) body
   pub owes : owed_by sink.odd (told sink.sink).room ≡ debt_of body
 
--- a sink was created and failed: it holds a front of these bytes
+-- a sink was created for a file of these bytes, and then a write failed: it holds a front of them
 pub record IsCutShort {O : Type 0} (told : O
     → SinkTold) (shelf : ShelfTold) (name bytes : List ℕ) (sink : OutputSink O) : Type 0 where
   pub holds : TellsSinks shelf → HoldsPart (record { name = name; bytes = bytes }) (told sink.sink)
   pub measured : ForSome shelf.closed (λ before. AreTold 1 (told sink.sink))
   pub failed : 0 < (told sink.sink).faults
 
--- a sink for which `Is` holds was created, with this name: it is the last one, and the last one of this clock
+-- A sink with this name was created for an output of this clock, and `Is` holds of it. It is the last in the order of
+-- the outputs, and the last among the sinks of its clock.
 pub record WasCreated {O : Type 0} (Is : OutputSink O
     → Type 0) (clock : ℕ) (name : List ℕ) (before after : Option (List (List ℕ))) (order_old order_new : List ℕ)
     (old new : List (List (OutputSink O))) : Type 0 where
@@ -153,14 +160,14 @@ pub record WasCreated {O : Type 0} (Is : OutputSink O
   pub made_is : after ≡ after_making (name ∷ []) before
   pub is : Is sink
 
--- no sink was created
+-- no sink was created: the list of created names, the clock of each output and the sinks of each clock stay
 pub record NoneCreated {O : Type 0} (before after : Option (List (List ℕ))) (order_old order_new : List ℕ)
     (old new : List (List (OutputSink O))) : Type 0 where
   pub order_is : order_new ≡ order_old
   pub same : new ≡ old
   pub made_none : after ≡ before
 
--- the node of each output lies in a main clock that runs
+-- each output of a plan has its node in a main clock that runs, so that some engine writes it
 abbrev pub AreMain : Plan → ClockMap → Type 0
 AreMain plan clocks = (k : ℕ) (name : List ℕ) (node : ℕ) (fallible wide : Bool)
     → slice_get plan.sinks k ≡ Some (Output name node fallible wide)

@@ -27,28 +27,31 @@ use Rattle.station_render.specs.declared.job.Job.{Job}
 use Rattle.station_render.specs.declared.output_sink.OutputSink.{OutputSink}
 use Rattle.station_render.specs.declared.rendered.Rendered.{Rendered}
 
--- the counts of these buffers in a run, of which the first has this number
+-- For each of these buffers of a run, how many puts and takes succeeded and failed. The first buffer has the given
+-- number, and the others follow.
 abbrev pub counts_from : Run → (buffer : ℕ) → List BufferPlan → List Counts
 counts_from run buffer [] = []
 counts_from run buffer (plan ∷ plans) = counts_of_windows (windows_of run buffer) ∷ counts_from run (suc buffer) plans
 
--- the counts of all buffers in a run of the station
+-- for each buffer of a station's plan, how many puts and takes of a run succeeded and failed
 abbrev pub counts_of : Station → Run → List Counts
 counts_of station run = counts_from run 0 station.plan.buffers
 
--- the name of the trace, if one is wanted
+-- the name of the file for the trace (the record of the buffers' answers), if a job wants one
 abbrev pub name_in : Job → Option (List ℕ)
 name_in job = option_map (λ (name : Bor (List ℕ)). name.now) job.trace
 
--- the plan, the library, the clocks and the ticks of a job fit together, which a rendering relies on
+-- a job can be rendered: its plan, its library of files, its clocks and its count of ticks fit together
 abbrev pub IsFitting : Job → Type 0
 IsFitting job = IsFit job.plan job.ready.library job.ready.clocks job.ticks
 
--- what the streams of a job rest on, before its buffers have answered
+-- what a job's streams are computed from: its plan, library, clocks and second of the week, before any buffer has
+-- answered
 abbrev pub setting_by : Job → Setting
 setting_by job = base_of job.plan job.ready.library job.ready.clocks job.start.second
 
--- the station of a job that is rendered in such a way
+-- a job as the rules of a station describe it, rendered in this way: in rounds on one thread, in windows on threads, or
+-- again by a trace
 abbrev pub station_in : Job → Way → Station
 station_in job way = record {
   plan = job.plan;
@@ -61,34 +64,36 @@ station_in job way = record {
   cues = job.cues;
 }
 
--- how many ticks a window has; `None` where the clocks run on one thread
+-- how many ticks a window has in this way of rendering; `None` where all clocks run on one thread
 abbrev pub window_of : Way → Option ℕ
 window_of InRounds = None
 window_of (InWindows window) = Some window
 window_of (Again trace) = None
 
--- the file of the trace of a run in this way, with these logs: one if threads made it and a name is given, and
--- otherwise none
+-- The trace files that a run in this way leaves, of the buffers' logged answers. Only a run on threads leaves one, and
+-- only where a name is given.
 abbrev pub traces_by : Way → (name : Option (List ℕ)) → (ticks : ℕ) → List (List Answers) → List OutputFile
 traces_by InRounds name ticks logs = []
 traces_by (InWindows window) name ticks logs = traced name (record { ticks = ticks; window = window; buffers = logs })
 traces_by (Again trace) name ticks logs = []
 
--- there is a record of a rendering in this way: always, but for a trace that is not accepted
+-- A rendering in this way can be told by a lawful record of a run. A rendering by a trace needs a trace that the rules
+-- accept; the other ways need nothing.
 abbrev pub HasRecord : Setting → (clocks ticks : ℕ) → Way → Type 0
 HasRecord setting clocks ticks InRounds = ⊤
 HasRecord setting clocks ticks (InWindows window) = ⊤
 HasRecord setting clocks ticks (Again trace) = IsAccepted setting clocks ticks trace
 
--- what is told of a run: the gaps of each output, in sink order; of each buffer its counts and which answers each
--- window had; and the marks of each output, where cue files are wanted
+-- What a rendering tells is that of this run of the station: the gaps of each output, in sink order; each buffer's
+-- counts and the answers of its windows; and the marks of each output, where cue files are wanted.
 pub record IsTold (station : Station) (run : Run) (rendered : Rendered) : Type 0 where
   pub gaps_are : rendered.gaps.items ≡ gaps_in_order station run
   pub counts_are : rendered.counts.items ≡ counts_of station run
   pub logs_are : rendered.logs.items ≡ map (map told_of) run.buffers
   pub cues_are : cues_of rendered.cues.items ≡ marks_of station run
 
--- a run of the station wrote all its outputs, which the shelf closed, and no other, and this is told of it
+-- Some lawful run of the station wrote all its outputs: the shelf got their files, and no other, and lists them as
+-- closed. `rendered` is what is told of this run.
 pub record WroteOutputs (station : Station) (old new : ShelfTold) (rendered : Rendered) : Type 0 where
   pub run : Run
   pub lawful : IsLawful station run
@@ -97,7 +102,8 @@ pub record WroteOutputs (station : Station) (old new : ShelfTold) (rendered : Re
   pub listed : HaveListed (closings_in (setting_of_run station run) station.ticks station.plan.sinks) old.closed
       new.closed
 
--- a run of the station wrote all its files, which the shelf made and closed, and no other, and this is told of it
+-- Some lawful run of the station wrote all its files, with cue files and a trace where these are wanted: the shelf got
+-- them, and no other, and lists them as created and closed. `rendered` is what is told of this run.
 pub record IsRendered (station : Station) (old new : ShelfTold) (rendered : Rendered) : Type 0 where
   pub run : Run
   pub lawful : IsLawful station run
@@ -106,8 +112,8 @@ pub record IsRendered (station : Station) (old new : ShelfTold) (rendered : Rend
   pub made : new.created ≡ after_making (names_of station) old.created
   pub closed : HaveListed (closings_of station run) old.closed new.closed
 
--- a run of the station wrote all bytes of its outputs into their sinks, but for the ones that they owe, and this is
--- told of it
+-- Some lawful run of the station made all ticks: each output's sink got all its bytes but for the zero byte that it
+-- owes. `rendered` is what is told of this run.
 pub record RanWhole {O : Type 0} (told : O
     → SinkTold) (shelf : ShelfTold) (station : Station) (order : List ℕ) (groups : List (List (OutputSink O)))
     (rendered : Rendered) : Type 0 where
@@ -117,7 +123,8 @@ pub record RanWhole {O : Type 0} (told : O
   pub whole : AreCreated (IsWhole told shelf (setting_of_run station run) station.ticks) (written station.plan.sinks)
       order groups
 
--- a run of the station made some ticks, and each sink that was created holds its bytes of them
+-- A run of the station broke off after some ticks. Each sink that was created holds the bytes of the ticks that its
+-- clock made, and maybe some of the next ones.
 pub record RanPart {O : Type 0} (told : O
     → SinkTold) (shelf : ShelfTold) (station : Station) (order : List ℕ) (groups : List (List (OutputSink O)))
     (created_now : Option (List (List ℕ))) : Type 0 where
@@ -126,7 +133,7 @@ pub record RanPart {O : Type 0} (told : O
   pub parts : AreBegun told shelf (bare station) (answers_with station.way run) station.ticks begun.made begun.tried
       order groups created_now
 
--- the lines of a report on buffers with these counts; the first buffer has this number
+-- the lines of a report on the buffers' successes and failures, one for each buffer; the first has the given number
 abbrev pub counted_lines : (buffer : ℕ) → List Counts → List ℕ
 counted_lines buffer [] = []
 counted_lines buffer (counts ∷ others) = answers_line buffer counts.accepted counts.full counts.got counts.empty

@@ -6,37 +6,40 @@ use Rattle.liq_base.specs.Shelves.{ShelfTold}
 use Rattle.stations.specs.Creations.{CreatedFront, HaveClosed, HaveListed, after_making, closing_at_once}
 use Rattle.stations.specs.Outputs.{HoldsUpto, OutputFile, with_outputs}
 
--- a sink took these bytes in one piece, or, where there are none, is as it was
+-- a sink took these bytes in one piece; where there are no bytes, it is as it was
 abbrev pub TookAtOnce : List ℕ → (old new : SinkTold) → Type 0
 TookAtOnce [] old new = new ≡ old
 TookAtOnce (byte ∷ bytes) old new = TookPiece (byte ∷ bytes) old new
 
--- a list of one file
+-- a list of one file, with this name and these bytes
 abbrev pub one_file : (name bytes : List ℕ) → List OutputFile
 one_file name bytes = record { name = name; bytes = bytes } ∷ []
 
--- all of these files were written, each at once, and their sinks were made and closed, in this order, and no other
+-- A shelf wrote all of these files, each in one piece at most, and no other. Their sinks were created and closed under
+-- these names, in this order.
 pub record WroteFiles (old new : ShelfTold) (names : List (List ℕ)) (outputs : List OutputFile) : Type 0 where
   pub written : ForSome old.files (λ all. new.files ≡ Some (with_outputs all outputs))
   pub made : new.created ≡ after_making names old.created
   pub closes : HaveClosed 0 names old.closed new.closed
   pub listed : HaveListed (map closing_at_once outputs) old.closed new.closed
 
--- the first of these files were written, and a part of the next one maybe; no count of faults fell
+-- A shelf wrote the first of these files, and a part of the next one maybe. The first names were created, and no count
+-- of failed reads or writes fell.
 pub record WroteUpto (old new : ShelfTold) (names : List (List ℕ)) (outputs : List OutputFile) : Type 0 where
   pub part : ForSome old.files (λ all. IsSomeAnd new.files (HoldsUpto all outputs))
   pub front : CreatedFront names old new
   pub reads_grew : old.reads ≤ new.reads
   pub writes_grew : old.writes ≤ new.writes
 
--- a call on the shelf created sinks, and did no more
+-- a call on the shelf created sinks at most: its files and its list of closed ones stay, and no count of failed reads
+-- or writes fell
 pub record OnlyCreates (old new : ShelfTold) : Type 0 where
   pub files_kept : new.files ≡ old.files
   pub closed_kept : new.closed ≡ old.closed
   pub reads_grew : old.reads ≤ new.reads
   pub writes_grew : old.writes ≤ new.writes
 
--- a call on the shelf created no sink, and no count of faults fell
+-- a call on the shelf created no sink: the list of created names stays, and no count of failed reads or writes fell
 pub record OnlyCloses (old new : ShelfTold) : Type 0 where
   pub created_kept : new.created ≡ old.created
   pub reads_grew : old.reads ≤ new.reads

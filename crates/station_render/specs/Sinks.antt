@@ -5,77 +5,77 @@ use Rattle.std.specs.declared.alloc.Global.{Global}
 use Rattle.liq_base.specs.Pieces.{IsPrefix, SinkTold}
 use Rattle.stations.specs.Outputs.{OutputFile, OutputPart}
 
--- the items of clock m, where the list of numbers has the clock of each item
+-- The items of clock m, in their order. The list of numbers has the clock of each item.
 abbrev pub of_clock : {Y : Type 0} → (m : ℕ) → List ℕ → List Y → List Y
 of_clock m [] ys = []
 of_clock m (c ∷ cs) [] = []
 of_clock m (c ∷ cs) (y ∷ ys) = if nat_eq c m then y ∷ of_clock m cs ys else of_clock m cs ys
 
--- how often clock m stands in a list
+-- how many outputs clock m has: how often its number stands in a list with the clock of each output
 abbrev pub count_of : (m : ℕ) → List ℕ → ℕ
 count_of m [] = 0
 count_of m (c ∷ cs) = if nat_eq c m then suc (count_of m cs) else count_of m cs
 
--- the sinks of each clock, as lists
+-- vectors as plain lists, such as the sinks of each clock
 abbrev pub lists_of : {S : Type 0} → List (Vec S Global) → List (List S)
 lists_of groups = map (λ group. group.items) groups
 
--- each number of a clock in the list is less than `clocks`
+-- each number in the list is that of a clock: it is less than the count `clocks`
 abbrev pub AreBelow : (clocks : ℕ) → List ℕ → Type 0
 AreBelow clocks order = (k clock : ℕ) → slice_get order k ≡ Some clock → clock < clocks
 
--- each item has a sink among those of its clock, to which it stands in `So`; `order` has the clock of each item, and
--- the sinks of a clock have the order of their items
+-- Each item, such as an output of a plan, has a sink among those of its clock, and `So` relates the two. `order` has
+-- the clock of each item, and the sinks of a clock stand in the order of their items.
 pub record AreCreated {Y S : Type 0} (So : Y → S
     → Type 0) (ys : List Y) (order : List ℕ) (groups : List (List S)) : Type 0 where
   pub size : length ys ≡ length order
   pub below : AreBelow (length groups) order
   pub each : (m : ℕ) (group : List S) → slice_get groups m ≡ Some group → AllZip So (of_clock m order ys) group
 
--- each clock has as many sinks as `order` has its number
+-- each clock has as many sinks as outputs; `order` has the clock of each output
 pub record HaveSizes {S : Type 0} (order : List ℕ) (groups : List (List S)) : Type 0 where
   pub below : AreBelow (length groups) order
   pub each : (m : ℕ) (group : List S) → slice_get groups m ≡ Some group → length group ≡ count_of m order
 
--- no clock has a sink
+-- the list of sinks of each clock is empty
 abbrev pub AreAllEmpty : {S : Type 0} → List (List S) → Type 0
 AreAllEmpty groups = (m : ℕ) (group : List _) → slice_get groups m ≡ Some group → group ≡ []
 
--- there are so many clocks, and none has a sink
+-- there is a list of sinks for each of so many clocks, and all are empty
 pub record AreEmpty {S : Type 0} (clocks : ℕ) (groups : List (List S)) : Type 0 where
   pub size : length groups ≡ clocks
   pub each : AreAllEmpty groups
 
--- there is room for one more sink of this clock
+-- this clock's list of sinks has room for one more
 pub record HasPlace {S : Type 0} (clock : ℕ) (groups : List (Vec S Global)) : Type 0 where
   pub room : (group : Vec S Global) → slice_get groups clock ≡ Some group → vec_len group + 1 ≤ vec_capacity group
 
--- a clock got one sink more, as its last
+-- this sink was added at the end of its clock's list, and the other clocks' lists stay
 pub record WasAdded {S : Type 0} (clock : ℕ) (sink : S) (old new : List (List S)) : Type 0 where
   pub before : List S
   pub was : slice_get old clock ≡ Some before
   pub is : new ≡ slice_set old clock (before ++ sink ∷ [])
 
--- the first sink of a clock was taken from it
+-- the first sink of a clock was taken out of its list, and the other clocks' lists stay
 pub record WasTaken {S : Type 0} (clock : ℕ) (old : List (List S)) (sink : S) (new : List (List S)) : Type 0 where
   pub rest : List S
   pub was : slice_get old clock ≡ Some (sink ∷ rest)
   pub is : new ≡ slice_set old clock rest
 
--- the sink has the name of this file, and holds all its bytes
+-- a sink has the name of this file, and holds all its bytes
 pub record HoldsWhole (output : OutputFile) (sink : SinkTold) : Type 0 where
   pub named : sink.name ≡ Some output.name
   pub holds : sink.held ≡ Some output.bytes
 
--- the sink has the name of this file, and holds a front of its bytes
+-- a sink has the name of this file, and holds a beginning of its bytes
 pub record HoldsPart (output : OutputFile) (sink : SinkTold) : Type 0 where
   pub named : sink.name ≡ Some output.name
   pub part : List ℕ
   pub holds : sink.held ≡ Some part
   pub front : IsPrefix part output.bytes
 
--- the sink has the name of the output, and holds a front of its bytes `most`, with all its bytes `least` in front
--- unless the sink failed
+-- A sink has an output's name and holds a beginning of the bytes `most`. It holds at least the bytes `least`, unless it
+-- failed.
 pub record HoldsFront (output : OutputPart) (sink : SinkTold) : Type 0 where
   pub named : sink.name ≡ Some output.name
   pub part : List ℕ
@@ -83,7 +83,7 @@ pub record HoldsFront (output : OutputPart) (sink : SinkTold) : Type 0 where
   pub most : IsPrefix part output.most
   pub least : IsPrefix output.least part ⊎ (0 < sink.faults)
 
--- a sink has failed: its count of faults is above 0
+-- some sink of some clock has failed: its count of faults is above 0
 pub record HasFailed {S : Type 0} (told : S → SinkTold) (groups : List (List S)) : Type 0 where
   pub clock : ℕ
   pub place : ℕ

@@ -16,29 +16,31 @@ use Rattle.station_render.specs.Runs.{setting_by}
 use Rattle.station_render.specs.declared.job.Job.{Job}
 use Rattle.station_render.specs.declared.output_sink.OutputSink.{OutputSink}
 
--- the engines of a job may begin: there is one of each clock, before its first tick, and its sinks have room for all
--- that it writes
+-- the engines of a job may begin their ticks: there is one for each running clock, before its first tick, and its sinks
+-- have room for all that it will write
 pub record AreReady {S : Type 0} (told : S → SinkTold) (job : Job) (engines : List (ClockEngine S)) : Type 0 where
   pub all : length engines ≡ job.ready.clocks.running
   pub at : AreAt (setting_by job) engines
   pub over : AreOver told job.plan job.ticks (setting_by job) engines
 
--- The engines of a job made their ticks in this way: all of them if the run is done, and otherwise a part.
+-- The engines of a job, `old` before and `new` after, ran their ticks in this way: all of them if the run ended as
+-- done, and otherwise some.
 pub record HaveTicked {S : Type 0} (told : S
     → SinkTold) (job : Job) (way : Way) (old new : List (ClockEngine S)) (run : RunEnd) : Type 0 where
   pub all : run.end ≡ Done
       → RanAll told (setting_by job) job.ready.clocks.running job.ticks way old new run.counts.items run.logs.items
   pub some : RanSome told (setting_by job) job.ready.clocks.running job.ticks way old new run.end
 
--- The outputs of a job were opened by a shelf that told this: the engines hold the sinks, each of which got its header
--- as its one piece, and may begin; they keep their marks exactly where these are wanted.
+-- The outputs of a job were opened, as the shelf tells, and the ticks may begin. The engines hold the sinks, each of
+-- which got its header as its one piece; they keep marks of where tracks begin exactly where cue files are wanted.
 pub record HaveOpened {O : Type 0} (told : O → SinkTold) (shelf : ShelfTold) (job : Job)
     (order : List ℕ) (groups : List (List (OutputSink O))) (engines : List (ClockEngine (OutputSink O))) : Type 0 where
   pub opened : AreOpened told shelf (setting_by job) job.ready.clocks job.ticks order engines groups
   pub ready : AreReady (output_told told) job engines
   pub keeping : AreKeeping job.cues engines
 
--- the outputs of a job were created, and no more was done on the shelf
+-- the outputs of a job were created on a shelf, and nothing else was done there: no file was changed and none was
+-- closed
 pub record OnlyOpened (job : Job) (old new : ShelfTold) : Type 0 where
   pub files_kept : new.files ≡ old.files
   pub made : new.created ≡ after_making (names_in job.plan.sinks) old.created
@@ -46,7 +48,8 @@ pub record OnlyOpened (job : Job) (old new : ShelfTold) : Type 0 where
   pub reads_grew : old.reads ≤ new.reads
   pub writes_grew : old.writes ≤ new.writes
 
--- the outputs of a job were opened by a shelf that told this, and then the engines made their ticks in this way
+-- A rendering may go on to close its outputs: they were opened by a shelf that told this, and then the engines made
+-- their ticks in this way.
 pub record MayClose {O : Type 0} (told : O → SinkTold) (shelf : ShelfTold) (job : Job) (way : Way)
     (order : List ℕ) (groups : List (List (OutputSink O))) (engines : List (ClockEngine (OutputSink O)))
     (run : RunEnd) : Type 0 where

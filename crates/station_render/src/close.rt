@@ -19,8 +19,8 @@ use crate::output_sink::{OutputSink, end_if};
 use crate::{RenderFault, Rendered};
 use liq_base::{Failed, Shelf};
 
-/// Closes all sinks in sink order, whatever was written. Returns what was told of the run, its fault, or that of a
-/// closing. `order` has the clock of each sink, and `groups` the sinks of each clock.
+/// Closes the sinks of all outputs in sink order, whatever was written. It returns what was told of the run, the
+/// run's fault, or that of a closing. `order` has the clock of each sink, and `groups` the sinks of each clock.
 pub(crate) fn close_all<S: Shelf>(
     shelf: &mut S,
     order: &[u32],
@@ -54,7 +54,8 @@ pub(crate) fn close_all<S: Shelf>(
     Ok(rendered)
 }
 
-/// Closes what was created of the outputs, in sink order, after a fault, and returns this fault.
+/// Closes the sinks of the outputs that were created, in sink order, after a fault of the opening, and returns this
+/// fault.
 pub(crate) fn close_broken<S: Shelf>(
     shelf: &mut S,
     order: &[u32],
@@ -128,7 +129,7 @@ fn close_each<S: Shelf>(
     others
 }
 
-// Whether all still goes well, after the last byte and the closing of a sink.
+// Whether all still goes well: it did before, the last byte of a sink was taken, and the sink was closed.
 fn still_well(well: bool, ended: Result<(), Failed>, closed: Result<(), Failed>) -> bool
     ensures before { result ≡ true → well ≡ true }
     ensures unwell { well ≡ false → result ≡ false }
@@ -139,7 +140,7 @@ fn still_well(well: bool, ended: Result<(), Failed>, closed: Result<(), Failed>)
     well && ended.is_ok() && closed.is_ok()
 }
 
-// Takes the first sink of this clock.
+// Takes the first sink of this clock out of `groups`, the list of each clock's sinks.
 fn take_first<O>(groups: &mut Vec<Vec<O>>, clock: u32) -> O
     requires { (first : O) × (rest : List O) × (slice_get (lists_of groups.old.items) clock ≡ Some (first ∷ rest)) }
     ensures { WasTaken clock (lists_of groups.old.items) result (lists_of groups.new.items) }
@@ -147,7 +148,7 @@ fn take_first<O>(groups: &mut Vec<Vec<O>>, clock: u32) -> O
     groups[clock as usize].remove(0)
 }
 
-// Lets go of lists without sinks.
+// Frees the lists of the clocks' sinks, once all are empty.
 fn end_all<O>(groups: Vec<Vec<O>>)
     requires { AreAllEmpty (lists_of groups.items) }
 {

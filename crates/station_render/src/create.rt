@@ -70,8 +70,8 @@ pub(crate) fn create_each<S: Shelf>(
     Ok(())
 }
 
-// Creates an output of this name, with its header as one piece. Its room is for exactly its bytes, with a zero byte at
-// the end if those of its samples are odd.
+// Creates an output of this name, with its header as one piece, and adds its sink to those of its clock. Its room is
+// for exactly its bytes, with a zero byte at the end if those of its samples are odd.
 fn create_one<S: Shelf>(
     shelf: &mut S,
     name: &str,

@@ -15,7 +15,7 @@ use liq_base::Shelf;
 use plan_core::{Plan, SinkPlan};
 use std::alloc::{AllocError, Global};
 
-/// Leaves the cue file of each output, in sink order, where these are wanted: the instants at which its tracks begin,
+/// Writes the cue file of each output, in sink order, if a job wants these: the instants at which its tracks begin,
 /// and their titles. `marks` has those of each output.
 pub(crate) fn leave_wanted<S: Shelf>(
     alloc: Global,
@@ -37,7 +37,8 @@ pub(crate) fn leave_wanted<S: Shelf>(
     leave_cues(alloc, &job.plan, &job.ready.library, marks, shelf)
 }
 
-// Leaves the cue file of each output, in sink order. `marks` has those of each output.
+// Writes the cue file of each output of a plan, in sink order. `marks` has the instants at which the tracks of each
+// output begin, with their titles.
 fn leave_cues<S: Shelf>(
     alloc: Global,
     plan: &Plan,
@@ -64,7 +65,7 @@ fn leave_cues<S: Shelf>(
     Ok(())
 }
 
-// Writes the cue file of the output of this name.
+// Writes the cue file of the output of this name, with a line for each of these marks.
 fn leave_one<S: Shelf>(
     alloc: Global,
     library: &Library,
@@ -83,7 +84,7 @@ fn leave_one<S: Shelf>(
     write_file(shelf, file.as_str(), text.as_bytes())
 }
 
-/// The name of the cue file of the output of this name.
+/// The name of an output's cue file: that of the output with `.cue` behind it.
 pub fn cue_file_name(alloc: Global, output: &str) -> Result<String, AllocError>
     ensures { IfOk result (λ file. string_bytes file ≡ cue_name output.now) }
 {
@@ -92,7 +93,7 @@ pub fn cue_file_name(alloc: Global, output: &str) -> Result<String, AllocError>
     Ok(file)
 }
 
-// The text of a cue file: a line for each mark.
+// The text of a cue file: a line for each mark, that is, for each track that begins in the output.
 fn text_of(alloc: Global, library: &Library, marks: &[CueMark]) -> Result<String, AllocError>
     ensures { IfOk result (λ text. string_bytes text ≡ cue_text library.now (map cue_of marks.now)) }
 {
@@ -103,7 +104,8 @@ fn text_of(alloc: Global, library: &Library, marks: &[CueMark]) -> Result<String
     Ok(text)
 }
 
-// Appends the line of a mark.
+// Appends a mark's line to the text of a cue file: the instant at which a track begins, and the name of its file if
+// it has one.
 fn push_line(
     alloc: Global,
     text: &mut String,
@@ -117,7 +119,8 @@ fn push_line(
     text.push_str("\n")
 }
 
-// Appends a space and the name of the file that this title stands for; nothing for a title without a file.
+// Appends to a line of a cue file a space and the name of the file for which this title stands; nothing for a title
+// without a file.
 fn push_title(text: &mut String, library: &Library, title: u32) -> Result<(), AllocError>
     ensures { OnOk result (string_bytes text.new ≡ string_bytes text.old ++ spaced (title_name library.now title)) }
 {

@@ -25,7 +25,7 @@ use plan_core::{Plan, SinkPlan};
 use std::alloc::{AllocError, Global};
 use std::mem;
 
-// Puts these sinks into the place of a clock that has none.
+// Puts the sinks of a clock back into `groups`, the list of each clock's sinks, where this clock has none.
 fn put_back<O>(groups: &mut Vec<Vec<O>>, clock: usize, outs: Vec<O>)
     requires { slice_get (lists_of groups.old.items) clock ≡ Some [] }
     ensures { lists_of groups.new.items ≡ slice_set (lists_of groups.old.items) clock outs.items }
@@ -33,7 +33,7 @@ fn put_back<O>(groups: &mut Vec<Vec<O>>, clock: usize, outs: Vec<O>)
     mem::replace(&mut groups[clock], outs).destroy_empty();
 }
 
-// Takes the sinks of a clock out of their place.
+// Takes the sinks of a clock out of `groups`, the list of each clock's sinks, and leaves it an empty one.
 fn take_out<O>(alloc: Global, groups: &mut Vec<Vec<O>>, clock: usize) -> Vec<O>
     requires { clock < length (lists_of groups.old.items) }
     ensures outs { slice_get (lists_of groups.old.items) clock ≡ Some result.items }
@@ -42,7 +42,7 @@ fn take_out<O>(alloc: Global, groups: &mut Vec<Vec<O>>, clock: usize) -> Vec<O>
     mem::replace(&mut groups[clock], Vec::new(alloc))
 }
 
-// The engine; if marks are wanted, it keeps them from now on.
+// Lets an engine keep marks (where tracks begin in its outputs) from now on if cue files are wanted, and hands it on.
 fn keep_if<'a, O: Sink>(wanted: bool, engine: ClockEngine<'a, O>) -> ClockEngine<'a, O>
     requires { EngineStands engine.parts 0 nothing }
     ensures setting { setting_of result.parts ≡ setting_of engine.entry.parts }
@@ -59,7 +59,8 @@ fn keep_if<'a, O: Sink>(wanted: bool, engine: ClockEngine<'a, O>) -> ClockEngine
     engine
 }
 
-// Makes the engine of a clock, which takes its sinks from `groups`; they go back there if memory is refused.
+// Makes the engine that runs a clock, before its first tick. It takes its sinks from `groups`; they go back there if
+// memory is refused.
 fn make_engine<'a, O: Sink>(
     alloc: Global,
     job: &'a Job<'_>,
@@ -95,7 +96,7 @@ fn make_engine<'a, O: Sink>(
     }
 }
 
-// Takes the sinks of the engines back into `groups`.
+// Ends the engines, and puts the sinks of each back into `groups`, the list of each clock's sinks.
 fn give_back<O: Sink>(engines: Vec<ClockEngine<'_, O>>, groups: &mut Vec<Vec<O>>)
     requires few { length engines.items ≤ length (lists_of groups.old.items) }
     requires empty { AreEmptyBelow (length engines.items) (lists_of groups.old.items) }
@@ -108,7 +109,8 @@ fn give_back<O: Sink>(engines: Vec<ClockEngine<'_, O>>, groups: &mut Vec<Vec<O>>
     engines.destroy_empty();
 }
 
-/// Makes the engines of all clocks, which take the sinks from `groups`; they go back there if memory is refused.
+/// Makes the engines of all clocks, in clock order and before any tick. They take the sinks from `groups`; these go
+/// back there if memory is refused.
 pub(crate) fn make_engines<'a, O: Sink>(
     alloc: Global,
     job: &'a Job<'_>,
@@ -138,7 +140,8 @@ pub(crate) fn make_engines<'a, O: Sink>(
     Ok(engines)
 }
 
-// How many gaps each output of a plan has, in sink order, once the engines have made their ticks.
+// How many gaps each output of a plan has (instants at which its node offered nothing), in sink order, once the
+// engines have made their ticks.
 fn gaps_of<O: Sink>(
     alloc: Global,
     plan: &Plan,
@@ -166,7 +169,8 @@ fn gaps_of<O: Sink>(
     Ok(gaps)
 }
 
-// The marks of the outputs of a plan, in sink order, once the engines have made their ticks.
+// The marks of each output of a plan (the instants at which tracks begin, with their titles), in sink order, once the
+// engines have made their ticks.
 fn marks_of<O: Sink>(
     alloc: Global,
     plan: &Plan,
@@ -195,7 +199,7 @@ fn marks_of<O: Sink>(
     Ok(all)
 }
 
-// A copy of these marks.
+// A copy of the marks that an engine kept of one output.
 fn copied(alloc: Global, marks: &[CueMark]) -> Result<Vec<CueMark>, AllocError>
     ensures { IfOk result (λ own. own.items ≡ marks.now) }
 {
@@ -204,7 +208,7 @@ fn copied(alloc: Global, marks: &[CueMark]) -> Result<Vec<CueMark>, AllocError>
     Ok(own)
 }
 
-// The marks of each output, in sink order, if cue files are wanted, and otherwise none.
+// The marks of each output (where its tracks begin), in sink order, if cue files are wanted, and otherwise none.
 fn marks_if<O: Sink>(
     alloc: Global,
     job: &Job<'_>,
@@ -225,7 +229,8 @@ fn marks_if<O: Sink>(
     marks_of(alloc, &job.plan, &job.ready.clocks, engines)
 }
 
-// What is told of a run, by its end and by the engines; a fault if it is not done.
+// What is told of a run that made all its ticks: each output's gaps and marks, and each buffer's answers. For a run
+// that broke off it is the fault.
 fn tell<O: Sink>(
     alloc: Global,
     job: &Job<'_>,
@@ -265,8 +270,8 @@ fn tell<O: Sink>(
     }
 }
 
-/// Takes the sinks of the engines back into `groups` after a run, and returns what is told of the run, or why it broke
-/// off.
+/// Ends the engines after a run: puts their sinks back into `groups`, the list of each clock's sinks, and returns
+/// what is told of the run, or why it broke off.
 pub(crate) fn take_back<O: Sink>(
     alloc: Global,
     job: &Job<'_>,

@@ -18,6 +18,7 @@ impl From<AllocError> for RenderFault {
 
     ghost from_gives = { λ _ e. e ≡ no_memory };
 
+    // A refused allocation as the fault of a rendering: want of memory.
     fn from(_refused: AllocError) -> Self {
         RenderFault::Memory
     }
@@ -28,6 +29,7 @@ impl From<Memory> for RenderFault {
 
     ghost from_gives = { λ _ e. e ≡ no_memory };
 
+    // Want of memory as the fault of a rendering.
     fn from(_refused: Memory) -> Self {
         RenderFault::Memory
     }
@@ -38,6 +40,7 @@ impl From<Failed> for RenderFault {
 
     ghost from_gives = { λ _ e. e ≡ Write };
 
+    // The failure of a device as the fault of a rendering: a failed write.
     fn from(_failed: Failed) -> Self {
         RenderFault::Write
     }
@@ -48,6 +51,7 @@ impl From<ShelfFault> for RenderFault {
 
     ghost from_gives = { λ fault e. e ≡ render_fault_of fault };
 
+    // A shelf's fault as the fault of a rendering: a failed write, or want of memory.
     fn from(fault: ShelfFault) -> Self {
         match fault {
             ShelfFault::Failed => RenderFault::Write,

@@ -27,7 +27,7 @@ pub(crate) fn write_file<S: Shelf>(
     Ok(())
 }
 
-// Hands over these bytes as one piece, if there are any.
+// Appends these bytes to a sink as one piece, if there are any; an empty text makes no call.
 fn append_any<O: Sink>(sink: &mut O, text: &[u8]) -> Result<(), Failed>
     requires { HasRoom (O.told sink.old).room (length text.now) }
     ensures took { OnOk result (TookAtOnce text.now (O.told sink.old) (O.told sink.new)) }

@@ -24,7 +24,7 @@ pub(crate) struct Opening {
     pub body: u64,
 }
 
-// The number of the main clock of a node, which is that of a sink.
+// The number of the main clock in which a node lies; 0 for a node in a sub-clock, where no output's node lies.
 pub(crate) fn clock_of(clocks: &ClockMap, node: u32) -> u32
     requires { (m : ℕ) × (slice_get clocks.now.of node ≡ Some (NodeClock.Main m)) }
     ensures { slice_get clocks.now.of node ≡ Some (NodeClock.Main result) }
@@ -35,8 +35,8 @@ pub(crate) fn clock_of(clocks: &ClockMap, node: u32) -> u32
     }
 }
 
-/// What the output of a node is created with, for so many ticks. The samples are of 24 bits if it is `wide`, and
-/// otherwise of 16 bits.
+/// What the output of a node is created with, for so many ticks: its clock, the header of its WAV file, and how many
+/// bytes of samples follow. The samples are of 24 bits if it is `wide`, and otherwise of 16 bits.
 pub(crate) fn opening_of(
     plan: &Plan,
     clocks: &ClockMap,
@@ -64,7 +64,7 @@ pub(crate) fn opening_of(
     }
 }
 
-// The kind of a node.
+// The kind of a node of a plan: mono or stereo.
 fn kind_of(plan: &Plan, node: u32) -> Kind
     requires { node < length plan.now.nodes }
     ensures { result ≡ node_kind plan.now node }
@@ -72,7 +72,7 @@ fn kind_of(plan: &Plan, node: u32) -> Kind
     plan.nodes.as_slice()[node as usize].kind
 }
 
-// How many bytes an output of this kind gets in one instant.
+// How many bytes an output of this kind gets at each instant: 3 a channel if it is wide, and otherwise 2.
 fn block_len(wide: bool, kind: Kind) -> u64
     ensures { result ≡ block_length wide kind }
 {
@@ -80,7 +80,7 @@ fn block_len(wide: bool, kind: Kind) -> u64
     if wide { 3 * channels } else { 2 * channels }
 }
 
-// The header of an output of this kind, for so many ticks.
+// The WAV header of an output of this kind, for the samples of so many ticks.
 fn header_for(plan: &Plan, kind: Kind, wide: bool, ticks: u64) -> [u8; 44]
     requires plan { IsWellFormed plan.now }
     requires few { ticks ≤ 1000000000 }

@@ -67,8 +67,8 @@ pub(crate) fn open_outputs<'a, S: Shelf>(
     }
 }
 
-// Creates the outputs, and makes the engines. `order` gets the clock of each sink that is created; `groups` gets the
-// sinks of each clock, where engines are not made.
+// Creates the outputs of a job, and makes the engines that write them. `order` gets the clock of each sink that is
+// created; `groups` gets the sinks of each clock, where engines are not made.
 fn open_all<'a, S: Shelf>(
     alloc: Global,
     job: &'a Job<'_>,

@@ -20,12 +20,14 @@ impl<O: Sink> Sink for OutputSink<O> {
 
     ghost told = { output_told O.told };
 
+    // Appends a piece of the output's file to the plain sink within.
     fn append(&mut self, piece: &[u8]) -> Result<(), Failed> {
         self.sink.append(piece)
     }
 }
 
-/// Ends an output, before it is closed: where all went well, its sink gets one zero byte if a byte is owed.
+/// Ends an output before it is closed: if all went `well`, its sink gets the last zero byte of a file with an odd
+/// number of sample bytes.
 pub(crate) fn end_if<O: Sink>(well: bool, output: &mut OutputSink<O>) -> Result<(), Failed>
     requires { well ≡ true → output.old.odd ≡ true → HasRoom (O.told output.old.sink).room 1 }
     ensures same { well ≡ false → output.new.sink ≡ output.old.sink }

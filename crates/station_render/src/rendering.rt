@@ -73,9 +73,10 @@ pub fn render_alone<S: Shelf>(
     finish(alloc, job, None, shelf, places, engines, run)
 }
 
-/// Renders a job on one thread, by an accepted trace of it and by the steps of `render`: between the creations and the
-/// closings the clocks make all their ticks, in turns, and their buffers answer as they did in the run that left the
-/// trace. The turns are all those of the trace's record. It leaves no trace. The rules stand in `docs/buffers.md`.
+/// Renders a job on one thread, by an accepted trace of it and by the steps of `render`: between the creations and
+/// the closings the clocks make all their ticks, and their buffers answer as they did in the run that left the trace.
+/// The turns, in each of which one clock makes some ticks, are all those of the trace's record. It leaves no trace.
+/// The rules stand in `docs/buffers.md`.
 pub fn render_again<S: Shelf>(
     alloc: Global,
     job: &Job<'_>,
@@ -94,8 +95,8 @@ pub fn render_again<S: Shelf>(
     finish(alloc, job, None, shelf, places, engines, run)
 }
 
-// What is left of a rendering once the ticks are made: closes the outputs, and leaves the cue files and the trace,
-// where these are wanted. `window` is how many ticks a window had; `None` on one thread.
+// Ends a rendering once the ticks are made: closes the outputs, and leaves the cue files and the trace, where these
+// are wanted. `window` is how many ticks a window had; `None` on one thread.
 fn finish<S: Shelf>(
     alloc: Global,
     job: &Job<'_>,

@@ -27,7 +27,7 @@ pub fn report(alloc: Global, plan: &Plan, ticks: u64, rendered: &Rendered) -> Re
     Ok(text)
 }
 
-// The lines of the outputs, in sink order; `gaps` has the gaps of each.
+// The report's lines on the outputs, in sink order. `gaps` has for each at how many instants it was given nothing.
 fn output_lines(alloc: Global, plan: &Plan, ticks: u64, gaps: &[u64]) -> Result<String, Memory>
     requires few { ticks ≤ 1000000000 }
     requires many { length gaps.now ≡ length (written plan.now.sinks) }
@@ -48,7 +48,7 @@ fn output_lines(alloc: Global, plan: &Plan, ticks: u64, gaps: &[u64]) -> Result<
     Ok(text)
 }
 
-// Appends the line of an output: its samples on each side, and its gaps.
+// Appends a report's line on an output: its name, its samples on each side, and its gaps.
 fn push_line(
     alloc: Global,
     text: &mut String,
@@ -62,7 +62,8 @@ fn push_line(
     text.push_str("\n")
 }
 
-/// Appends the line of an output, but for its end: its samples on each side, and its gaps.
+/// Appends a report's line on an output without the end of the line: its name, its samples on each side, and its
+/// gaps.
 pub fn push_counts(
     alloc: Global,
     text: &mut String,
@@ -80,7 +81,7 @@ pub fn push_counts(
     text.push_str(&gaps.to_string(alloc)?)
 }
 
-// Appends a line for each buffer, with its counts.
+// Appends a report's line for each buffer: how often its puts and its takes succeeded and failed.
 fn push_buffers(alloc: Global, text: &mut String, counts: &[Counts]) -> Result<(), AllocError>
     ensures { OnOk result (string_bytes text.new ≡ string_bytes text.old ++ counted_lines 0 counts.now) }
 {
@@ -92,7 +93,7 @@ fn push_buffers(alloc: Global, text: &mut String, counts: &[Counts]) -> Result<(
     Ok(())
 }
 
-// Appends the front of a buffer's line: its number, and how its puts were answered.
+// Appends the first half of a report's line on a buffer: its number, and how its puts were answered.
 fn push_puts(
     alloc: Global,
     text: &mut String,
@@ -111,7 +112,7 @@ fn push_puts(
     text.push_str(&counts.full.to_string(alloc)?)
 }
 
-// Appends the rest of a buffer's line: how its takes were answered.
+// Appends the second half of a report's line on a buffer: how its takes were answered.
 fn push_takes(alloc: Global, text: &mut String, counts: &Counts) -> Result<(), AllocError>
     ensures { OnOk result (string_bytes text.new ≡ string_bytes text.old
         ++ (codes " got " ++ decimal counts.now.got ++ codes " empty " ++ decimal counts.now.empty ++ codes "\n")) }

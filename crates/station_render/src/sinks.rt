@@ -6,7 +6,7 @@ ghost use Rattle.station_render.specs.Sinks.{AreEmpty, HasPlace, WasAdded, lists
 use liq_base::Memory;
 use std::alloc::{AllocError, Global};
 
-/// For each of so many clocks, a list without sinks.
+/// The list of each clock's sinks before any is created: one empty list for each of so many clocks.
 pub(crate) fn no_sinks<O>(alloc: Global, clocks: u32) -> Result<Vec<Vec<O>>, AllocError>
     ensures { IfOk result (λ groups. AreEmpty clocks (lists_of groups.items)) }
 {
@@ -17,7 +17,7 @@ pub(crate) fn no_sinks<O>(alloc: Global, clocks: u32) -> Result<Vec<Vec<O>>, All
     Ok(groups)
 }
 
-/// Makes room for one more sink of this clock.
+/// Makes room for one more sink in this clock's list.
 pub(crate) fn reserve_one<O>(groups: &mut Vec<Vec<O>>, clock: u32) -> Result<(), AllocError>
     requires { clock < length (lists_of groups.old.items) }
     ensures same { lists_of groups.new.items ≡ lists_of groups.old.items }
@@ -26,7 +26,7 @@ pub(crate) fn reserve_one<O>(groups: &mut Vec<Vec<O>>, clock: u32) -> Result<(),
     groups[clock as usize].reserve(1)
 }
 
-/// Adds a sink of this clock, for which there is room.
+/// Adds a sink to this clock's list, where there is room for it.
 pub(crate) fn add_one<O>(groups: &mut Vec<Vec<O>>, clock: u32, sink: O)
     requires below { clock < length (lists_of groups.old.items) }
     requires place { HasPlace clock groups.old.items }

@@ -19,7 +19,8 @@ use std::thread::Threads;
 use trace_log::Trace;
 use trace_replay::{RecordTurns, replay};
 
-/// Each clock makes its ticks on a thread of its own, in windows of `window` ticks.
+/// Runs the engines of a job on threads, one for each clock, in windows of `window` ticks. It answers the engines and
+/// how the run ended.
 pub(crate) fn tick_by_threads<'a, O: Sink + Send, G: Gate + Sync, R: Threads + Wait + Sync>(
     rt: &R,
     alloc: Global,
@@ -45,7 +46,7 @@ pub(crate) fn tick_by_threads<'a, O: Sink + Send, G: Gate + Sync, R: Threads + W
     )
 }
 
-/// All clocks make their ticks on one thread, in rounds.
+/// Runs the engines of a job on one thread, in rounds over all clocks. It answers the engines and how the run ended.
 pub(crate) fn tick_in_rounds<'a, O: Sink>(
     alloc: Global,
     job: &'a Job<'_>,
@@ -60,7 +61,8 @@ pub(crate) fn tick_in_rounds<'a, O: Sink>(
     (engines, run)
 }
 
-/// The clocks make their ticks on one thread, in the turns of the trace's record.
+/// Runs the engines of a job on one thread, in the turns of a trace's record: in each turn one clock makes some
+/// ticks. It answers the engines and how the run ended.
 pub(crate) fn tick_again<'a, O: Sink>(
     alloc: Global,
     job: &'a Job<'_>,

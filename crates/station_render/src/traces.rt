@@ -13,8 +13,8 @@ use liq_base::Shelf;
 use std::alloc::Global;
 use trace_log::{Trace, print};
 
-/// Leaves the trace of a run of this job if one is wanted and threads made the run, and hands on what is told of it.
-/// `window` is how many ticks a window had; `None` on one thread.
+/// Writes the trace of a run (the record of its buffers' answers) if one is wanted and threads made the run, and
+/// hands on what is told of the run. `window` is how many ticks a window had; `None` on one thread.
 pub(crate) fn leave_trace<S: Shelf>(
     alloc: Global,
     job: &Job<'_>,
@@ -66,7 +66,7 @@ pub(crate) fn leave_trace<S: Shelf>(
     Ok(told)
 }
 
-// Writes the text of a trace into the file of this name.
+// Prints a trace and writes its text into the file of this name.
 fn write_trace<S: Shelf>(
     alloc: Global,
     shelf: &mut S,

@@ -47,7 +47,7 @@ const WHOLE_NUMBERS_AND_STARTS: &[(&str, Option<i64>, Option<u64>, Option<u32>)]
     ("1-00-00-00", None, None, None),
 ];
 
-// A text has these answers of the readers.
+// Checks that the readers of decimals, whole numbers and starts make these of a text; `None` for one that refuses it.
 fn check_row(
     rt: &impl Abort,
     text: &str,
@@ -64,7 +64,7 @@ fn check_row(
     assert!(rt; read_start(bytes).map(|at| at.second) == start, "{text}");
 }
 
-// Each row has its answers.
+// Checks each row: a text, and what the readers of decimals, whole numbers and starts make of it.
 fn check(rt: &impl Abort, rows: &[(&str, Option<i64>, Option<u64>, Option<u32>)]) {
     for row in rows {
         let (text, decimal, whole, start) = *row;
@@ -72,16 +72,19 @@ fn check(rt: &impl Abort, rows: &[(&str, Option<i64>, Option<u64>, Option<u32>)]
     }
 }
 
+// The reader of decimals reads each text exactly, or refuses it.
 #[test]
 fn decimals_are_exact_to_a_millionth(rt: HostRuntime) {
     check(&rt, DECIMALS);
 }
 
+// Whole numbers and starts are read from their one text, and other texts are refused.
 #[test]
 fn whole_numbers_and_starts_have_one_text(rt: HostRuntime) {
     check(&rt, WHOLE_NUMBERS_AND_STARTS);
 }
 
+// Numbers are printed behind what a list holds already, the least and the greatest ones too.
 #[test]
 fn written_texts_are_appended(rt: HostRuntime) -> Result<(), Fail> {
     let mut into = b"x".to_vec(rt.alloc())?;

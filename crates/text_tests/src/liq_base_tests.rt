@@ -18,7 +18,7 @@ const PIECES: &[(&str, Result<(), Failed>, &str)] = &[
     ("f", Err(Failed), "abcde"),
 ];
 
-// A piece has this answer, and this is what the sink holds after it.
+// Appends a piece to a sink in memory, and checks the answer and what the sink holds after it.
 fn check_piece(
     rt: &impl Abort,
     sink: &mut MemSink,
@@ -30,6 +30,7 @@ fn check_piece(
     assert!(rt; sink.held() == held.as_bytes(), "after {piece}");
 }
 
+// Appends the piece of each row to a sink in memory, and checks the answer and what the sink holds.
 fn check_pieces(rt: &impl Abort, sink: &mut MemSink, rows: &[(&str, Result<(), Failed>, &str)]) {
     for row in rows {
         let (piece, answer, held) = *row;
@@ -37,12 +38,13 @@ fn check_pieces(rt: &impl Abort, sink: &mut MemSink, rows: &[(&str, Result<(), F
     }
 }
 
-// A sink with room for 5 bytes, whose appends 1 and 3, counted from 0, stop after so many bytes.
+// A sink in memory with room for 5 bytes, whose appends 1 and 3, counted from 0, stop after so many bytes.
 fn failing_sink(alloc: Global) -> Result<MemSink, Memory> {
     let fails = vec![in alloc; (1, 1), (3, 9), (3, 0)]?;
     MemSink::new(alloc, 5, fails)
 }
 
+// A sink in memory takes pieces up to its room, and fails at the appends at which it was told to.
 #[test]
 fn a_sink_fails_where_it_is_told_to(rt: HostRuntime) -> Result<(), Fail> {
     let mut sink = failing_sink(rt.alloc())?;
@@ -59,7 +61,7 @@ const READS: &[(&str, u64, Result<Fetched, ShelfFault>, usize)] = &[
     ("b", 3, Ok(Fetched::Found), 6),
 ];
 
-// What a read answers, and how many bytes were read by then.
+// Reads a file from a shelf in memory: what it answers, and how many bytes were read by then.
 fn read_one(
     shelf: &mut MemShelf,
     into: &mut Vec<u8>,
@@ -70,6 +72,7 @@ fn read_one(
     (answer, into.len())
 }
 
+// Reads the file of each row from a shelf in memory, and checks the answer and how many bytes were read by then.
 fn check_reads(
     rt: &impl Abort,
     shelf: &mut MemShelf,
@@ -85,13 +88,14 @@ fn check_reads(
     }
 }
 
-// A shelf with the file `b`, whose read 1, counted from 0, fails.
+// A shelf in memory with the file `b`, whose read 1, counted from 0, fails.
 fn shelf(alloc: Global) -> Result<MemShelf, Memory> {
     let mut shelf = MemShelf::new(alloc, shelf_files(alloc)?);
     shelf.fail_read(1)?;
     Ok(shelf)
 }
 
+// A shelf in memory reads the files that it has, up to the allowed size, and fails where it was told to.
 #[test]
 fn a_shelf_reads_what_it_has(rt: HostRuntime) -> Result<(), Fail> {
     let mut shelf = shelf(rt.alloc())?;
@@ -108,7 +112,7 @@ const LOOKS: &[(&str, u64, Result<Looked, ShelfFault>, usize)] = &[
     ("b", 3, Ok(Looked::Found(3)), 6),
 ];
 
-// What a look at the first byte answers, and how many bytes were read by then.
+// Looks at the first byte of a file on a shelf in memory: what it answers, and how many bytes were read by then.
 fn look_once(
     shelf: &mut MemShelf,
     into: &mut Vec<u8>,
@@ -119,6 +123,7 @@ fn look_once(
     (answer, into.len())
 }
 
+// Looks at the file of each row on a shelf in memory, and checks the answer and how many bytes were read by then.
 fn check_looks(
     rt: &impl Abort,
     shelf: &mut MemShelf,
@@ -134,6 +139,7 @@ fn check_looks(
     }
 }
 
+// A look at a file on a shelf in memory answers its size as a read would, and fails where it was told to.
 #[test]
 fn a_shelf_in_memory_is_looked_at_by_reading(rt: HostRuntime) -> Result<(), Fail> {
     let mut shelf = shelf(rt.alloc())?;
@@ -141,7 +147,7 @@ fn a_shelf_in_memory_is_looked_at_by_reading(rt: HostRuntime) -> Result<(), Fail
     Ok(())
 }
 
-/// One file, `b`, that holds `123`.
+/// The files of the shelf that is tested: one file, `b`, that holds `123`.
 fn shelf_files(alloc: Global) -> Result<Vec<(String, Vec<u8>)>, AllocError> {
     let name = String::from_str(alloc, "b")?;
     let bytes = Vec::from_slice(alloc, b"123")?;
@@ -159,6 +165,7 @@ fn shelf_faults(alloc: Global) -> Result<String, AllocError> {
     format!(in alloc; "{memory}, {failed}")
 }
 
+// The faults of devices and of shelves are printed as their messages.
 #[test]
 fn faults_are_printed(rt: HostRuntime) -> Result<(), Fail> {
     let want = "out of memory, a device failed";

@@ -71,7 +71,7 @@ fn shown(alloc: Global, tokens: &[Token]) -> Result<String, AllocError> {
     Ok(text)
 }
 
-// Appends a token: its kind, and its place in bytes.
+// Appends a token as text: its kind, and its place in bytes.
 fn push_token(alloc: Global, text: &mut String, token: &Token) -> Result<(), AllocError> {
     let kind = kind(alloc, &token.kind)?;
     let Token { start, end, .. } = token;
@@ -79,7 +79,7 @@ fn push_token(alloc: Global, text: &mut String, token: &Token) -> Result<(), All
     Ok(())
 }
 
-// Each row: a text, and its tokens as text.
+// Checks each row: a text, and the tokens that the lexer makes of it, written as text.
 fn check(rt: &impl Abort, alloc: Global, rows: &[(&str, &str)]) -> Result<(), Fail> {
     for row in rows {
         let (source, want) = *row;
@@ -147,6 +147,8 @@ const BLANKS: &[(&str, &str)] = &[
     ("#\n#\n1# é(", "Int(1)@4..5 "),
 ];
 
+// The lexer makes the listed tokens of each text: words and signs, numbers, times, and texts with blanks and
+// comments.
 #[test]
 fn texts_have_their_tokens(rt: HostRuntime) -> Result<(), Fail> {
     for rows in [WORDS, NUMBERS, TIMES, BLANKS] {
@@ -155,6 +157,7 @@ fn texts_have_their_tokens(rt: HostRuntime) -> Result<(), Fail> {
     Ok(())
 }
 
+// Each fault of the lexer is printed as its message.
 #[test]
 fn faults_are_printed(rt: HostRuntime) -> Result<(), Fail> {
     let first = LexFault::BadByte(3);

@@ -4,6 +4,7 @@ use script_parse::ParseFault;
 use std::process::Abort;
 use std::test::Fail;
 
+// Each fault of parsing is printed as its message.
 #[test]
 fn faults_are_printed(rt: HostRuntime) -> Result<(), Fail> {
     let first = ParseFault::Syntax(4);

@@ -6,6 +6,7 @@ use std::collections::HashSet;
 use std::process::Abort;
 use std::test::Fail;
 
+// A copy of a text is found in a set that has the text, and another text is not.
 #[test]
 fn a_copy_is_found_where_its_text_is_a_key(rt: HostRuntime) -> Result<(), Fail> {
     let alloc = rt.alloc();
@@ -27,13 +28,14 @@ const ORDERS: &[(&str, &str, Ordering)] = &[
     ("", "", Ordering::Equal),
 ];
 
-// The order of two texts, and whether they are equal.
+// Compares two texts: their order, and whether they are equal.
 fn order(alloc: Global, a: &str, b: &str) -> Result<(Ordering, bool), Memory> {
     let a = Text::from_str(alloc, a)?;
     let b = Text::from_str(alloc, b)?;
     Ok((a.cmp(&b), a == b))
 }
 
+// Checks each row: two texts, and the order in which they stand.
 fn check(rt: &impl Abort, alloc: Global, rows: &[(&str, &str, Ordering)]) -> Result<(), Fail> {
     for row in rows {
         let (a, b, want) = *row;
@@ -42,6 +44,7 @@ fn check(rt: &impl Abort, alloc: Global, rows: &[(&str, &str, Ordering)]) -> Res
     Ok(())
 }
 
+// Texts are compared by their bytes, in order and equality.
 #[test]
 fn texts_are_ordered_as_their_bytes(rt: HostRuntime) -> Result<(), Fail> {
     check(&rt, rt.alloc(), ORDERS)

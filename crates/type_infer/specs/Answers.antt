@@ -17,20 +17,20 @@ use Rattle.expression_types.specs.Order.{Said, said_at}
 use Rattle.type_steps.specs.Counts.{scheme_count, text_count}
 use Rattle.type_steps.specs.Defs.{HasNoTyping, HoldsBefore, IsTypingOf, KeepsTypings}
 
--- the uses in the text of a def
+-- the uses of names in a def's text, as the rules of typing speak of them
 abbrev pub text_of : KnownDef → List TextUse
 text_of d = map text_use d.uses.items
 
--- the token of a use, what it means, and how many kinds it has
+-- what is told of a use in a def's text: its token, what the name means, and how many kinds it has
 abbrev pub said_in : TextUse → Said
 said_in u = (u.at, Some u.target, Some (length u.kinds))
 
--- the uses are those of the names at these tokens, in order
+-- the uses us are those of the names at the tokens ts, in order, with what ns says of each name
 abbrev pub AreSaidAs : Names → List ℕ → List TextUse → Type 0
 AreSaidAs ns ts us = map said_in us ≡ map (said_at ns) ts
 
--- From s to s' the def d was typed: its general type and the uses in its text give its typings. A typing of the
--- statements before is lost only where d has none. The types of the values now hold the variables h.
+-- A def d was typed, from substitution s to s': t has its general type and the uses in its text, which give its
+-- typings. A typing of the statements before is lost only where d has none. The values' types hold the variables h now.
 pub record IsTypedDef (s s' : Table) (targets : Targets) (before : List Known) (d : Def) (h : HeldVariables)
     (t : KnownDef) : Type 0 where
   pub def : t.def.now ≡ d
@@ -41,13 +41,14 @@ pub record IsTypedDef (s s' : Table) (targets : Targets) (before : List Known) (
   pub typing : IsTypingOf s' targets before (view_def d) (scheme_of t.general) (text_of t)
   pub held : HoldsBefore s' (function (view_def d) (text_of t) ∷ before) h
 
--- There is a solution, and the open kinds of the text have the numbers from 0 in the order of first mention and are as
--- many as the general type has.
+-- A def's open kinds are numbered well: the numbers in its text go from 0 in the order of first mention, and there are
+-- as many as the general type has. The substitution s has a solution.
 pub record IsNumberedDef (s : Table) (d : KnownDef) : Type 0 where
   pub some : (a : Assignment) × Solves a s
   pub numbered : text_count (text_of d) ≡ Some (scheme_count (scheme_of d.general))
 
--- by an answer: the def has this general type and these uses, or without an answer it has no typing
+-- What the answer on a def means: its general type and uses, or without an answer that it has no typing. `before` is
+-- what is bound, and h the variables that values hold afterwards.
 abbrev pub IsDefTyped : Table → Table → Targets → List Known → Def → HeldVariables → Option KnownDef → Type 0
 IsDefTyped s s' targets before d h None = HasNoTyping s targets before (view_def d)
 IsDefTyped s s' targets before d h (Some t) = IsTypedDef s s' targets before d h t

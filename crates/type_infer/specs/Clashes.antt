@@ -6,14 +6,16 @@ use Rattle.typing_rules.specs.declared.fault.TypeFault.TheVariants as fault
 use Rattle.typing_rules.specs.Scripts.{HasTyping, Targets, first_of}
 use Rattle.type_steps.specs.Statements.{HasNoTypings}
 
--- of the first n statements, those before the k-th have a typing, and with the k-th they have none
+-- statement k (counted from 1) is the first clash of types among the first n: those before it can be typed, and with it
+-- they cannot
 pub record IsClashAt (targets : Targets) (script : Script) (n k : ℕ) : Type 0 where
   pub first : 0 < k
   pub last : k ≤ n
   pub before : HasTyping targets (first_of (k - 1) script)
   pub none : HasNoTypings targets (first_of k script)
 
--- a fault is a clash among the first n statements, or want of memory
+-- A fault that typing may tell of the first n statements: a first clash of types, or want of memory. Faults of names
+-- are none of these.
 abbrev pub IsClashIn : Targets → Script → ℕ → TypeFault → Type 0
 IsClashIn targets script n (fault.TypeClash k) = IsClashAt targets script n k
 IsClashIn targets script n fault.Memory = ⊤

@@ -25,47 +25,53 @@ use Rattle.type_infer.specs.PartsOf.{HasNoDef, HaveNoInners, HaveNoParams, Infer
 use Rattle.type_infer.specs.TextUses.{kinds_in, text_uses}
 use Rattle.type_infer.specs.declared.parts.TypedParts.{TypedParts}
 
--- the tokens of the names of parameters
+-- the tokens of the parameters' names, in order
 abbrev pub param_tokens : Tree (Many AParam) → List ℕ
 param_tokens none = []
 param_tokens (more p ps) = token_of p ∷ param_tokens ps
 
--- the type variables of bindings
+-- the type variables of typed names, in order
 abbrev pub vars_named : List TypedName → List ℕ
 vars_named ts = map (λ t. t.var) ts
 
--- the tokens of the names of bindings
+-- the tokens of typed names, in order
 abbrev pub tokens_named : List TypedName → List ℕ
 tokens_named ts = map (λ t. t.at) ts
 
--- from s to s' the parameters were typed, and each stands by its token with its type variable
+-- A def's parameters were typed, from substitution s to s': ts has for each the token of its name and its type
+-- variable. The uses in the defaults were added to `old`, which gives `new`.
 pub record AreTypedParams (s s' : Table) (env : Env) (ps : Tree (Many AParam)) (ts : List TypedName)
     (old new : List Found) : Type 0 where
   pub typed : InfersParams s s' env ps (vars_named ts) old new
   pub named : tokens_named ts ≡ param_tokens ps
 
--- by an answer: the parameters have these type variables, or without an answer a default has no type
+-- What the answer on the parameters means: names with their type variables, or without an answer that some default has
+-- no type. s is the substitution before and s' after, `old` and `new` are the uses.
 abbrev pub AreParamsOf : Table → Table → Env → Tree (Many AParam) → List Found → List Found → Option (List TypedName)
     → Type 0
 AreParamsOf s s' env ps old new None = HaveNoParams s env ps old
 AreParamsOf s s' env ps old new (Some ts) = AreTypedParams s s' env ps ts old new
 
--- by an answer: behind us the bindings in the body lead to vs, or one of them has no type
+-- What the answer on the bindings in a def's body means: true, they lead from the bindings us to the bindings vs;
+-- false, one of them has no type.
 abbrev pub AreInnersOf : Table → Table → Targets → List Known → Tree (Many AnInner) → List (ℕ × Term) → List (ℕ × Term)
     → List Found → List Found → Bool → Type 0
 AreInnersOf s s' targets before is us vs old new false = HaveNoInners s (outside targets before) is us old
 AreInnersOf s s' targets before is us vs old new true = InfersInners s s' (outside targets before) is us vs old new
 
--- behind the parameters us the bindings in the body have types, and the result has the type g behind them
+-- A def's body has a result of type g behind the parameters us: its inner bindings have some types ws, and the result e
+-- has type g behind these.
 abbrev pub BodyHas : Env → Places → Assignment → Tree (Many AnInner) → Tree AnExpr → TypesByToken → Ground → Type 0
 BodyHas env kinds a is e us g = (ws : TypesByToken) × InnersHave (sight_under env a kinds) is us ws
     × Has (within ws (sight_under env a kinds)) e g
 
--- at an assignment, variable n is the type g and the uses fs have their kinds at the places
+-- The claim on an assignment b: it gives type variable n the type g, and each use in fs the kinds that are told for its
+-- place.
 abbrev pub ResultAs : Env → Places → ℕ → Ground → List Found → Assignment → Type 0
 ResultAs env kinds n g fs b = (b.type_of n ≡ g) × AreFound env b kinds fs
 
--- behind the parameters us, the body has a result whose type is variable n of s'
+-- A def's body was typed behind the parameters us, from substitution s to s': variable n is the type of its result. Its
+-- uses were added to `old`, which gives `new`.
 pub record InfersBody (s s' : Table) (env : Env) (is : Tree (Many AnInner)) (e : Tree AnExpr) (us : List (ℕ
     × Term)) (n : ℕ) (old new : List Found) : Type 0 where
   pub inside : n < length s'.types
@@ -77,24 +83,27 @@ pub record InfersBody (s s' : Table) (env : Env) (is : Tree (Many AnInner)) (e :
       → BodyHas env kinds a is e (types_under a us) g → AreFound env a kinds old
       → Reached s s' a (ResultAs env kinds n g new)
 
--- at no solution of s, with kinds at the places as the old uses say, the body has a type behind the parameters us
+-- A def's body cannot be typed behind the parameters us: no solution of the substitution s does so together with the
+-- uses `old` that were found before.
 abbrev pub HasNoBody : Table → Env → Tree (Many AnInner) → Tree AnExpr → List (ℕ × Term) → List Found → Type 0
 HasNoBody s env is e us old = (a : Assignment) → Solves a s → (kinds : Places) (g : Ground)
     → BodyHas env kinds a is e (types_under a us) g → AreFound env a kinds old → ⊥
 
--- by an answer: the body's result has this type variable, or without a number the body has no type
+-- What the answer on a def's body means: a number is the type variable of its result, and no number says that the body
+-- has no type.
 abbrev pub IsBodyOf : Table → Table → Targets → List Known → Tree (Many AnInner) → Tree AnExpr → List (ℕ × Term)
     → List Found → List Found → Option ℕ → Type 0
 IsBodyOf s s' targets before is e us old new None = HasNoBody s (outside targets before) is e us old
 IsBodyOf s s' targets before is e us old new (Some n) = InfersBody s s' (outside targets before) is e us n old new
 
--- by an answer: the def's parts have these type variables, or without an answer the def has no typing
+-- What the answer on a def means: the type variables of its parameters and its result, or without an answer that the
+-- def has no typing.
 abbrev pub ArePartsOf : Table → Table → Targets → List Known → Tree ADef → List Found → Option TypedParts → Type 0
 ArePartsOf s s' targets before d new None = HasNoDef s (outside targets before) d
 ArePartsOf s s' targets before d new (Some p) = InfersDef s s' (outside targets before) d p.params.items p.result new
 
--- The types of a def, whose parts have these variables and uses, were made general in all variables that no value
--- holds.
+-- g and its text are the general type of a def, whose parts p and uses fs were typed under the substitution s. It is
+-- general in all variables that no value holds; h are those that values hold.
 pub record IsGeneralType (s : Table) (h : HeldVariables) (p : TypedParts) (fs : List Found) (g : Scheme)
     (text : List TextKind) : Type 0 where
   pub numbered : IsNumberedText g text
@@ -103,7 +112,8 @@ pub record IsGeneralType (s : Table) (h : HeldVariables) (p : TypedParts) (fs : 
   pub general : (names : List Term) → IsHeldBy s names h
       → IsGeneral s names (map variable p.params.items) (variable p.result) (kinds_in fs) g text
 
--- the def d with the general type that was made of it, whose text has these uses
+-- What is kept of a def d: the def, its token, its parameters' names, the general type that was made of it, and its
+-- uses with the general kinds.
 pub record IsKnownDef (d : Def) (fs : List Found) (made : DefType) (t : KnownDef) : Type 0 where
   pub def : t.def.now ≡ d
   pub at : t.at ≡ def_token (view_def d)
@@ -111,8 +121,8 @@ pub record IsKnownDef (d : Def) (fs : List Found) (made : DefType) (t : KnownDef
   pub general : t.general ≡ made.general
   pub text : text_of t ≡ text_uses fs made.text.items
 
--- A def whose parts have these variables and uses was made general in all variables that no value holds: h were held at
--- an earlier substitution, h' are held now.
+-- A typed def d was made general in all variables that no value holds, and t is what is kept of it. p and fs are the
+-- types of its parts and its uses. Values held h at an earlier substitution, and hold h' now.
 pub record IsGeneralDef (s : Table) (h h' : HeldVariables) (d : Def) (p : TypedParts) (fs : List Found)
     (t : KnownDef) : Type 0 where
   pub made : DefType

@@ -9,17 +9,18 @@ use Rattle.general_types.specs.Holding.{HeldVariables, IsHeldBy, SameTypes}
 use Rattle.type_steps.specs.Environment.{Known, texts_under}
 use Rattle.type_steps.specs.Defs.{terms_before}
 
--- these types with the type variables before them, the last variable first
+-- the list `types` with these type variables put in front one by one, so that the last variable comes first: the values
+-- that were bound since
 abbrev pub terms_since : List ℕ → List Term → List Term
 terms_since [] types = types
 terms_since (n ∷ ns) types = terms_since ns (variable n ∷ types)
 
--- each of these type variables is one of the substitution
+-- each of these numbers is that of a type variable of the substitution s
 abbrev pub AreValues : Table → List ℕ → Type 0
 AreValues s ns = All (λ n. n < length s.types) ns
 
--- At an earlier substitution some types held these variables, and the values have these types and, bound since, the
--- pending variables. The texts of the defs hold no others now: they are the same where the values have the same types.
+-- The free variables of the values' types may be out of date. At an earlier substitution they were h; the values bound
+-- since have the types `pending`, which were not looked through yet. The texts of the defs hold no others.
 pub record HoldsLater (s : Table) (before : List Known) (h : HeldVariables) (pending : List ℕ) : Type 0 where
   pub earlier : Table
   pub follows : Follows earlier s
@@ -30,12 +31,13 @@ pub record HoldsLater (s : Table) (before : List Known) (h : HeldVariables) (pen
   pub texts : (a b : Assignment) → Solves a s → Solves b s → SameTypes (terms_before before) a b
       → texts_under a before ≡ texts_under b before
 
--- `new` is what the types hold with these type variables besides, where `old` is what they hold
+-- Free variables were gathered of more values: where `old` is what some types hold, `new` is what they hold with the
+-- type variables ns besides.
 abbrev pub AddsValues : Table → List ℕ → HeldVariables → HeldVariables → Type 0
 AddsValues s ns old new = (types : List Term) → IsHeldBy s types old → IsHeldBy s (terms_since ns types) new
 
--- `new` is what the types hold at the substitution `now` with these variables besides, where `old` is what they held at
--- an earlier one
+-- Free variables were brought up to date: where `old` is what some types held at an earlier substitution, `new` is what
+-- they hold at `now`, with the type variables ns besides.
 abbrev pub IsRenewed : Table → List ℕ → HeldVariables → HeldVariables → Type 0
 IsRenewed now ns old new = (s : Table) (types : List Term) → Follows s now → IsHeldBy s types old
     → IsHeldBy now (terms_since ns types) new

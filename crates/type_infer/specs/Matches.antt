@@ -11,36 +11,36 @@ use Rattle.type_steps.specs.Counts.{count_at, scheme_count}
 use Rattle.expression_types.specs.Seen.{def_seen}
 use Rattle.expression_types.specs.declared.environment.KnownDef.{KnownDef}
 
--- a token, and what the name there means
+-- the name at a token with what it means by the targets
 abbrev pub aimed : Targets → ℕ → Meaning
 aimed targets t = (t, targets t)
 
--- the names mean what the targets say at their tokens
+-- each of these names means what the targets say at its token
 abbrev pub AreAimed : Targets → List Meaning → Type 0
 AreAimed targets [] = ⊤
 AreAimed targets (m ∷ ms) = (targets m.0 ≡ m.1) × AreAimed targets ms
 
--- how many open kinds the general type of a def has
+-- how many kinds the general type of a def leaves open for each use to choose
 abbrev pub opens_of : KnownDef → ℕ
 opens_of d = scheme_count (scheme_of d.general)
 
--- a use of this target has n kinds, by the program's defs: a value has none, and a def or a builtin has its open ones
+-- a use of this target has n kinds: none for a value, and as many for a def or a builtin as its type leaves open
 abbrev pub HasCountIn : List KnownDef → Target → ℕ → Type 0
 HasCountIn ds (target.Slot t) n = n ≡ 0
 HasCountIn ds (target.Def t) n = option_map opens_of (def_seen t ds) ≡ Some n
 HasCountIn ds (target.Builtin b) n = n ≡ (signature b).kinds
 
--- each use that was found has as many kinds as its target has open ones
+-- each use that was found has as many kinds as the type of its target leaves open
 abbrev pub HaveCountsIn : List KnownDef → List Found → Type 0
 HaveCountsIn ds [] = ⊤
 HaveCountsIn ds (f ∷ fs) = HasCountIn ds f.target (length f.kinds) × HaveCountsIn ds fs
 
--- each use in a text has as many kinds as its target has open ones
+-- each use in a def's text has as many kinds as the type of its target leaves open
 abbrev pub IsTextCountedIn : List KnownDef → List TextUse → Type 0
 IsTextCountedIn ds [] = ⊤
 IsTextCountedIn ds (u ∷ us) = HasCountIn ds u.target (length u.kinds) × IsTextCountedIn ds us
 
--- The text of each def that is found by its token is the newest there, and numbers as many open kinds as its general
--- type has.
+-- Each def that is found by its token has as many open kinds in its text as in its general type. Of defs by one token
+-- the newest counts.
 pub record AreNumberedDefs (ds : List KnownDef) (before : List Known) : Type 0 where
   pub each : (t : ℕ) (d : KnownDef) → def_seen t ds ≡ Some d → count_at t before ≡ Some (opens_of d)

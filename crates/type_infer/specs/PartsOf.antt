@@ -11,26 +11,29 @@ use Rattle.typing_rules.specs.Typing.{DefHas, DefaultHas, DefaultsHave, InnersHa
 use Rattle.type_steps.specs.Environment.{AreFound, AreTypesOver, AreUsesOver, Env, Found, sight_under, types_under}
 use Rattle.type_steps.specs.Flow.{Reached}
 
--- what is seen in a def behind these parameters and inner bindings
+-- the environment inside a def: `env` from outside, with the parameters and inner bindings us, each a token with its
+-- type
 abbrev pub with_inner : Env → List (ℕ × Term) → Env
 with_inner env us = record { targets = env.targets; before = env.before; inner = us }
 
--- each of these type variables is one of the substitution
+-- each of these numbers is that of a type variable of the substitution s
 abbrev pub AreVars : Table → List ℕ → Type 0
 AreVars s [] = ⊤
 AreVars s (n ∷ ns) = (n < length s.types) × AreVars s ns
 
--- the types of variables under an assignment
+-- the ground types that an assignment gives these type variables
 abbrev pub types_at : Assignment → List ℕ → List Ground
 types_at a ns = map a.type_of ns
 
 -- ---- parameters
 
--- at an assignment, variable n is the type t and the uses fs have their kinds at the places
+-- The claim on an assignment b: it gives type variable n the type t, and each use in fs the kinds that are told for its
+-- place.
 abbrev pub VarAs : Env → Places → ℕ → Ground → List Found → Assignment → Type 0
 VarAs env kinds n t fs b = (b.type_of n ≡ t) × AreFound env b kinds fs
 
--- From s to s' a parameter was given type variable n; the uses in its default were added to `old`, which gives `new`.
+-- A parameter was typed, from substitution s to s': the solutions of s' are the typings of its default, whose type is
+-- variable n. The uses in the default were added to `old`, which gives `new`.
 pub record InfersParam (s s' : Table) (env : Env) (p : Tree AParam) (n : ℕ) (old new : List Found) : Type 0 where
   pub inside : n < length s'.types
   pub uses : AreUsesOver s' new
@@ -40,22 +43,25 @@ pub record InfersParam (s s' : Table) (env : Env) (p : Tree AParam) (n : ℕ) (o
   pub complete : (a : Assignment) → Solves a s → (kinds : Places) (t : Ground)
       → DefaultHas (sight_under env a kinds) p t → AreFound env a kinds old → Reached s s' a (VarAs env kinds n t new)
 
--- at no solution of s, with kinds at the places as the old uses say, the parameter has a type
+-- A parameter's default cannot be typed: no solution of the substitution s gives it a type together with the uses `old`
+-- that were found before.
 abbrev pub HasNoParam : Table → Env → Tree AParam → List Found → Type 0
 HasNoParam s env p old = (a : Assignment) → Solves a s → (kinds : Places) (t : Ground)
     → DefaultHas (sight_under env a kinds) p t → AreFound env a kinds old → ⊥
 
--- by an answer: the parameter has this type variable, or without a number its default has no type
+-- What the answer on a parameter means: a number is its type variable, and no number says that its default has no type.
+-- s is the substitution before and s' after, `old` and `new` are the uses.
 abbrev pub IsParamOf : Table → Table → Env → Tree AParam → List Found → List Found → Option ℕ → Type 0
 IsParamOf s s' env p old new None = HasNoParam s env p old
 IsParamOf s s' env p old new (Some n) = InfersParam s s' env p n old new
 
--- at an assignment, the variables ns are the types ts and the uses fs have their kinds at the places
+-- The claim on an assignment b: it gives the type variables ns the types ts, and each use in fs the kinds that are told
+-- for its place.
 abbrev pub VarsAs : Env → Places → List ℕ → List Ground → List Found → Assignment → Type 0
 VarsAs env kinds ns ts fs b = (types_at b ns ≡ ts) × AreFound env b kinds fs
 
--- From s to s' the parameters were given the type variables ns; the uses in their defaults were added to `old`, which
--- gives `new`.
+-- A def's parameters were typed, from substitution s to s': the solutions of s' are the typings of their defaults,
+-- whose types are the variables ns. The uses in the defaults were added to `old`, which gives `new`.
 pub record InfersParams (s s' : Table) (env : Env) (ps : Tree (Many AParam)) (ns : List ℕ) (old new : List Found) : Type
     0 where
   pub inside : AreVars s' ns
@@ -67,18 +73,21 @@ pub record InfersParams (s s' : Table) (env : Env) (ps : Tree (Many AParam)) (ns
       → DefaultsHave (sight_under env a kinds) ps ts → AreFound env a kinds old
       → Reached s s' a (VarsAs env kinds ns ts new)
 
--- at no solution of s, with kinds at the places as the old uses say, these parameters all have types
+-- The parameters' defaults cannot all be typed: no solution of the substitution s gives them types together with the
+-- uses `old` that were found before.
 abbrev pub HaveNoParams : Table → Env → Tree (Many AParam) → List Found → Type 0
 HaveNoParams s env ps old = (a : Assignment) → Solves a s → (kinds : Places) (ts : List Ground)
     → DefaultsHave (sight_under env a kinds) ps ts → AreFound env a kinds old → ⊥
 
 -- ---- the bindings in the body
 
--- at an assignment, the bindings vs have the types ts and the uses fs have their kinds at the places
+-- The claim on an assignment b: it gives the bindings vs the types ts, and each use in fs the kinds that are told for
+-- its place.
 abbrev pub TypesAs : Env → Places → List (ℕ × Term) → TypesByToken → List Found → Assignment → Type 0
 TypesAs env kinds vs ts fs b = (types_under b vs ≡ ts) × AreFound env b kinds fs
 
--- Behind the bindings us, the bindings in a body lead to the bindings vs; `env` is what is seen outside of the def.
+-- The bindings in a def's body were typed, from substitution s to s'. us is bound before them and vs after them, each a
+-- token with its type; `env` is what is seen outside of the def. Their uses were added to `old`, which gives `new`.
 pub record InfersInners (s s' : Table) (env : Env) (is : Tree (Many AnInner)) (us vs : List (ℕ
     × Term)) (old new : List Found) : Type 0 where
   pub over : AreTypesOver s' vs
@@ -90,20 +99,21 @@ pub record InfersInners (s s' : Table) (env : Env) (is : Tree (Many AnInner)) (u
       → InnersHave (sight_under env a kinds) is (types_under a us) ts → AreFound env a kinds old
       → Reached s s' a (TypesAs env kinds vs ts new)
 
--- at no solution of s, with kinds at the places as the old uses say, these bindings all have types behind us
+-- The bindings in a def's body cannot all be typed behind the bindings us: no solution of the substitution s does so
+-- together with the uses `old` that were found before.
 abbrev pub HaveNoInners : Table → Env → Tree (Many AnInner) → List (ℕ × Term) → List Found → Type 0
 HaveNoInners s env is us old = (a : Assignment) → Solves a s → (kinds : Places) (ts : TypesByToken)
     → InnersHave (sight_under env a kinds) is (types_under a us) ts → AreFound env a kinds old → ⊥
 
 -- ---- the def
 
--- at an assignment, the parameters have the types ts, the result has the type g, and the uses fs have their kinds at
--- the places
+-- The claim on an assignment b: it gives the parameters ns the types ts, the result n the type g, and each use in fs
+-- the kinds that are told for its place.
 abbrev pub DefAs : Env → Places → List ℕ → ℕ → List Ground → Ground → List Found → Assignment → Type 0
 DefAs env kinds ns n ts g fs b = (types_at b ns ≡ ts) × (b.type_of n ≡ g) × AreFound env b kinds fs
 
--- From s to s' the def was found to have parameters with the type variables ns and a result with the type variable n,
--- and its text has the uses fs.
+-- A def was typed, from substitution s to s': the solutions of s' are its typings, where its parameters have the
+-- variables ns and its result has variable n. Its text has the uses fs.
 pub record InfersDef (s s' : Table) (env : Env) (d : Tree ADef) (ns : List ℕ) (n : ℕ) (fs : List Found) : Type 0 where
   pub params : AreVars s' ns
   pub result : n < length s'.types
@@ -114,7 +124,7 @@ pub record InfersDef (s s' : Table) (env : Env) (d : Tree ADef) (ns : List ℕ) 
   pub complete : (a : Assignment) → Solves a s → (kinds : Places) (ts : List Ground) (g : Ground)
       → DefHas (sight_under env a kinds) d ts g → Reached s s' a (DefAs env kinds ns n ts g fs)
 
--- at no solution of s the def has a typing
+-- a def cannot be typed: no solution of the substitution s gives its parameters and its result types
 abbrev pub HasNoDef : Table → Env → Tree ADef → Type 0
 HasNoDef s env d = (a : Assignment) → Solves a s → (kinds : Places) (ts : List Ground) (g : Ground)
     → DefHas (sight_under env a kinds) d ts g → ⊥

@@ -9,13 +9,14 @@ use Rattle.expression_types.specs.declared.environment.Known.TheVariants as know
 use Rattle.expression_types.specs.declared.environment.KnownDef.{KnownDef}
 use Rattle.type_steps.specs.Defs.{outside}
 
--- the defs that statements have bound have indexes below n
+-- each def that statements have bound is named by an index below n, the count of defs
 abbrev pub AreAmong : ℕ → List AKnown → Type 0
 AreAmong n [] = ⊤
 AreAmong n (known.Value v ∷ ks) = AreAmong n ks
 AreAmong n (known.Function i ∷ ks) = (i < n) × AreAmong n ks
 
--- What statements have bound, and the defs: each def's calls are the instances of its general type.
+-- The bound names bs and the defs ds fit together: each def that is named is there, the types have only variables of
+-- the substitution, and a def is called at just the instances of its general type.
 pub record AreSeenDefs (s : Table) (targets : Targets) (bs : List AKnown) (ds : List KnownDef) : Type 0 where
   pub here : AreAmong (length ds) bs
   pub over : AreKnownOver s (newest_first ds bs)

@@ -13,50 +13,56 @@ use Rattle.typing_rules.specs.declared.uses.Use.{Use}
 use Rattle.type_steps.specs.Environment.{AreUsesOver, Found, IsTextOver, Pending, TextUse, settled, settled_use}
 use Rattle.type_steps.specs.Statements.{Done, bound, defined, found_use, ran, uses_under}
 
--- r is the kind k under the default solution
+-- r is the final kind of the kind term k: what it comes to when all that substitution s leaves open takes its default
 abbrev pub IsSettledKind : Table → KindTerm → Kind → Type 0
 IsSettledKind s k r = (d : HasDefaults s) → r ≡ kind_meaning d.at k
 
--- rs are the kinds ks under the default solution
+-- rs are the final kinds of the kind terms ks, when all that substitution s leaves open takes its default
 abbrev pub AreSettledKinds : Table → List KindTerm → List KindOf → Type 0
 AreSettledKinds s ks rs = (d : HasDefaults s) → rs ≡ map (λ k. Fixed (kind_meaning d.at k)) ks
 
--- r is a kind k in the text of a def under the default solution
+-- r is the final form of a kind in a def's text: one that is open in the def stays open, and any other takes its
+-- default where substitution s leaves it open
 abbrev pub IsSettledText : Table → Pending → KindOf → Type 0
 IsSettledText s k r = (d : HasDefaults s) → r ≡ settled d.at k
 
--- rs are kinds ks in the text of a def under the default solution
+-- rs are the final forms of kinds in a def's text: those that are open in the def stay open, and others take their
+-- default where substitution s leaves them open
 abbrev pub AreSettledTexts : Table → List Pending → List KindOf → Type 0
 AreSettledTexts s ks rs = (d : HasDefaults s) → rs ≡ map (settled d.at) ks
 
--- the uses that were found outside of defs were added under the default solution
+-- The uses fs found outside of defs were added to the list `old` in their final form, with all that substitution s
+-- leaves open at its default.
 abbrev pub AddsFounds : Table → List Found → List Use → List Use → Type 0
 AddsFounds s fs old new = (d : HasDefaults s) → new ≡ old ++ map (found_use d.at) fs
 
--- the uses in the text of a def were added under the default solution
+-- The uses us in a def's text were added to the list `old` in their final form, with all that substitution s leaves
+-- open at its default.
 abbrev pub AddsTexts : Table → List TextUse → List Use → List Use → Type 0
 AddsTexts s us old new = (d : HasDefaults s) → new ≡ old ++ map (settled_use d.at) us
 
--- the uses that statements have left were added under the default solution
+-- The uses that the typed statements xs have left were added to the list `old` in their final form, with all that
+-- substitution s leaves open at its default.
 abbrev pub AddsDones : Table → List Done → List Use → List Use → Type 0
 AddsDones s xs old new = (d : HasDefaults s) → new ≡ old ++ uses_under d.at xs
 
--- us are the uses that statements have left, under the default solution
+-- us are the uses of the typed statements xs in their final form, with all that substitution s leaves open at its
+-- default
 abbrev pub AreDefaultOf : Table → List Done → List Use → Type 0
 AreDefaultOf s xs us = (d : HasDefaults s) → us ≡ uses_under d.at xs
 
--- a kind after all bindings were followed: a variable that nothing binds is stereo
+-- the final kind of a kind whose bindings were all followed: a variable that nothing binds is stereo
 abbrev pub free_kind : KindTerm → Kind
 free_kind (term.Fixed k) = k
 free_kind (term.Var n) = Stereo
 
--- the kinds that a statement has left have only variables of the substitution
+-- the kinds of a typed statement's uses name only variables of the substitution s
 abbrev pub IsDoneOver : Table → Done → Type 0
 IsDoneOver s (bound t u fs) = AreUsesOver s fs
 IsDoneOver s (defined d us) = IsTextOver s us
 IsDoneOver s (ran fs) = AreUsesOver s fs
 
--- the kinds that statements have left have only variables of the substitution
+-- the kinds of all typed statements' uses name only variables of the substitution s
 abbrev pub AreDonesOver : Table → List Done → Type 0
 AreDonesOver s [] = ⊤
 AreDonesOver s (x ∷ xs) = IsDoneOver s x × AreDonesOver s xs

@@ -29,14 +29,14 @@ use Rattle.type_infer.specs.declared.steps.TypedExpr.{TypedExpr}
 
 -- ---- one expression
 
--- a type and the uses that were found, under a substitution that has a solution
+-- an expression was noted with this type variable and these uses, under a substitution s that has a solution
 pub record IsNoted (s : Table) (var : ℕ) (uses : List FoundUse) (t : TypedExpr) : Type 0 where
   pub some : (a : Assignment) × Solves a s
   pub same : t.var ≡ var
   pub uses_are : t.uses.items ≡ uses
 
--- From s to s' the expression was typed. Its uses are its names in order, with their targets, and each has as many
--- kinds as what it means has open ones.
+-- An expression was typed, from substitution s to s': t has its type variable and its uses. These are its names in
+-- order, with what they mean, and each has as many kinds as the type of its target leaves open.
 pub record IsTypedWith (s s' : Table) (env : Env) (ds : List KnownDef) {r : Sort} (e : Tree r) (t : TypedExpr) : Type 0
   where
     pub infers : Infers s s' env e (variable t.var) [] (founds t.uses.items)
@@ -44,41 +44,42 @@ pub record IsTypedWith (s s' : Table) (env : Env) (ds : List KnownDef) {r : Sort
     pub named : map found_said (founds t.uses.items) ≡ map (aimed env.targets) (tokens_used e)
     pub counted : HaveCountsIn ds (founds t.uses.items)
 
--- by an answer: the expression has this type and these uses, or without an answer it has no type
+-- what the answer on an expression means: a type variable with its uses, or without an answer that it has no type
 abbrev pub IsTypedAs : Table → Table → Env → List KnownDef → {r : Sort} → Tree r → Option TypedExpr → Type 0
 IsTypedAs s s' env ds e None = HasNoType s env e []
 IsTypedAs s s' env ds e (Some t) = IsTypedWith s s' env ds e t
 
 -- ---- the statements that were typed
 
--- what the typed statements have bound, the newest first
+-- what the statements typed so far have bound, the newest first, as the rules look names up
 abbrev pub knowns : Typing → List Known
 knowns t = newest_first t.defs t.before
 
--- what each typed statement has left
+-- what each statement typed so far has left for the end: its bound name, its def or its uses
 abbrev pub dones : Typing → List Done
 dones t = dones_in t.defs t.steps.items
 
--- what is to hold before a statement is typed
+-- The state of typing may take one more statement: its bound names and defs are in order, the free variables of values
+-- are known as of an earlier substitution, and each def is there.
 pub record IsReady (targets : Targets) (t : Typing) : Type 0 where
   pub seen : AreSeenDefs t.subst targets t.before t.defs
   pub holds : HoldsLater t.subst (knowns t) t.held t.pending.items
   pub numbered : AreNumberedDefs t.defs (knowns t)
   pub there : AreThere (length t.defs) t.steps.items
 
--- The solutions are the typings of the script, and what its statements have left has the uses of all names with their
--- kinds.
+-- The state of typing stands for a script: the solutions of its substitution are the typings of the script, and what
+-- the statements have left has all uses with their kinds.
 pub record IsTypedSo (targets : Targets) (script : Script) (t : Typing) : Type 0 where
   pub known : knowns t ≡ known_of (dones t)
   pub typings : AreTypings t.subst targets script (dones t)
   pub whole : AreWhole script (dones t)
 
--- the state of typing after a script: its typings, and ready for the next statement
+-- the state of typing after a script: it stands for its typings, and may take one more statement
 pub record IsAfter (targets : Targets) (script : Script) (t : Typing) : Type 0 where
   pub ready : IsReady targets t
   pub typed : IsTypedSo targets script t
 
--- the lists of a typing may have room for more, and nothing else has changed
+-- the state of typing is the same in all that it holds; only the room of its lists may have grown
 pub record IsSameTyping (old new : Typing) : Type 0 where
   pub subst : new.subst ≡ old.subst
   pub before : new.before ≡ old.before
@@ -87,29 +88,33 @@ pub record IsSameTyping (old new : Typing) : Type 0 where
   pub held : new.held ≡ old.held
   pub pending : new.pending.items ≡ old.pending.items
 
--- The statement s stands behind a script: the targets say what its names mean there, and its tokens are in place.
+-- A statement s may come next behind a script: the targets say what its names mean there, and its tokens are numbered
+-- as they stand.
 pub record IsNext (targets : Targets) (script : Script) (s : Tree AStmt) : Type 0 where
   pub aimed : AreAimed targets (map meant (names (scope_after [] script) s))
   pub placed : IsPlaced 0 (with_last script s)
 
--- behind any script with this state, the part was typed as the next statement
+-- Typing took one statement more: behind any script that `old` stands for, `new` is the state after this part of a
+-- statement.
 abbrev pub IsMore : Targets → Tree APart → Typing → Typing → Type 0
 IsMore targets part old new = (script : Script) (semicolon : Bool) → IsTypedSo targets script old
     → IsNext targets script (Stmt part semicolon) → IsAfter targets (with_last script (Stmt part semicolon)) new
 
--- behind any script with this state, the part as the next statement leaves no typing
+-- Typing fails at one statement more: behind any script that `old` stands for, no typing has this part as the next
+-- statement.
 abbrev pub IsNoMore : Targets → Tree APart → Typing → Type 0
 IsNoMore targets part old = (script : Script) (semicolon : Bool) → IsTypedSo targets script old
     → HasNoTypings targets (with_last script (Stmt part semicolon))
 
--- if true, the part was typed as one statement more; if false, there is no typing with it
+-- What the answer on one statement more means: true, it was typed; false, no typing has it.
 abbrev pub IsStepped : Targets → Tree APart → Typing → Typing → Bool → Type 0
 IsStepped targets part old new true = IsMore targets part old new
 IsStepped targets part old new false = IsNoMore targets part old
 
 -- ---- what is kept of a statement
 
--- a binding of the name at a token was kept, with the uses of its value
+-- The state of typing kept a binding of a name: the token `at`, the type variable and uses of its value, which is
+-- pending to be looked through for free variables.
 pub record IsValueKept (at : ℕ) (e : TypedExpr) (old new : Typing) : Type 0 where
   pub subst : new.subst ≡ old.subst
   pub before : new.before ≡ old.before ++ known.Value (record { at = at; var = e.var }) ∷ []
@@ -118,7 +123,7 @@ pub record IsValueKept (at : ℕ) (e : TypedExpr) (old new : Typing) : Type 0 wh
   pub held : new.held ≡ old.held
   pub pending : new.pending.items ≡ old.pending.items ++ e.var ∷ []
 
--- the uses of a call or an `if` that runs were kept
+-- the state of typing kept the uses of a statement that only runs: a call or an `if`
 pub record IsRunKept (e : TypedExpr) (old new : Typing) : Type 0 where
   pub subst : new.subst ≡ old.subst
   pub before : new.before ≡ old.before
@@ -127,7 +132,7 @@ pub record IsRunKept (e : TypedExpr) (old new : Typing) : Type 0 where
   pub held : new.held ≡ old.held
   pub pending : new.pending.items ≡ old.pending.items
 
--- a def was kept, behind the other defs
+-- the state of typing kept a def, behind the other defs
 pub record IsDefKept (d : KnownDef) (old new : Typing) : Type 0 where
   pub subst : new.subst ≡ old.subst
   pub before : new.before ≡ old.before ++ known.Function (length old.defs) ∷ []
@@ -136,7 +141,8 @@ pub record IsDefKept (d : KnownDef) (old new : Typing) : Type 0 where
   pub held : new.held ≡ old.held
   pub pending : new.pending.items ≡ old.pending.items
 
--- the uses of the statements under the default solution, where no fault of names is told
+-- The answer of typing where the names have no fault: the uses of all statements, with what is still open put at its
+-- default.
 pub record AreDefaultUses (t : Typing) (fault : Option TypeFault) (uses : List Use) : Type 0 where
   pub faultless : fault ≡ None
   pub default : HasDefaults t.subst

@@ -10,28 +10,28 @@ use Rattle.type_infer.specs.Answers.{text_of}
 use Rattle.type_infer.specs.declared.steps.Step.{Step}
 use Rattle.type_infer.specs.declared.steps.Step.TheVariants as step
 
--- what a def leaves, as a list; empty without a def
+-- what a def's statement leaves, as a list of one: the def with the uses in its text; empty where no def is given
 abbrev pub defined_as : Option KnownDef → List Done
 defined_as None = []
 defined_as (Some d) = defined (view_def d.def.now) (text_of d) ∷ []
 
--- what a step has left, where the defs are these
+-- what a typed statement (a step) has left for the end, where a def is named by its index in ds
 abbrev pub done_in : List KnownDef → Step → List Done
 done_in ds (step.Bound n us) = bound n.at (variable n.var) (founds us.items) ∷ []
 done_in ds (step.Defined i) = defined_as (slice_get ds i)
 done_in ds (step.Ran us) = ran (founds us.items) ∷ []
 
--- what steps have left, where the defs are these
+-- what all typed statements have left for the end, in order, where a def is named by its index in ds
 abbrev pub dones_in : List KnownDef → List Step → List Done
 dones_in ds xs = flat_map (done_in ds) xs
 
--- the def of a step has an index below n; a step without a def has no need of one
+-- if a step is a def, its index is below n, the count of defs; other steps name none
 abbrev pub IsThere : ℕ → Step → Type 0
 IsThere n (step.Bound x us) = ⊤
 IsThere n (step.Defined i) = i < n
 IsThere n (step.Ran us) = ⊤
 
--- each step's def has an index below n
+-- each step that is a def has an index below n, the count of defs
 abbrev pub AreThere : ℕ → List Step → Type 0
 AreThere n [] = ⊤
 AreThere n (x ∷ xs) = IsThere n x × AreThere n xs

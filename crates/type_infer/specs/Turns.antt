@@ -6,7 +6,8 @@ use Rattle.type_infer.specs.Clashes.{IsClashAt}
 use Rattle.type_infer.specs.States.{IsAfter}
 use Rattle.type_infer.specs.declared.steps.Typing.{Typing}
 
--- of the first n statements, the one behind the first i was typed; or it is the first clash
+-- What the answer on statement i (counted from 0) among the first n means: true, t is the state after it; false, it is
+-- the first clash of types.
 abbrev pub IsTurned : Targets → Script → ℕ → ℕ → Typing → Bool → Type 0
 IsTurned targets script n i t true = IsAfter targets (first_of (i + 1) script) t
 IsTurned targets script n i t false = IsClashAt targets script n (i + 1)

@@ -80,15 +80,15 @@ fn type_def_with<'a>(
     }
 }
 
-/// The type of a def's result, which is a type variable.
+/// The type of a def's result: the type variable that typing its parts found for it.
 fn answer_of(parts: &TypedParts) -> Ty
     ensures { term_of result ≡ variable parts.now.result }
 {
     Ty::Var(parts.result)
 }
 
-/// The def with its general type and the uses of its text, once its parts have types. What is held is brought up to the
-/// substitution, without the def.
+/// Makes a def general once its parts have types, and answers it with its general type and the uses of its text.
+/// Before that, `held` (the free variables of earlier values) is brought up to the substitution.
 fn general_def<'a>(
     alloc: Global,
     subst: &Subst,
@@ -111,7 +111,7 @@ fn general_def<'a>(
     Ok(known)
 }
 
-/// The general type of a def whose parts were typed, with the kinds at the uses of its text.
+/// The general type of a def whose parts were typed, with the general kinds at the uses of its text.
 fn general_type(
     alloc: Global,
     subst: &Subst,
@@ -130,8 +130,8 @@ fn general_type(
     general_type_with(alloc, subst, held, parts, uses, &mut params, &mut kinds)
 }
 
-/// The general type of a def whose parts were typed, with the kinds at the uses of its text. The lists for the
-/// parameters' types and the text's kinds are empty at first.
+/// The general type of a def whose parts were typed, with the general kinds at the uses of its text. `params` and
+/// `kinds` are empty lists at first, for the parameters' types and the text's kinds.
 fn general_type_with(
     alloc: Global,
     subst: &Subst,
@@ -163,7 +163,7 @@ fn general_type_with(
     Ok(made)
 }
 
-/// A def with its general type and the uses in its text.
+/// What is kept of a typed def: its token, its parameters' names, its general type, and the uses in its text.
 fn known_def<'a>(
     alloc: Global,
     def: &'a Def,

@@ -22,8 +22,8 @@ pub struct Front {
     pub fault: Option<TypeFault>,
 }
 
-/// What the names of the statements before the first with a fault of names mean, and that fault. `Memory` also where
-/// there are 2^32 statements and more.
+/// Resolves the names of a script up to its first fault of names: what they mean, in how many statements, and that
+/// fault. `Memory` also where there are 2^32 statements and more.
 pub fn resolve_front(alloc: Global, statements: &[Stmt]) -> Result<Front, Memory>
     ensures { IfOk result (λ f. IsFront (map view_stmt statements.now) f.count (map resolved f.all.items) f.fault) }
 {
@@ -32,8 +32,8 @@ pub fn resolve_front(alloc: Global, statements: &[Stmt]) -> Result<Front, Memory
     resolve_each(alloc, &mut scope, &mut notes, statements)
 }
 
-/// What the names of the statements before the first with a fault of names mean, and that fault. The scope has no names
-/// at first, and `notes` no fault.
+/// Resolves the names of statements one by one, up to the first fault of names: what they mean, in how many
+/// statements, and that fault. The scope has no names at first, and `notes` no fault.
 fn resolve_each<'a>(
     alloc: Global,
     scope: &mut Scope<'a>,

@@ -22,7 +22,8 @@ pub struct TypedParts {
     pub result: u64,
 }
 
-/// The type variables of a def's parameters and of its result; `None` where it has no typing.
+/// Types the parts of a def: the type variables of its parameters and of its result, or `None` where it has no
+/// typing. The uses in it are added to `uses`.
 pub fn type_parts(
     alloc: Global,
     subst: &mut Subst,
@@ -52,8 +53,8 @@ pub fn type_parts(
     }
 }
 
-/// The number of a parameter's type variable: that of its default, where it has one, and a new one otherwise. `None`
-/// where the default has no type.
+/// Types a parameter of a def: the number of its type variable, which is that of its default, where it has one, and a
+/// new one otherwise. `None` where the default has no type.
 fn type_param(
     alloc: Global,
     subst: &mut Subst,
@@ -82,7 +83,8 @@ fn type_param(
     }
 }
 
-/// The parameters by their tokens with their type variables; `None` where a default has no type.
+/// Types the parameters of a def: each by the token of its name with its type variable, or `None` where a default has
+/// no type.
 fn type_params(
     alloc: Global,
     subst: &mut Subst,
@@ -108,7 +110,8 @@ fn type_params(
     Ok(Some(typed))
 }
 
-/// The number of the type variable of a value that stands behind these bindings in a def; `None` where it has no type.
+/// Types a value in the body of a def, behind these parameters and inner bindings: the number of its type variable,
+/// or `None` where it has no type.
 fn type_behind<'n, 'a>(
     alloc: Global,
     subst: &mut Subst,
@@ -135,7 +138,8 @@ fn type_behind<'n, 'a>(
     type_full(alloc, subst, names, uses, full)
 }
 
-/// The number of the type variable of a def's result, which stands behind these bindings; `None` where it has no type.
+/// Types the result of a def, behind its parameters and inner bindings: the number of its type variable, or `None`
+/// where it has no type.
 fn type_result<'n, 'a>(
     alloc: Global,
     subst: &mut Subst,
@@ -162,8 +166,8 @@ fn type_result<'n, 'a>(
     type_expr(alloc, subst, names, uses, expr)
 }
 
-/// Adds the bindings in the body with their type variables, each typed behind the ones before it; false where one has
-/// no type.
+/// Types the bindings in a def's body, each behind the ones before it, and adds them with their type variables to
+/// `bindings`; false where one has no type.
 fn type_inners(
     alloc: Global,
     subst: &mut Subst,
@@ -202,7 +206,7 @@ fn type_inners(
     Ok(true)
 }
 
-/// The numbers of the type variables of bindings.
+/// The numbers of the type variables of typed names, in order.
 fn vars_of(alloc: Global, bindings: &[TypedName]) -> Result<Vec<u64>, Memory>
     ensures { IfOk result (λ ns. ns.items ≡ map (λ b. b.var) bindings.now) }
 {
@@ -213,8 +217,8 @@ fn vars_of(alloc: Global, bindings: &[TypedName]) -> Result<Vec<u64>, Memory>
     Ok(vars)
 }
 
-/// The number of the type variable of a def's result, behind its parameters and inner bindings; `None` where a part has
-/// no type.
+/// Types the body of a def behind its parameters, that is, its inner bindings and its result: the number of the
+/// result's type variable, or `None` where a part has no type.
 fn type_body(
     alloc: Global,
     subst: &mut Subst,

@@ -42,7 +42,7 @@ pub fn infer(alloc: Global, script: &Script) -> Result<Vec<Use>, TypeFault>
     statement_uses(alloc, &script.statements)
 }
 
-/// The typing of a script without statements, by a substitution without variables.
+/// The state of typing before the first statement: nothing is bound, and the substitution has no variables.
 fn begun<'a>(alloc: Global, subst: Subst) -> Typing<'a>
     ensures { (targets : Targets) → IsAfter targets none result }
 {
@@ -57,7 +57,7 @@ fn begun<'a>(alloc: Global, subst: Subst) -> Typing<'a>
     }
 }
 
-/// The typing of a script without statements.
+/// The state of typing before the first statement, with a new substitution. It fails only where memory is refused.
 fn start<'a>(alloc: Global) -> Result<Typing<'a>, TypeFault>
     ensures begun { IfOk result (λ t. (targets : Targets) → IsAfter targets none t) }
     ensures refused { IfErr result (λ f. f ≡ TypeFault.Memory) }
@@ -68,9 +68,9 @@ fn start<'a>(alloc: Global) -> Result<Typing<'a>, TypeFault>
     }
 }
 
-/// Makes room for what the statements leave, so that few lists grow step by step: each leaves one step, and binds one
-/// name at most. A statement mostly needs a type variable, and each name that it uses another one, and perhaps one for
-/// its kind.
+/// Makes room in the state of typing for what the statements leave, so that few lists grow step by step: each leaves
+/// one step, and binds one name at most. A statement mostly needs a type variable, and each name that it uses another
+/// one, and perhaps one for its kind.
 fn make_room(typing: &mut Typing<'_>, front: &Front) -> Result<(), Memory>
     ensures { IsSameTyping typing.old typing.new }
 {
@@ -84,7 +84,8 @@ fn make_room(typing: &mut Typing<'_>, front: &Front) -> Result<(), Memory>
     Ok(())
 }
 
-/// The typings of the first `front.count` statements, which have no fault of names, or the first clash among them.
+/// Types the first `front.count` statements, which have no fault of names: answers the state of typing after them, or
+/// the first clash of types among them.
 fn type_statements<'a>(
     alloc: Global,
     statements: &'a [Stmt],
@@ -107,8 +108,8 @@ fn type_statements<'a>(
     type_with(alloc, &targets, statements, front)
 }
 
-/// The typings of the first `front.count` statements, or the first clash among them. `targets` says by its token what
-/// each name means.
+/// Types the first `front.count` statements from a new state of typing, and answers the state after them, or the
+/// first clash of types. `targets` says by its token what each name means.
 fn type_with<'a>(
     alloc: Global,
     targets: &TokenTable<Target>,
@@ -193,7 +194,7 @@ fn type_each<'a>(
     Ok(())
 }
 
-/// What names mean, by their tokens; want of memory is told as a fault of the script.
+/// The table that says by its token what each name means. Want of memory is told as a fault of the script.
 fn told_table(alloc: Global, names: &[Resolved]) -> Result<TokenTable<Target>, TypeFault>
     ensures table { IfOk result (λ m. targets_of m ≡ target_in (map resolved names.now)) }
     ensures refused { IfErr result (λ f. f ≡ TypeFault.Memory) }
@@ -204,7 +205,7 @@ fn told_table(alloc: Global, names: &[Resolved]) -> Result<TokenTable<Target>, T
     }
 }
 
-/// Types the statement at `index`, counted from 0; false where there is no typing with it.
+/// Types the statement at `index`, counted from 0, as the next one; false where no typing of those before fits it.
 fn type_next<'a>(
     alloc: Global,
     typing: &mut Typing<'a>,
@@ -230,7 +231,8 @@ fn type_next<'a>(
     Ok(yes)
 }
 
-/// Types one statement more; false where there is no typing with it. Want of memory is told as a fault of the script.
+/// Types this statement as the next one; false where there is no typing with it. Want of memory is told as a fault of
+/// the script.
 fn next<'a>(
     alloc: Global,
     typing: &mut Typing<'a>,
@@ -248,8 +250,8 @@ fn next<'a>(
     }
 }
 
-/// What the names of the statements before the first with a fault of names mean, and that fault. Want of memory is told
-/// as a fault of the script.
+/// Resolves the names of a script up to its first fault of names: what they mean, and that fault. Want of memory is
+/// told as a fault of the script.
 fn told_front(alloc: Global, statements: &[Stmt]) -> Result<Front, TypeFault>
     ensures front { IfOk result
         (λ f. IsFront (map view_stmt statements.now) f.count (map resolved f.all.items) f.fault) }
@@ -261,8 +263,8 @@ fn told_front(alloc: Global, statements: &[Stmt]) -> Result<Front, TypeFault>
     }
 }
 
-/// The fault of names, if there is one, and otherwise the uses of the typed statements, in a list with room for `room`
-/// uses at first.
+/// The end of typing: the fault of names, if there is one, and otherwise the uses of the typed statements with their
+/// final kinds, in a list with room for `room` uses at first.
 fn uses_or_fault(
     alloc: Global,
     typing: Typing<'_>,
@@ -283,7 +285,8 @@ fn uses_or_fault(
     }
 }
 
-/// The uses of a script, or its first fault; `front` has what its names mean.
+/// The uses of a script, or its first fault, once names are resolved: `front` has what they mean, up to the first
+/// fault of names.
 fn answered(alloc: Global, statements: &[Stmt], front: Front) -> Result<Vec<Use>, TypeFault>
     requires front { IsFront (map view_stmt statements.now) front.count (map resolved front.all.items) front.fault }
     requires placed { IsPlaced 0 (listed (map view_stmt statements.now)) }
@@ -294,7 +297,7 @@ fn answered(alloc: Global, statements: &[Stmt], front: Front) -> Result<Vec<Use>
     uses_or_fault(alloc, typing, front.fault, front.all.len())
 }
 
-/// The uses of statements, or their first fault.
+/// The uses of a script's statements, each with its final kinds, or their first fault of names, arguments or types.
 fn statement_uses(alloc: Global, statements: &[Stmt]) -> Result<Vec<Use>, TypeFault>
     requires placed { IsPlaced 0 (listed (map view_stmt statements.now)) }
     ensures typed { IfOk result (λ us. IsTyped (listed (map view_stmt statements.now)) us.items) }

@@ -16,8 +16,9 @@ use std::alloc::Global;
 use type_terms::{KindTerm, Subst, resolved_kind};
 use typing_rules::{KindOf, Use, UseKinds};
 
-/// The uses of all statements under the default solution, in the order of the tokens, in a list with room for `room`
-/// uses at first. What was found is freed as it is turned into the answer, so that its memory is taken again at once.
+/// The uses of all statements with their final kinds, stereo for each that is still open, in the order of the tokens.
+/// The list has room for `room` uses at first. What was found is freed as it is turned into the answer, so that its
+/// memory is taken again at once.
 pub fn settled_uses(alloc: Global, typing: Typing<'_>, room: usize) -> Result<Vec<Use>, Memory>
     requires over { AreDonesOver typing.subst (dones typing) }
     ensures { IfOk result (λ us. AreDefaultOf typing.entry.subst (dones typing.entry) us.items) }
@@ -26,7 +27,7 @@ pub fn settled_uses(alloc: Global, typing: Typing<'_>, room: usize) -> Result<Ve
     steps_uses(alloc, &typing.subst, typing.defs.as_slice(), steps, room)
 }
 
-/// A kind after all bindings were followed: a variable that nothing binds is stereo.
+/// The final kind of a kind whose bindings were all followed: a variable that nothing binds is stereo.
 fn free_kind(kind: KindTerm) -> Kind
     ensures { result ≡ the_free_kind kind }
 {
@@ -36,7 +37,7 @@ fn free_kind(kind: KindTerm) -> Kind
     }
 }
 
-/// A kind under the default solution: a variable that nothing binds is stereo.
+/// The final kind of a kind term: what its variable is bound to, and stereo for one that nothing binds.
 fn settle_kind(subst: &Subst, kind: KindTerm) -> Kind
     requires over { IsKindOver subst.now kind }
     ensures { IsSettledKind subst.now kind result }
@@ -44,7 +45,7 @@ fn settle_kind(subst: &Subst, kind: KindTerm) -> Kind
     free_kind(resolved_kind(subst, kind))
 }
 
-/// The kinds of a use outside of defs, under the default solution.
+/// The final kinds of one use outside of defs, where a variable that nothing binds is stereo.
 fn settled_kinds(alloc: Global, subst: &Subst, kinds: &[KindTerm]) -> Result<UseKinds, Memory>
     requires over { AreKindsOver subst.now kinds.now }
     ensures { IfOk result (AreSettledKinds subst.now kinds.now) }
@@ -56,7 +57,7 @@ fn settled_kinds(alloc: Global, subst: &Subst, kinds: &[KindTerm]) -> Result<Use
     Ok(settled)
 }
 
-/// Adds the uses that were found outside of defs, under the default solution.
+/// Adds to `uses` those that were found outside of defs, with their final kinds.
 fn add_founds(
     alloc: Global,
     subst: &Subst,
@@ -77,7 +78,7 @@ fn add_founds(
     Ok(())
 }
 
-/// A kind in the text of a def under the default solution; an open kind keeps its number.
+/// The final form of a kind in a def's text: an open kind keeps its number, and any other is mono or stereo for good.
 fn settle_text(subst: &Subst, kind: TextKind) -> KindOf
     requires over { IsPendingOver subst.now (pending kind) }
     ensures { IsSettledText subst.now (pending kind) result }
@@ -88,7 +89,8 @@ fn settle_text(subst: &Subst, kind: TextKind) -> KindOf
     }
 }
 
-/// The kinds of a use in the text of a def, under the default solution.
+/// The final kinds (no texts) of one use in a def's text: an open kind keeps its number, and any other is mono or
+/// stereo for good.
 fn settled_texts(alloc: Global, subst: &Subst, kinds: &[TextKind]) -> Result<UseKinds, Memory>
     requires over { ArePendingOver subst.now (map pending kinds.now) }
     ensures { IfOk result (AreSettledTexts subst.now (map pending kinds.now)) }
@@ -100,7 +102,7 @@ fn settled_texts(alloc: Global, subst: &Subst, kinds: &[TextKind]) -> Result<Use
     Ok(settled)
 }
 
-/// Adds the uses in the text of a def, under the default solution.
+/// Adds to `uses` those in a def's text, with their final kinds.
 fn add_texts(
     alloc: Global,
     subst: &Subst,
@@ -121,7 +123,7 @@ fn add_texts(
     Ok(())
 }
 
-/// Adds the uses in the text of a def, if there is one, under the default solution.
+/// Adds to `uses` those in a def's text, if there is a def, with their final kinds.
 fn add_def(
     alloc: Global,
     subst: &Subst,
@@ -138,7 +140,8 @@ fn add_def(
     }
 }
 
-/// Adds the uses of what one statement has left, under the default solution.
+/// Adds to `uses` those that one typed statement has left, with their final kinds. A step names its def by its place
+/// in `defs`.
 fn add_step(
     alloc: Global,
     subst: &Subst,
@@ -156,7 +159,8 @@ fn add_step(
     }
 }
 
-/// The uses of what statements have left, one after another, in a list with room for `room` uses at first.
+/// The uses that all typed statements have left, with their final kinds and in order, in a list with room for `room`
+/// uses at first.
 fn steps_uses(
     alloc: Global,
     subst: &Subst,

@@ -18,7 +18,7 @@ use std::alloc::Global;
 use type_terms::{Subst, Ty};
 use typing_rules::Target;
 
-/// Types one statement more; false where there is no typing with it.
+/// Types one statement more and keeps what it leaves; false where there is no typing with it.
 pub fn type_part<'a>(
     alloc: Global,
     typing: &mut Typing<'a>,
@@ -37,7 +37,8 @@ pub fn type_part<'a>(
     }
 }
 
-/// What an expression outside of defs sees: the meanings of names, what statements have bound, and their defs.
+/// What an expression outside of defs sees: the meanings of names, what statements have bound, and their defs. No
+/// name is bound within.
 fn outside<'n, 'a>(
     targets: &'n TokenTable<Target>,
     before: &'n Bindings,
@@ -56,7 +57,7 @@ fn outside<'n, 'a>(
     }
 }
 
-/// Adds to `held` what values hold whose types are these type variables.
+/// Adds to `held` the free variables in the types of these values, whose types are type variables of these numbers.
 fn add_values(alloc: Global, subst: &Subst, held: &mut Held, values: &[u64]) -> Result<(), Memory>
     requires there { AreValues subst.now values.now }
     ensures { OnOk result (AddsValues subst.now values.now held.old held.new) }
@@ -67,8 +68,8 @@ fn add_values(alloc: Global, subst: &Subst, held: &mut Held, values: &[u64]) -> 
     Ok(())
 }
 
-/// Brings what the values hold up to the substitution, and adds the pending values, of which none is left. Where memory
-/// runs out, some of it may have been done.
+/// Brings `held`, the free variables of the values' types, up to the substitution: renews what was found and adds the
+/// pending values, of which none is left. Where memory runs out, some of it may have been done.
 fn catch_up(
     alloc: Global,
     subst: &Subst,
@@ -86,8 +87,8 @@ fn catch_up(
     Ok(())
 }
 
-/// Keeps a binding of the name at token `at`, with the uses in its value. Where memory runs out, some of it may have
-/// been kept.
+/// Keeps a typed binding of the name at token `at`, with the uses in its value, in the state of typing. Where memory
+/// runs out, some of it may have been kept.
 fn keep_value(typing: &mut Typing<'_>, at: u32, typed: TypedExpr) -> Result<(), Memory>
     ensures { OnOk result (IsValueKept at typed typing.old typing.new) }
 {
@@ -98,7 +99,7 @@ fn keep_value(typing: &mut Typing<'_>, at: u32, typed: TypedExpr) -> Result<(), 
     Ok(())
 }
 
-/// Keeps the uses of a call or an `if` that runs as a statement.
+/// Keeps in the state of typing the uses of a call or an `if` that runs as a statement.
 fn keep_run(typing: &mut Typing<'_>, typed: TypedExpr) -> Result<(), Memory>
     ensures { OnOk result (IsRunKept typed typing.old typing.new) }
 {
@@ -106,7 +107,8 @@ fn keep_run(typing: &mut Typing<'_>, typed: TypedExpr) -> Result<(), Memory>
     Ok(())
 }
 
-/// Keeps a def. Where memory runs out, some of it may have been kept.
+/// Keeps a typed def in the state of typing, behind the other defs. Where memory runs out, some of it may have been
+/// kept.
 fn keep_def<'a>(typing: &mut Typing<'a>, def: KnownDef<'a>) -> Result<(), Memory>
     ensures { OnOk result (IsDefKept def.entry typing.old typing.new) }
 {
@@ -117,7 +119,7 @@ fn keep_def<'a>(typing: &mut Typing<'a>, def: KnownDef<'a>) -> Result<(), Memory
     Ok(())
 }
 
-/// Types a binding and keeps it; false where its value has no type.
+/// Types a binding that is a statement and keeps it; false where its value has no type.
 fn type_bind(
     alloc: Global,
     typing: &mut Typing<'_>,
@@ -180,7 +182,8 @@ fn type_branch(
     }
 }
 
-/// Types a def and keeps it; false where it has no typing.
+/// Types a def that is a statement and keeps it; false where it has no typing. The free variables of earlier values
+/// are brought up to date first.
 fn type_function<'a>(
     alloc: Global,
     typing: &mut Typing<'a>,

@@ -11,7 +11,7 @@ use std::alloc::Global;
 use std::cmp::min;
 use type_terms::{KindTerm, Ty};
 
-/// Adds type variables, by their numbers, as types to an empty list.
+/// Adds, to an empty list, the type variables of these numbers as types.
 pub fn push_variables(types: &mut Vec<Ty>, numbers: &[u64]) -> Result<(), Memory>
     requires { types.old.items ≡ [] }
     ensures { OnOk result (map term_of types.new.items ≡ map variable numbers.now) }
@@ -22,7 +22,7 @@ pub fn push_variables(types: &mut Vec<Ty>, numbers: &[u64]) -> Result<(), Memory
     Ok(())
 }
 
-/// Adds the kinds of these uses, use by use, to an empty list.
+/// Adds the kinds at all these uses to an empty list, use by use.
 pub fn push_all_kinds(kinds: &mut Vec<KindTerm>, uses: &[FoundUse]) -> Result<(), Memory>
     requires { kinds.old.items ≡ [] }
     ensures { OnOk result (kinds.new.items ≡ kinds_in (founds uses.now)) }
@@ -33,7 +33,8 @@ pub fn push_all_kinds(kinds: &mut Vec<KindTerm>, uses: &[FoundUse]) -> Result<()
     Ok(())
 }
 
-/// The uses of a def's text: each takes as many of the kinds in `text` as it has, from the front on.
+/// The uses of a def as its general type keeps them. `text` has their general kinds one after another, of which each
+/// use takes as many as it has.
 pub fn text_of_uses(
     alloc: Global,
     uses: &[FoundUse],
@@ -51,14 +52,14 @@ pub fn text_of_uses(
     Ok(done)
 }
 
-/// The type variable of this number as a type.
+/// A type that is just the type variable of this number.
 fn variable_type(number: u64) -> Ty
     ensures { term_of result ≡ variable number }
 {
     Ty::Var(number)
 }
 
-/// Adds the kinds of one use.
+/// Adds the kinds of one use to the end of the list.
 fn push_kinds(kinds: &mut Vec<KindTerm>, found: &FoundUse) -> Result<(), Memory>
     ensures { OnOk result (kinds.new.items ≡ kinds.old.items ++ found.now.kinds.items) }
 {
@@ -66,7 +67,8 @@ fn push_kinds(kinds: &mut Vec<KindTerm>, found: &FoundUse) -> Result<(), Memory>
     Ok(())
 }
 
-/// A kind in the text of a general type as a use in the text has it.
+/// A kind in a def's text, as the general type tells it, in the form that a kept use has: open in the def, or from
+/// outside.
 fn kind_of(kind: KindInText) -> TextKind
     ensures { pending result ≡ pending_of kind }
 {
@@ -76,7 +78,7 @@ fn kind_of(kind: KindInText) -> TextKind
     }
 }
 
-/// Kinds in the text of a general type as a use in the text has them.
+/// Kinds in a def's text, as the general type tells them, in the form that a kept use has.
 fn kinds_of(alloc: Global, text: &[KindInText]) -> Result<Vec<TextKind>, Memory>
     ensures { IfOk result (λ ks. map pending ks.items ≡ map pending_of text.now) }
 {
@@ -87,7 +89,8 @@ fn kinds_of(alloc: Global, text: &[KindInText]) -> Result<Vec<TextKind>, Memory>
     Ok(kinds)
 }
 
-/// A use in the text of a def, with the kinds in `text` in place of its own.
+/// A use in a def's text as it is kept: with its token and target, and with the general kinds `text` in place of its
+/// own.
 fn use_with(alloc: Global, one: &FoundUse, text: &[KindInText]) -> Result<TextUse, Memory>
     ensures { IfOk result (λ u. text_use u ≡ use_of (found one.now) text.now) }
 {

@@ -15,7 +15,7 @@ use type_terms::Subst;
 /// room for four at its first use.
 const USES_OF_A_VALUE: usize = 2;
 
-/// The type variable of a value outside of defs, and the uses in it; `None` where it has no type.
+/// Types a value outside of defs: its type variable and the uses in it, or `None` where it has no type.
 pub fn value_type(
     alloc: Global,
     subst: &mut Subst,
@@ -33,7 +33,7 @@ pub fn value_type(
     }
 }
 
-/// The type variable of a call outside of defs, and the uses in it; `None` where it has no type.
+/// Types a call outside of defs: its type variable and the uses in it, or `None` where it has no type.
 pub fn run_type(
     alloc: Global,
     subst: &mut Subst,
@@ -51,7 +51,7 @@ pub fn run_type(
     }
 }
 
-/// The type variable of an `if` outside of defs, and the uses in it; `None` where it has no type.
+/// Types an `if` outside of defs: its type variable and the uses in it, or `None` where it has no type.
 pub fn choice_type(
     alloc: Global,
     subst: &mut Subst,
@@ -69,7 +69,7 @@ pub fn choice_type(
     }
 }
 
-/// A type variable and the uses that were found, as one value.
+/// An expression that was typed, with the type variable and the uses that were found, as one value.
 fn noted(subst: &Subst, var: u64, uses: Vec<FoundUse>) -> TypedExpr
     ensures { IsNoted subst.now var uses.items result }
 {
