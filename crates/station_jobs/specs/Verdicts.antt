@@ -24,8 +24,8 @@ use Rattle.workload_gen.specs.Files.{workload}
 use Rattle.station_jobs.specs.Replays.{IsReplayFault, IsWayOf}
 use Rattle.station_jobs.specs.Words.{Asked, Check, Make, Render, Rendering, Replay, IsAsked, HasNoForm, rendering_by, rendering_of}
 
--- the usage line, the first fault of the script, a station that is checked, one that is rendered, or that of a
--- workload, with its files
+-- What a call comes to, before anything is rendered: the usage line, a refusal for the first fault, or an accepted
+-- script as a station, which is to be checked, rendered, or rendered and summed up over the files of a workload.
 pub data Verdict : Type 0 where
   Usage : Verdict
   Refused : Fault → Verdict
@@ -37,68 +37,73 @@ pub data Verdict : Type 0 where
 abbrev pub usage_line : List ℕ
 usage_line = codes "usage: check FILE | render FILE N [--one-thread] [--window=W] [--start=D:HH:MM:SS] [--trace=NAME] [--cues] | make SEED SIZE | replay FILE N TRACE [--start=D:HH:MM:SS]\n"
 
--- the script is there, and this is its plan
+-- The script in `file` is among these files, and evaluates to this plan.
 pub record HasPlan (files : Files) (file : List ℕ) (plan : Plan) : Type 0 where
   pub script : List ℕ
   pub there : file_at files file ≡ Some script
   pub is_plan : IsPlan script plan
 
--- the script is there, and has this fault, and no plan
+-- The script in `file` is among these files, and has no plan, for this fault in its text, types or evaluation.
 pub record HasPlanFault (files : Files) (file : List ℕ) (fault : ScriptFault) : Type 0 where
   pub script : List ℕ
   pub there : file_at files file ≡ Some script
   pub is_fault : IsPlanFault script fault
 
--- a sink is the output of this name
+-- Whether a sink of the plan is an output to the file of this name. A feed of a buffer writes no file.
 abbrev pub has_name : (name : List ℕ) → SinkPlan → Bool
 has_name name (Output own node fallible wide) = bytes_eq own name
 has_name name (Feed buffer node) = false
 
--- the name of the cue file of an output, if an output among all sinks has it
+-- Whether the cue file of this sink would overwrite an output: gives its name where an output among `all` sinks has the
+-- same.
 abbrev pub cue_clash_at : (all : List SinkPlan) → SinkPlan → Option (List ℕ)
 cue_clash_at all (Output name node fallible wide) = if list_any (has_name (cue_name name)) all then Some (cue_name name)
     else None
 cue_clash_at all (Feed buffer node) = None
 
--- the first name of a cue file of these sinks that an output among all sinks has
+-- The name of the first cue file of these sinks that would overwrite an output among `all` sinks, if there is one.
 abbrev pub first_cue_clash : (all : List SinkPlan) → List SinkPlan → Option (List ℕ)
 first_cue_clash all [] = None
 first_cue_clash all (sink ∷ sinks) = option_or (cue_clash_at all sink) (first_cue_clash all sinks)
 
--- the first name of a cue file that is an output's too, if cue files are wanted
+-- The name of the first cue file of a plan that would overwrite an output; none where no cue files are wanted.
 abbrev pub cue_clash : Plan → (cues : Bool) → Option (List ℕ)
 cue_clash plan false = None
 cue_clash plan true = first_cue_clash plan.sinks plan.sinks
 
--- a sink is the output of this name, or, where cue files are wanted, one whose cue file has it
+-- Whether this sink makes a file of this name: it is an output to it, or, where cue files are wanted, its cue file has
+-- this name.
 abbrev pub writes_to : (name : List ℕ) (cues : Bool) → SinkPlan → Bool
 writes_to name cues (Output own node fallible wide) = bytes_eq own name || (cues && bytes_eq name (cue_name own))
 writes_to name cues (Feed buffer node) = false
 
--- the name of the trace, if one is wanted and an output or a cue file has it
+-- The name of the trace file, where one is wanted and an output or a cue file of the plan would have the same name.
 abbrev pub trace_clash : Plan → (trace : Option (List ℕ)) (cues : Bool) → Option (List ℕ)
 trace_clash plan None cues = None
 trace_clash plan (Some name) cues = if list_any (writes_to name cues) plan.sinks then Some name else None
 
--- the first name that two files of a rendering would have: that of a cue file and an output, in sink order; then that
--- of the trace and an output or a cue file
+-- The first file name that a rendering of the plan would write twice: that of a cue file and an output, in the order of
+-- the sinks; then that of the trace and another file.
 abbrev pub clash_of : Plan → (trace : Option (List ℕ)) (cues : Bool) → Option (List ℕ)
 clash_of plan trace cues = option_or (cue_clash plan cues) (trace_clash plan trace cues)
 
--- the script has a plan, and this is the first name that two files of its rendering would have
+-- A rendering is refused, as it would write two files of this name: its script has a plan, and this is the first such
+-- name.
 pub record HasClash (files : Files) (rendering : Rendering) (name : List ℕ) : Type 0 where
   pub plan : Plan
   pub has_plan : HasPlan files rendering.file plan
   pub clash : clash_of plan rendering.trace rendering.cues ≡ Some name
 
--- the script has a plan, whose rendering writes no name twice, and which for so many ticks has this fault
+-- A rendering is refused for a fault of its plan, such as missing audio or clashing clocks: the script has a plan,
+-- which writes no name twice and has this fault for so many ticks.
 pub record HasUnfitPlan (files : Files) (rendering : Rendering) (fault : StationFault) : Type 0 where
   pub plan : Plan
   pub has_plan : HasPlan files rendering.file plan
   pub apart : clash_of plan rendering.trace rendering.cues ≡ None
   pub is_fault : IsStationFault files plan rendering.ticks fault
 
--- the first fault of the script of a rendering; it is none of a trace
+-- The first fault of the script of a rendering: the file is not there, it has no plan, it would write a name twice, or
+-- the plan does not fit its files and clocks. Faults of a trace are not among these.
 abbrev pub IsScriptFault : Files → Rendering → Fault → Type 0
 IsScriptFault files rendering NoScript = file_at files rendering.file ≡ None
 IsScriptFault files rendering (Script fault) = HasPlanFault files rendering.file fault
