@@ -96,7 +96,7 @@ pub record EndsFor {T : Type 0} (rendering : Rendering) (old new : ShelfTold) (r
   pub no_write : IsErrOf result Write → ⊥
 
 -- The trace in the file of this name cannot be replayed over N ticks of so many clocks, for this fault. `base` is the
--- plan with its sound.
+-- plan with its audio files, clocks and start.
 pub record HasFaultOf (files : Files) (name : List ℕ) (base : Setting) (clocks N : ℕ) (fault : Fault) : Type 0 where
   pub untold : ReplayFault
   pub fault_is : fault ≡ Fault.Replay untold

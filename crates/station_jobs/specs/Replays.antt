@@ -39,14 +39,14 @@ pub record HasNoTrace (files : Files) (name : List ℕ) (line : ℕ) : Type 0 wh
   pub stops : StopsAt text line
 
 -- The file of this name is a trace that can be replayed for N ticks of these clocks: it is of a lawful run of them,
--- whose ticks have an order on one thread. `base` is the plan with its sound.
+-- whose ticks can be put in one order. `base` is the plan with its audio files and start.
 pub record HasFitting (files : Files) (name : List ℕ) (base : Setting) (clocks N : ℕ) (trace : TraceValue) : Type 0
   where
     pub has : HasTrace files name trace
     pub fits : IsAccepted base clocks N trace
 
--- The file of this name is a trace that cannot be replayed here: no lawful run of N ticks of these clocks, with an
--- order on one thread, has it. `base` is the plan with its sound.
+-- The file of this name is a trace that cannot be replayed here: no lawful run of N ticks of these clocks, whose ticks
+-- can be put in one order, has it. `base` is the plan with its audio files and start.
 pub record HasUnfitting (files : Files) (name : List ℕ) (base : Setting) (clocks N : ℕ) : Type 0 where
   pub trace : TraceValue
   pub has : HasTrace files name trace

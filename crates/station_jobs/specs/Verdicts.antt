@@ -111,14 +111,16 @@ IsScriptFault files rendering (SameFile name) = HasClash files rendering name
 IsScriptFault files rendering (Fault.Station fault) = HasUnfitPlan files rendering fault
 IsScriptFault files rendering (Fault.Replay fault) = ⊥
 
--- the script is accepted, and these are its plan, with its audio files and clocks
+-- The script of a rendering is accepted: it has this plan, no two of its files would have one name, and these are its
+-- audio files and clocks.
 pub record IsPrepared (files : Files) (rendering : Rendering) (plan : Plan) (library : Sounds) (clocks : ClockMap) : Type
     0 where
   pub has_plan : HasPlan files rendering.file plan
   pub apart : clash_of plan rendering.trace rendering.cues ≡ None
   pub renderable : IsRenderable files plan rendering.ticks library clocks
 
--- the script is accepted, and is not rendered again by the trace in the file of this name, for this fault
+-- A replay is refused: its script is accepted, but it cannot be rendered again by the trace in the file of this name,
+-- for this fault.
 pub record HasUntold (files : Files) (rendering : Rendering) (trace : List ℕ) (fault : Fault) : Type 0 where
   pub plan : Plan
   pub library : Sounds
@@ -129,7 +131,7 @@ pub record HasUntold (files : Files) (rendering : Rendering) (trace : List ℕ) 
   pub is_fault : IsReplayFault files trace (base_of plan library clocks rendering.start) clocks.running rendering.ticks
       untold
 
--- a fault of the trace of a replay; what asks for no replay has none
+-- The fault of the trace of a replay, whose script is accepted. A call that asks for no replay has no such fault.
 abbrev pub IsTraceFault : Asked → Files → Fault → Type 0
 IsTraceFault (Check file) files fault = ⊥
 IsTraceFault (Render rendering window) files fault = ⊥
@@ -137,13 +139,14 @@ IsTraceFault (Make seed size) files fault = ⊥
 IsTraceFault (Replay file start ticks trace) files fault = HasUntold files
     (rendering_by file start ticks None false) trace fault
 
--- the way of a rendering: by threads in windows of so many ticks, or in rounds on one thread if no window is given
+-- How a rendering makes its ticks: by threads, in windows of so many ticks; where no window is given, in rounds of all
+-- clocks on one thread.
 abbrev pub way_in : (window : Option ℕ) → Way
 way_in None = InRounds
 way_in (Some window) = InWindows window
 
--- an accepted script is rendered in this way: a check, of no tick, in rounds; a workload by threads in windows of 16
--- ticks; a replay as its trace tells
+-- How an accepted script makes its ticks, by what is asked: a check (of no tick) in rounds on one thread, a rendering
+-- as its options say, a workload by threads in windows of 16 ticks, a replay as its trace tells.
 abbrev pub IsWayFor : Asked → Files → Plan → Sounds → ClockMap → Way → Type 0
 IsWayFor (Check file) files plan library clocks way = way ≡ InRounds
 IsWayFor (Render rendering window) files plan library clocks way = way ≡ way_in window
@@ -151,7 +154,8 @@ IsWayFor (Make seed size) files plan library clocks way = way ≡ InWindows 16
 IsWayFor (Replay file start ticks trace) files plan library clocks way = IsWayOf files trace
     (base_of plan library clocks start) clocks.running ticks way
 
--- the station of a plan with its audio files and clocks, which is rendered in this way
+-- The station of a rendering, which is all that its run rests on: the plan, its audio files and clocks, the start, the
+-- number of ticks, how they are made, and whether a trace and cue files are wanted.
 abbrev pub station_for : Rendering → Plan → Sounds → ClockMap → Way → Station
 station_for rendering plan library clocks way = record {
   plan = plan;
@@ -164,60 +168,66 @@ station_for rendering plan library clocks way = record {
   cues = rendering.cues;
 }
 
--- the script is accepted, and this is its station: its plan, with its audio files and clocks, its way, and what else is
--- asked for
+-- The script of a call is accepted, and this is its station: its plan with its audio files and clocks, how its ticks
+-- are made, and the start, ticks, trace and cue files that are asked for.
 pub record IsStation (asked : Asked) (files : Files) (station : Station) : Type 0 where
   pub prepared : IsPrepared files (rendering_of asked) station.plan station.library station.clocks
   pub is_way : IsWayFor asked files station.plan station.library station.clocks station.way
   pub rest_is : station ≡ station_for (rendering_of asked) station.plan station.library station.clocks station.way
 
--- the files of the workload of this seed, with so many audio files
+-- The files of the workload that a seed makes: a script and `size` audio files. The same seed and size make the same
+-- files.
 unfoldable pub files_made : (seed size : ℕ) → Files
 files_made seed size = from_entries (workload seed (size - 1))
 
--- the files over which what is asked for is judged: a workload brings its own
+-- The files over which a call is judged: those of the shelf that it is given, but for a workload those that it makes
+-- itself.
 abbrev pub files_for : Asked → Files → Files
 files_for (Check file) files = files
 files_for (Render rendering window) files = files
 files_for (Make seed size) files = files_made seed size
 files_for (Replay file start ticks trace) files = files
 
--- the verdict on what is asked for, if this is its station: it is checked, rendered, or that of a workload with its
--- files
+-- The verdict on a call whose script is accepted as this station: it is checked, rendered, or rendered and summed up
+-- over the files of a workload.
 abbrev pub verdict_for : Asked → Station → Verdict
 verdict_for (Check file) station = Checked station
 verdict_for (Render rendering window) station = Accepted station
 verdict_for (Make seed size) station = Made (files_made seed size) station
 verdict_for (Replay file start ticks trace) station = Accepted station
 
--- the first fault of what is asked for: of its script, and if that has none, of the trace of a replay
+-- The first fault for which a call is refused: one of its script, or, if that is accepted, one of the trace of a
+-- replay.
 abbrev pub IsRefusal : Asked → Files → Fault → Type 0
 IsRefusal asked files fault =
     IsScriptFault (files_for asked files) (rendering_of asked) fault ⊎ IsTraceFault asked files fault
 
--- the verdict on what is asked for: its first fault, or its station
+-- This is the verdict on what a call asks for, over these files: a refusal for its first fault, or the station of its
+-- accepted script.
 abbrev pub IsVerdictOn : Asked → Files → Verdict → Type 0
 IsVerdictOn asked files verdict =
     ((fault : Fault) × (verdict ≡ Refused fault) × IsRefusal asked files fault)
     ⊎ ((station : Station) × (verdict ≡ verdict_for asked station) × IsStation asked (files_for asked files) station)
 
--- the words have a form, and this is the verdict on what they ask for
+-- The words of a call have one of the forms of the usage line, and this is the verdict on what they ask for over these
+-- files.
 pub record IsFormed (words : List (List ℕ)) (files : Files) (verdict : Verdict) : Type 0 where
   pub asked : Asked
   pub is_asked : IsAsked words asked
   pub is_verdict : IsVerdictOn asked files verdict
 
--- the verdict on these words over these files: words of no form have the usage line
+-- This is the verdict on the words of a call over these files: the usage line if the words have no form, and else that
+-- on what they ask for.
 abbrev pub IsVerdict : List (List ℕ) → Files → Verdict → Type 0
 IsVerdict words files verdict = ((verdict ≡ Usage) × HasNoForm words) ⊎ IsFormed words files verdict
 
--- words and files have one verdict and no other, and P holds of it
+-- The words of a call over these files have one verdict and no other, and P holds of this verdict.
 pub record ForVerdict (words : List (List ℕ)) (files : Files) (P : Verdict → Type 0) : Type 0 where
   pub verdict : Verdict
   pub is_verdict : IsVerdict words files verdict
   pub only : (other : Verdict) → IsVerdict words files other → other ≡ verdict
   pub holds : P verdict
 
--- P holds of each verdict on these words over these files
+-- P holds of each verdict that the words of a call may have over these files.
 abbrev pub ForEachVerdict : List (List ℕ) → Files → (Verdict → Type 0) → Type 0
 ForEachVerdict words files P = (verdict : Verdict) → IsVerdict words files verdict → P verdict

@@ -21,7 +21,8 @@ use std::alloc::Global;
 use std::sync::Wait;
 use std::thread::Threads;
 
-/// The report of a check. No file changes.
+/// Does `check`: reads the script of this name with its audio files, and gives the report on its outputs and clocks. No
+/// file changes.
 pub fn check_job<S: Shelf>(alloc: Global, file: &str, shelf: &mut S) -> Result<String, CallEnd>
     ensures { Ended (Check file.now) (S.told shelf.old) (S.told shelf.new) result }
 {
@@ -29,7 +30,8 @@ pub fn check_job<S: Shelf>(alloc: Global, file: &str, shelf: &mut S) -> Result<S
     report_or_halt(check_report(alloc, &work.plan, &work.clocks))
 }
 
-/// The report of a rendering on one thread, whose outputs, and then their cue files, if they are wanted, are written.
+/// Renders a script on one thread: writes its outputs to the shelf, and then their cue files, if they are wanted. Gives
+/// the report of the rendering.
 pub fn alone_job<S: Shelf>(
     alloc: Global,
     asked: &Rendering<'_>,
@@ -42,8 +44,8 @@ pub fn alone_job<S: Shelf>(
     conclude(alloc, &job, ended)
 }
 
-/// The report of a rendering by threads, whose outputs, then their cue files and then its trace, if these are wanted,
-/// are written.
+/// Renders a script by threads, in windows of ticks: writes its outputs, then their cue files and its trace, if these
+/// are wanted. Gives the report of the rendering.
 pub fn threads_job<S: Shelf, G: Gate + Sync, R: Threads + Wait + Sync>(
     rt: &R,
     alloc: Global,
@@ -60,7 +62,7 @@ pub fn threads_job<S: Shelf, G: Gate + Sync, R: Threads + Wait + Sync>(
     conclude(alloc, &job, ended)
 }
 
-/// The end of a job, by the end of its rendering: its report, or why there is none.
+/// Ends a job from how its rendering ended: gives the report of the rendering, or why there is none.
 pub(crate) fn conclude(
     alloc: Global,
     job: &Job<'_>,

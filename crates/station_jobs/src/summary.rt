@@ -42,7 +42,8 @@ pub fn summary(
     Ok(text)
 }
 
-// Appends the end of the line of an output: the sum of the samples in the file of this name.
+// Appends to the summary the last part of an output's line: ` sum `, the sum of the samples in the file of this name,
+// and a line feed.
 fn push_sum(alloc: Global, text: &mut String, shelf: &SureShelf, name: &str) -> Result<(), Memory>
     ensures { OnOk result (string_bytes text.new ≡ string_bytes text.old ++ sum_part (sum_at shelf.now name.now)) }
 {
