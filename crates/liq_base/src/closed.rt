@@ -51,7 +51,7 @@ impl fmt::Debug for Entry {
 }
 
 impl Entry {
-    /// An entry with nothing in it, for a sink to become.
+    /// An entry with nothing in it, made together with a sink, so that closing the sink takes no memory.
     pub fn empty(alloc: Global) -> Result<Box<Entry>, Memory> {
         let entry = Entry {
             name: String::new(alloc),
@@ -65,7 +65,8 @@ impl Entry {
     }
 }
 
-/// The file of this name: the newest that was closed, else the first that was given.
+/// The bytes of the file of this name in a shelf in memory: of those that it wrote the newest, else the first of those
+/// with which it was made.
 pub(crate) fn find_file<'a>(
     closed: &'a Closed,
     given: &'a [(String, Vec<u8>)],
@@ -113,7 +114,7 @@ pub(crate) fn fetch_file(
     }
 }
 
-/// The bytes of the newest of these files that has this name.
+/// The bytes of the newest file of this name that a shelf in memory wrote. A sink whose closing failed is no file.
 fn find_closed<'a>(closed: &'a Closed, name: &str) -> Option<&'a [u8]>
     ensures { MatchOption result (stored name.now (entries closed.now) ≡ None)
         (λ bytes. stored name.now (entries closed.now) ≡ Some bytes.now) }
@@ -131,7 +132,7 @@ fn find_closed<'a>(closed: &'a Closed, name: &str) -> Option<&'a [u8]>
     }
 }
 
-/// The first of these files that has this name.
+/// The bytes of the first file of this name with which a shelf in memory was made.
 fn find_given<'a>(given: &'a [(String, Vec<u8>)], name: &str) -> Option<&'a [u8]>
     ensures { MatchOption result (stored name.now (given_entries given.now) ≡ None)
         (λ bytes. stored name.now (given_entries given.now) ≡ Some bytes.now) }

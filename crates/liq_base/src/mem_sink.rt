@@ -82,7 +82,7 @@ impl MemSink {
         self.calls
     }
 
-    /// The bytes that were taken, with their memory.
+    /// Gives up the sink for the bytes that it took, without copying them.
     pub(crate) fn into_bytes(self) -> Vec<u8>
         ensures { result.items ≡ self.held }
     {
@@ -122,6 +122,8 @@ impl Sink for MemSink {
 
     ghost told = { sink_told };
 
+    // Adds a piece to the bytes held. Where the call is listed to fail, or the room is too small, it takes a front of
+    // the piece, counts a fault and fails.
     fn append(&mut self, piece: &[u8]) -> Result<(), Failed>
         ensures next { self.new ≡ appended self.old piece.now }
         ensures answer { is_ok result ≡ is_none (stops self.old piece.now) }

@@ -75,8 +75,8 @@ fn next_place(before: usize) -> Result<u32, Memory>
     before.checked_add(1).ok_or(Memory)
 }
 
-// Makes a place for the token with index `at`, and for those before it; a new place names no value. Where memory runs
-// out, some are made.
+// Lengthens the list of places, so that the token with index `at` has one. A new place is 0, which names no value.
+// Where memory runs out, some are made.
 fn reach(places: &mut Vec<u32>, at: u32) -> Result<(), Memory>
     ensures there { OnOk result (at < length places.new.items) }
     ensures same { (t : ℕ) → get_or places.new.items t 0 ≡ get_or places.old.items t 0 }

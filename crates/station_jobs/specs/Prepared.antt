@@ -168,7 +168,8 @@ IsToRender asked = (station : Station) → verdict_for asked station ≡ Accepte
 abbrev pub granted : Job → Way → Ruling
 granted job way = Granted job.plan job.ready.library job.ready.clocks way
 
--- the end of a call whose script has this fault
+-- Why a call ends whose script has no plan: a refusal for the fault of its text, types or evaluation; or want of
+-- memory.
 abbrev pub halt_of_script : ScriptFault → CallEnd
 halt_of_script (script_fault.Lex fault) = refused_for (Script (script_fault.Lex fault))
 halt_of_script (script_fault.Parse fault) = refused_for (Script (script_fault.Parse fault))
@@ -176,13 +177,14 @@ halt_of_script (script_fault.Type fault) = refused_for (Script (script_fault.Typ
 halt_of_script (script_fault.Eval fault) = refused_for (Script (script_fault.Eval fault))
 halt_of_script script_fault.Memory = Memory
 
--- the end of a call, by the end of its check
+-- Why a call ends whose plan failed its check: a refusal for the fault of the plan, a failed read of an audio file, or
+-- want of memory.
 abbrev pub halt_of_check : CheckEnd → CallEnd
 halt_of_check (check_refused fault) = refused_for (Fault.Station fault)
 halt_of_check check_read = Read
 halt_of_check check_memory = Memory
 
--- the end of a call whose rendering broke off so
+-- Why a call ends whose rendering broke off: a failed write, or want of memory.
 abbrev pub halt_of_render : RenderFault → CallEnd
 halt_of_render render_write = Write
 halt_of_render render_memory = Memory
