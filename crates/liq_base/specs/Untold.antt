@@ -3,7 +3,7 @@ use Rattle.std.specs.Prelude.{ℕ, None}
 use Rattle.liq_base.specs.Pieces.{SinkTold}
 use Rattle.liq_base.specs.Shelves.{ShelfTold}
 
--- What a byte sink tells of itself that tells only how often it failed: a real file, of which nothing else is known.
+-- What a byte sink tells of itself that tells only how often it failed, and neither its bytes, name, room nor appends.
 abbrev pub faults_alone : ℕ → SinkTold
 faults_alone faults = record { held = None; name = None; room = None; appends = None; faults = faults }
 

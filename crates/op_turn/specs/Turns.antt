@@ -59,7 +59,7 @@ past_of turn [] = record { last = None; choices = 0 }
 past_of turn (slots ∷ gave) = past_behind turn (past_of turn gave) slots
 
 -- What a rotate or a random offers at an instant: the child that it uses, with its cell, which is marked as the first
--- of a track where the child was changed.
+-- of a track where it begins one or the child is another than the one used last.
 abbrev pub offered : Turn → Past → List Slot → Option Picked
 offered turn past slots = picked slots past.last (used_child turn past slots)
 

@@ -59,7 +59,7 @@ pub fn drawn(offers: &[Option<Cell>], word: u32) -> Option<u32>
 }
 
 /// Puts together what a rotate or a random offers: the child `used` with its cell, which is marked as the first of a
-/// track where the child is another than `last`.
+/// track where it begins one or the child is another than `last`.
 pub fn picked(offers: &[Option<Cell>], last: Option<u32>, used: Option<u32>) -> Option<Pick>
     ensures { result ≡ picked offers.now last used }
 {

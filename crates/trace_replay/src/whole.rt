@@ -105,7 +105,8 @@ pub fn find_record(
     Ok(Some(RecordTurns { taps, sides, turns }))
 }
 
-// The result of a whole run with these logs and their counts; want of memory if there is no room for them.
+// The result of a replay that made all its ticks, with these logs and their counts; or, without memory for them, an end
+// for want of memory.
 fn told_or_ended(alloc: Global, logs: &[BufferLog]) -> RunEnd
     ensures counts { result.end ≡ Done → result.counts.items ≡ map counts_in logs.now }
     ensures logs { result.end ≡ Done → result.logs.items ≡ logs.now }
@@ -117,7 +118,7 @@ fn told_or_ended(alloc: Global, logs: &[BufferLog]) -> RunEnd
     }
 }
 
-// The result of a run that was broken off: it has no counts and no logs.
+// The result of a replay that ended early, for this reason: it has no counts and no logs.
 fn ended(alloc: Global, end: End) -> RunEnd
     ensures { result.end ≡ end }
 {
