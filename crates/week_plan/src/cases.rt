@@ -33,8 +33,8 @@ pub struct Seen {
     pub fates: Vec<Fate>,
 }
 
-/// Looks at the cases of a switch, by their predicates, in order. `sure` tells of each case whether its source never
-/// falls silent.
+/// Looks at a `switch` over the week: finds the seconds at which no case holds, and what becomes of each case. `preds`
+/// are the predicates in order, and `sure` tells of each case whether its source never falls silent.
 pub fn look(alloc: Global, preds: &[SharedPred], sure: &[bool]) -> Result<Seen, Memory>
     requires { length sure.now ≡ length preds.now }
     ensures holes { IfOk result (λ look. IsTableOf (λ at. not (some_case_holds (map view_shared preds.now) at))
@@ -46,8 +46,8 @@ pub fn look(alloc: Global, preds: &[SharedPred], sure: &[bool]) -> Result<Seen, 
     Ok(Seen { holes, fates })
 }
 
-// What becomes of each case, in order. `holes` tells the seconds at which no case held yet; those at which one of these
-// holds are taken out.
+// What becomes of each case of a `switch` over the week, in order. It takes out of `holes`, a table of seconds, those
+// at which one of these cases holds.
 fn fates_of(
     alloc: Global,
     holes: &mut [u64],
@@ -65,8 +65,8 @@ fn fates_of(
     Ok(fates)
 }
 
-// Appends what becomes of each case. `holes` tells the seconds at which no case held yet, and `free` those at which
-// none did whose source never falls silent; each case takes its own from both.
+// Appends what becomes of each case of a `switch`. `holes` has the seconds at which no case held yet, and `free` those
+// at which none did whose source never falls silent; each case takes its own from both.
 fn push_fates(
     alloc: Global,
     into: &mut Vec<Fate>,
@@ -133,8 +133,8 @@ fn keep_table(
     Ok(())
 }
 
-// What becomes of a case that holds at the seconds of a table, and may be chosen at those that are free. They are taken
-// from the holes, and if its source never falls silent, from the free ones.
+// What becomes of a case that holds at the seconds of `table`, and may be chosen at those that are `free`. They are
+// taken out of the holes, and, if its source never falls silent (`sure`), of the free ones.
 fn take_case(holes: &mut [u64], free: &mut [u64], table: &[u64], sure: bool) -> Fate
     requires holes { IsTable holes.old }
     requires free { IsTable free.old }
@@ -162,7 +162,8 @@ fn take_if(from: &mut [u64], table: &[u64], sure: bool)
     }
 }
 
-// What becomes of a case that holds at the seconds of `table`, and may be chosen at those of `free`.
+// What becomes of a case that holds at the seconds of `table`: it may be chosen if one of them is `free`, and else it
+// is hidden by cases before it, or holds at none.
 fn fate_of(table: &[u64], free: &[u64]) -> Fate
     requires table { IsTable table.now }
     requires free { IsTable free.now }
