@@ -25,21 +25,21 @@ pub data ValueTree : ValueSort → Type 0 where
   ListValue : ValueTree ManyValues → ValueTree OneValue
   TupleValue : ValueTree ManyValues → ValueTree OneValue
 
--- one value
+-- A value of a script: a number, text, bool, unit, format, predicate or source, or a list or tuple of values.
 abbrev pub Value : Type 0
 Value = ValueTree OneValue
 
--- a list of values as one tree
+-- A list of values as one tree, as it stands within a list or tuple of the script.
 abbrev pub many : List Value → ValueTree ManyValues
 many [] = no_values
 many (v ∷ vs) = more_values v (many vs)
 
--- the values of a tree, as a list
+-- The values of a list or tuple of the script, from its tree, as a list.
 abbrev pub items : ValueTree ManyValues → List Value
 items no_values = []
 items (more_values v vs) = v ∷ items vs
 
--- the size of a list or tuple is 1 and the sizes of its parts, of any other value 1
+-- The size of a value, which naming it costs as work: 1, and for a list or tuple the sizes of its parts besides.
 abbrev pub size : {s : ValueSort} → ValueTree s → ℕ
 size no_values = 0
 size (more_values v vs) = size v + size vs

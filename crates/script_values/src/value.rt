@@ -59,7 +59,7 @@ pub fn size(value: &Value) -> u64
     }
 }
 
-/// A copy of a value.
+/// A copy of a value of a script. A text and a predicate are shared with it; the parts of lists and tuples are copied.
 #[cycle(copy)]
 pub fn copy(alloc: Global, value: &Value) -> Result<Value, Memory>
     ensures { IfOk result (λ copy. view_value copy ≡ view_value value.now) }
@@ -78,14 +78,14 @@ pub fn copy(alloc: Global, value: &Value) -> Result<Value, Memory>
     }
 }
 
-/// The list of these values as a value.
+/// A list of a script, as a value, with these parts.
 pub fn listed(parts: Vec<Value>) -> Value
     ensures { view_value result ≡ a_list (many (map view_value parts.items)) }
 {
     Value::Listed(parts)
 }
 
-/// The tuple of these values as a value.
+/// A tuple of a script, as a value, with these parts.
 pub fn tuple(parts: Vec<Value>) -> Value
     ensures { view_value result ≡ a_tuple (many (map view_value parts.items)) }
 {

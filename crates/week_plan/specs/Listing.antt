@@ -65,8 +65,8 @@ round_text daily round = span_text daily (min round.from 604799) (min round.last
 abbrev pub more_text : ℕ → List ℕ
 more_text count = codes " and " ++ (decimal count ++ codes " more")
 
--- The text of a list of spans with commas between them, where the first is number k: those up to number 8 are told, and
--- of the others how many they are.
+-- The text of a list of spans with commas between them, where the first is number k, from 0: numbers 0 to 7 are told,
+-- and of the others how many they are.
 abbrev pub rounds_text : (daily : Bool) → (k : ℕ) → List Round → List ℕ
 rounds_text daily k [] = []
 rounds_text daily k (round ∷ rounds) =
