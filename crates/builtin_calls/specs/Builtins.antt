@@ -129,14 +129,15 @@ over_sources o kinds given m = do
   children ← few_sources m.plan.nodes k given
   add (node o k children) m
 
--- what `fallback(track_sensitive=true, sources)` makes: a node that plays the first source that is ready
+-- What a call of `fallback(track_sensitive=true, sources)` comes to: the plan gets a node that plays the first of the
+-- sources that is ready.
 unfoldable pub fallback : List Kind → List Argument → Machine → Outcome
 fallback kinds given m = do
   sensitive ← sensitive_or given
   over_sources (op.Fallback sensitive.0) kinds sensitive.1 m
 
--- what `switch(track_sensitive=true, pairs)` makes: a node that plays the first source that is ready and whose
--- predicate holds
+-- What a call of `switch(track_sensitive=true, pairs)` comes to: the plan gets a node that plays the first source that
+-- is ready and whose predicate of time holds.
 unfoldable pub switch : List Kind → List Argument → Machine → Outcome
 switch kinds given m = do
   sensitive ← sensitive_or given

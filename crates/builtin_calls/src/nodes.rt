@@ -104,14 +104,14 @@ pub(crate) fn add_buffer(
     }
 }
 
-/// A list of one child, by its number.
+/// Makes the list of children of a node that reads one source, by the number of its node.
 pub(crate) fn one_child(alloc: Global, child: u32) -> Result<Items<u32>, Memory>
     ensures { IfOk result (λ children. children ≡ child ∷ []) }
 {
     Ok(Items::from_vec(vec![in alloc; child]?))
 }
 
-/// A list of two children, by their numbers.
+/// Makes the list of children of a node that reads two sources, by the numbers of their nodes.
 pub(crate) fn two_children(alloc: Global, first: u32, second: u32) -> Result<Items<u32>, Memory>
     ensures { IfOk result (λ children. children ≡ first ∷ second ∷ []) }
 {

@@ -99,7 +99,8 @@ pub(crate) fn mksafe(
     safe(alloc, machine, kind, source)
 }
 
-/// `buffer(buffer=1., max=10., s)`, whose name stands at token `at`: adds a buffer with its feed and its reader.
+/// `buffer(buffer=1., max=10., s)`, whose name stands at token `at`: adds a buffer, a sink that feeds it from `s`, and
+/// a node that reads it, which is the value.
 #[tactic(auto, unfolding(crate::specs::Builtins::buffer))]
 pub(crate) fn buffer(
     alloc: Global,

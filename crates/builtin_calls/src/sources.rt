@@ -77,7 +77,7 @@ fn as_source(plan: &Draft, kind: Kind, value: Value) -> Result<u32, Stop>
     source_of(plan, kind, &value)
 }
 
-/// The nodes of a value that is a list of sources of this kind. The value is dropped.
+/// The numbers of the nodes of a value that is a list of sources of this kind. The value is dropped.
 fn as_sources(alloc: Global, plan: &Draft, kind: Kind, value: Value) -> Result<Vec<u32>, Stop>
     ensures given { Gives (λ ns. ns.items) result (sources_of plan.now.nodes kind (view_value value)) }
     ensures there { IfOk result (λ ns. All (λ n. n < length plan.now.nodes) ns.items) }
@@ -85,7 +85,7 @@ fn as_sources(alloc: Global, plan: &Draft, kind: Kind, value: Value) -> Result<V
     sources_of(alloc, plan, kind, &value)
 }
 
-/// The cases of a value that is a list of predicates with sources of this kind. The value is dropped.
+/// The cases of a `switch` from a value that is a list of tuples, with sources of this kind. The value is dropped.
 fn as_pairs(alloc: Global, plan: &Draft, kind: Kind, value: Value) -> Result<Pairs, Stop>
     ensures given { Gives (λ ps. (map view_shared ps.preds.items, ps.sources.items)) result
         (pairs_of plan.now.nodes kind (view_value value)) }

@@ -26,8 +26,8 @@ pub record Found (files : Option Files) (name : List ℕ) (most : ℕ) (before a
   pub fits : length bytes ≤ most
   pub is_file : ForSome files (λ all. file_at all name ≡ Some bytes)
 
--- the front of a file of `size` bytes, at most `most`, was added to what a list held: all of it, or its first `front`
--- bytes and maybe more; where the files are told, it is the one of this name
+-- What a look at a file of `size` bytes, at most `most`, did: its first bytes, at least `front` of them or all, were
+-- added to a list that was `before` and is `after`. Where the shelf tells its files, it is the one of this name.
 pub record FrontFound (files : Option Files) (name : List ℕ) (front most size : ℕ)
     (before after : List ℕ) : Type 0 where
   pub bytes : List ℕ

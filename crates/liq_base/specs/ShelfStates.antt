@@ -169,7 +169,8 @@ after_create shelf made = record shelf {
   write_faults = raised shelf.write_faults (create_fails shelf);
 }
 
--- the listed appends of the sink of this number: for each the number of its call, and how many bytes it takes
+-- The appends that are to fail of the sink which creation number `sink` makes: for each the number of its call, and how
+-- many bytes it takes.
 abbrev pub appends_of : ℕ → List FailingAppend → List (ℕ × ℕ)
 appends_of sink fails = map (λ fail. (fail.call, fail.taken)) (filter (λ fail. fail.sink == sink) fails)
 

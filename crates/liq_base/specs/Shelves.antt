@@ -5,8 +5,8 @@ use Rattle.liq_base.specs.Counts.{Rose}
 use Rattle.liq_base.specs.Pieces.{SinkTold}
 use Rattle.liq_base.specs.Files.{Files}
 
--- what is told of a sink that was closed: its name, for how many bytes it was created, how many it held, how many
--- pieces it had got, and how often it had failed
+-- What a shelf tells of a sink that it closed: its name, for how many bytes it was created, how many it held, how many
+-- pieces it had got, and how often it had failed.
 pub record Closing : Type 0 where
   pub name : List ℕ
   pub room : ℕ

@@ -57,7 +57,7 @@ appended sink piece = record {
   faults = faults_after (stops sink piece) sink.faults;
 }
 
--- what a sink in memory without a name tells: its bytes, its appends and its faults
+-- What a byte sink in memory without a name tells of itself: its bytes, the number of its appends and its faults.
 abbrev pub sink_told : SinkState → SinkTold
 sink_told sink = record {
   held = Some sink.held;
@@ -67,12 +67,12 @@ sink_told sink = record {
   faults = sink.faults;
 }
 
--- a sink that a shelf in memory made, with its name
+-- All that a sink keeps which a shelf in memory made: its name, and the byte sink behind it.
 pub record NamedState : Type 0 where
   pub name : List ℕ
   pub sink : SinkState
 
--- what a sink in memory with a name tells: all that a sink can tell
+-- What a sink of a shelf in memory tells of itself: its bytes, name, room left, number of appends and faults.
 abbrev pub named_told : NamedState → SinkTold
 named_told named = record {
   held = Some named.sink.held;
@@ -82,13 +82,14 @@ named_told named = record {
   faults = named.sink.faults;
 }
 
--- a sink in memory that never fails, with its name and its room
+-- All that a sink in memory keeps which never fails: its name, its bytes and for how many bytes it was made.
 pub record SureState : Type 0 where
   pub name : List ℕ
   pub held : List ℕ
   pub room : ℕ
 
--- what a sink that never fails tells: its bytes, its name and its room, and nothing of its appends
+-- What a sink in memory that never fails tells of itself: its bytes, its name and its room left. It does not tell its
+-- appends.
 abbrev pub sure_told : SureState → SinkTold
 sure_told sure = record {
   held = Some sure.held;

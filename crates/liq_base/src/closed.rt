@@ -38,6 +38,7 @@ pub(crate) struct Entry {
 
 /// The files are not printed.
 impl fmt::Debug for Closed {
+    // Prints the word `Closed` alone, and none of the files.
     fn fmt<W: fmt::Write>(&self, f: &mut fmt::Formatter<W>) -> fmt::Result {
         f.write_str("Closed")
     }
@@ -45,6 +46,7 @@ impl fmt::Debug for Closed {
 
 /// The file is not printed.
 impl fmt::Debug for Entry {
+    // Prints the word `Entry` alone, and nothing of the file.
     fn fmt<W: fmt::Write>(&self, f: &mut fmt::Formatter<W>) -> fmt::Result {
         f.write_str("Entry")
     }
@@ -81,7 +83,8 @@ pub(crate) fn find_file<'a>(
     }
 }
 
-/// Adds the bytes of the file of this name to `into`, if it has at most `most`.
+/// Reads the file of this name in a shelf in memory: adds its bytes to `into`, if it has at most `most`, and answers
+/// whether it was found, missing or too large.
 pub(crate) fn fetch_file(
     closed: &Closed,
     given: &[(String, Vec<u8>)],

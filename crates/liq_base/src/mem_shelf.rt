@@ -99,7 +99,7 @@ impl MemShelf {
         }
     }
 
-    /// Lists the read of this number, counted from 0, as one that fails.
+    /// Tells the shelf to let the read of this number, counted from 0, fail.
     pub fn fail_read(&mut self, call: u64) -> Result<(), Memory>
         ensures listed { OnOk result (self.new ≡ record self.old {
           failing_reads = self.old.failing_reads ++ call
@@ -111,7 +111,7 @@ impl MemShelf {
         Ok(())
     }
 
-    /// Lists the creation of this number, counted from 0, as one that fails.
+    /// Tells the shelf to let the creation of this number, counted from 0, fail.
     pub fn fail_create(&mut self, call: u64) -> Result<(), Memory>
         ensures listed { OnOk result (self.new ≡ record self.old {
           failing_creates = self.old.failing_creates ++ call
@@ -123,7 +123,7 @@ impl MemShelf {
         Ok(())
     }
 
-    /// Lists the closing of this number, counted from 0, as one that fails.
+    /// Tells the shelf to let the closing of this number, counted from 0, fail.
     pub fn fail_close(&mut self, call: u64) -> Result<(), Memory>
         ensures listed { OnOk result (self.new ≡ record self.old {
           failing_closes = self.old.failing_closes ++ call
@@ -135,8 +135,8 @@ impl MemShelf {
         Ok(())
     }
 
-    /// Lists an append that fails after `taken` bytes: call number `call` of the sink that creation
-    /// number `sink` makes. A sink takes its list over when it is made.
+    /// Tells the shelf to let an append fail after `taken` bytes: call number `call` of the sink that creation number
+    /// `sink` makes, both from 0. A sink takes its list over when it is made.
     pub fn fail_append(&mut self, sink: u32, call: u64, taken: u64) -> Result<(), Memory>
         ensures listed { OnOk result (self.new ≡ record self.old {
           failing_appends = self.old.failing_appends
@@ -149,7 +149,7 @@ impl MemShelf {
         Ok(())
     }
 
-    /// The bytes of the file of this name, if there is one.
+    /// The bytes of the file of this name in the shelf; `None` where there is none.
     pub fn get(&self, name: &str) -> Option<&[u8]>
         ensures file { MatchOption result (file_at self.now.files name.now ≡ None)
             (λ bytes. file_at self.now.files name.now ≡ Some bytes.now) }
@@ -167,7 +167,7 @@ impl MemShelf {
         Ok(())
     }
 
-    /// Counts a read, and tells whether it is to fail.
+    /// Counts one more read, and answers whether the shelf was told to let it fail; if so it counts a fault too.
     fn count_read(&mut self) -> bool
         ensures next { self.new ≡ after_read self.old }
         ensures fails { result ≡ read_fails self.old }

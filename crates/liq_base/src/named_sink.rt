@@ -44,7 +44,7 @@ impl NamedSink {
         Ok(NamedSink { name, sink, entry })
     }
 
-    /// How often a call failed.
+    /// How many appends of the sink failed.
     pub(crate) fn faults(&self) -> u64
         ensures { result ≡ self.now.sink.faults }
     {

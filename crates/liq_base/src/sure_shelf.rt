@@ -49,7 +49,7 @@ impl SureShelf {
         }
     }
 
-    /// The bytes of the file of this name, if there is one.
+    /// The bytes of the file of this name in the shelf; `None` where there is none.
     pub fn get(&self, name: &str) -> Option<&[u8]>
         ensures file { MatchOption result (file_at self.now name.now ≡ None)
             (λ bytes. file_at self.now name.now ≡ Some bytes.now) }

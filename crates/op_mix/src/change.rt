@@ -49,7 +49,7 @@ pub fn halved(cell: Cell) -> Cell
     }
 }
 
-/// The stereo cell of a mono one: its sample on both sides.
+/// The stereo cell of a mono one: its left sample stands on both sides.
 pub fn doubled(cell: Cell) -> Cell
     ensures { result ≡ doubled cell }
 {

@@ -30,7 +30,7 @@ impl Model for Sums {
 }
 
 impl Sums {
-    /// Room for the sums of any run. No later call takes memory.
+    /// Reserves room for the sums over any run of instants, of at most 2048. No later call takes memory.
     pub fn new(alloc: Global) -> Result<Sums, Memory> {
         let sums = vec![in alloc; 0; MAX_STRETCH as usize]?;
         let counts = vec![in alloc; 0; MAX_STRETCH as usize]?;

@@ -71,8 +71,8 @@ past_given past pick = record {
   choices = if pick.cell.first then suc past.choices else past.choices;
 }
 
--- what a state keeps: how many children there are, the child used last, or none, and the words of a random's seed that
--- were not used up; a rotate has none
+-- What a rotate or a random keeps from instant to instant: how many children it has, the child used last, if any, and
+-- the random words of the seed that are left; a rotate has none.
 pub record Turning : Type 0 where
   pub children : ℕ
   pub last : Option ℕ

@@ -47,8 +47,8 @@ impl TurnState {
         }
     }
 
-    /// The child that is used at this instant, over what each child offers, and the cell that is offered with it.
-    /// `None` where no child offers. The rules are in `docs/streams.md`.
+    /// What a rotate or a random offers at this instant, from what each child offers: the child that is used, and its
+    /// cell. `None` where no child offers. The rules are in `docs/streams.md`.
     pub fn offer(&self, offers: &[Option<Cell>]) -> Option<Pick>
         requires { length offers.now ≡ self.now.children }
         ensures offered { (turn : TheTurn) (past : Past) → StandsFor turn past self.now

@@ -10,7 +10,7 @@ use Rattle.script_places.specs.Showing.{is_marked, shown}
 abbrev pub is_blank : ℕ → Bool
 is_blank b = (b == 32) || (b == 9)
 
--- the bytes without their leading blanks
+-- The bytes of a line without the spaces and TABs at its begin.
 abbrev pub trimmed : List ℕ → List ℕ
 trimmed bytes = drop (prefix_len is_blank bytes) bytes
 

@@ -4,7 +4,8 @@ use Rattle.std.specs.Prelude.{ℕ, zero, suc, ◌+◌, ◌-◌, ◌/◌, ◌%◌
 use Rattle.std.specs.Str.{bytes_eq}
 use Rattle.script_places.specs.Counting.{width}
 
--- a control byte other than a TAB: below 32, or from 127 to 159
+-- Whether a byte is that of a control character other than a TAB, as it would drive a terminal: below 32, or from 127
+-- to 159.
 abbrev pub is_control : ℕ → Bool
 is_control b = (nat_lt b 32 && not (b == 9)) || (nat_le 127 b && nat_lt b 160)
 
@@ -24,7 +25,7 @@ unfoldable pub is_hidden : List ℕ → Bool
 is_hidden [] = false
 is_hidden (b ∷ bs) = is_control b || (b == 194 && has_control_next (b ∷ bs)) || is_marked (b ∷ bs)
 
--- the hexadecimal digit of a number below 16
+-- The hexadecimal digit, `0` to `9` or `a` to `f`, of a number below 16, as a byte.
 abbrev pub digit : ℕ → ℕ
 digit n = if nat_lt n 10 then n + 48 else n + 87
 

@@ -41,7 +41,7 @@ pub fn number_in_front(text: &[u8], byte: u8) -> Option<u64>
     read_u64(&text[..at])
 }
 
-// The place at which `byte` stands first in a text, from 0.
+// The index, from 0, at which `byte` first stands in a text; `None` where it does not.
 fn place_of(text: &[u8], byte: u8) -> Option<usize>
     ensures { result ≡ position (λ b. b == byte) text.now }
 {

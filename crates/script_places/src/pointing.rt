@@ -81,7 +81,7 @@ fn cut_cr(line: &[u8]) -> &[u8]
     }
 }
 
-// The bytes without their leading blanks.
+// The bytes of a line without the spaces and TABs at its begin.
 fn trimmed(bytes: &[u8]) -> &[u8]
     ensures { result.now ≡ trimmed bytes.now }
 {

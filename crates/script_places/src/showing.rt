@@ -9,7 +9,8 @@ use liq_base::Memory;
 /// The bytes of the byte order mark.
 const MARK: [u8; 3] = [0xEF, 0xBB, 0xBF];
 
-// A control byte other than a TAB.
+// Whether a byte is that of a control character other than a TAB, as it would drive a terminal: below 32, or from 127
+// to 159.
 fn is_control(byte: u8) -> bool
     ensures { result ≡ is_control byte }
 {
@@ -103,8 +104,8 @@ fn push_first<'a>(out: &mut Vec<u8>, bytes: &'a [u8]) -> Result<&'a [u8], Memory
     Ok(behind)
 }
 
-/// Adds a text as it is shown: the bytes of a control character but for a TAB, and of the byte order mark, as `\x` and
-/// two digits each.
+/// Appends a text as a terminal may show it: the bytes of control characters, but for a TAB, and of the byte order mark
+/// as `\x` and two digits each.
 pub fn push_shown(out: &mut Vec<u8>, bytes: &[u8]) -> Result<(), Memory>
     ensures { OnOk result (out.new.items ≡ out.old.items ++ shown bytes.now) }
 {

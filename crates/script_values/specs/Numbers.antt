@@ -51,7 +51,7 @@ unfoldable pub negative : ℕ → Literal → Result Value Stop
 negative at (literal.Int n) = int_at at (neg_ℤ n)
 negative at (literal.Number d) = decimal_at at (neg_ℤ d.millionths)
 
--- the difference of two numbers if true, and else their sum
+-- The difference of the whole numbers a and b for `true`, and their sum for `false`.
 abbrev pub plus_or_minus : Bool → ℤ → ℤ → ℤ
 plus_or_minus true a b = a -ℤ b
 plus_or_minus false a b = a +ℤ b

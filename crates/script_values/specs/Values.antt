@@ -3,12 +3,13 @@ use Rattle.std.specs.Prelude.{ℕ, ◌+◌, ℤ, List, [], ◌∷◌, Bool}
 use Rattle.fixed_text.specs.declared.decimal.Decimal.{Decimal}
 use Rattle.time_pred.specs.Predicates.{Predicate}
 
--- the sort of a tree of values: one value, or a list of them
+-- The two sorts of trees below: one value of a script, or a list of such values.
 pub data ValueSort : Type 0 where
   OneValue : ValueSort
   ManyValues : ValueSort
 
--- the values of a script, and lists of them, as trees
+-- The values of a script (numbers, texts, bools, unit, formats, predicates, sources, lists and tuples) and lists of
+-- values, as one family of trees.
 pub data ValueTree : ValueSort → Type 0 where
   no_values : ValueTree ManyValues
   more_values : ValueTree OneValue → ValueTree ManyValues → ValueTree ManyValues

@@ -49,7 +49,7 @@ pub fn argument(given: &mut Vec<Given>, label: Option<&str>) -> Option<Value>
     }
 }
 
-/// A copy of an argument's label.
+/// A copy of the label of an argument; `None` for an argument without one.
 pub fn copy_label(alloc: Global, label: &Option<Text>) -> Result<Option<Text>, Memory>
     ensures { IfOk result (λ copied. copied ≡ label.now) }
 {

@@ -92,7 +92,7 @@ pub fn tuple(parts: Vec<Value>) -> Value
     Value::Tuple(parts)
 }
 
-/// The sum of the sizes of these values, or `u64::MAX` where it is more.
+/// The sum of the sizes of the parts of a list or tuple, or `u64::MAX` where it is more.
 #[cycle(size)]
 fn sizes(parts: &[Value]) -> u64
     ensures { result ≡ min (size (many (map view_value parts.now))) u64.MAX }
@@ -104,7 +104,7 @@ fn sizes(parts: &[Value]) -> u64
     sum
 }
 
-/// Copies of these values, in order.
+/// Copies of the parts of a list or tuple, in order.
 #[cycle(copy)]
 fn copies(alloc: Global, parts: &[Value]) -> Result<Vec<Value>, Memory>
     ensures { IfOk result (λ copies. map view_value copies.items ≡ map view_value parts.now) }

@@ -153,7 +153,8 @@ Ended asked old new (Err Write) = Rose old.writes new.writes
 Ended asked old new (Err Memory) = ForSome old.files
     (λ files. ForEach asked files (λ verdict. IsStarved verdict files old new))
 
--- a job is for this rendering: it begins at its second and makes its ticks, with its trace and its cue files
+-- The job, ready to run, is the one for this rendering: it has its start, its number of ticks, and its wishes for a
+-- trace and cue files.
 pub record IsJobFor (rendering : Rendering) (job : Job) : Type 0 where
   pub start_is : rendering.start ≡ job.start.second
   pub ticks_are : rendering.ticks ≡ job.ticks
@@ -164,7 +165,8 @@ pub record IsJobFor (rendering : Rendering) (job : Job) : Type 0 where
 abbrev pub IsToRender : Asked → Type 0
 IsToRender asked = (station : Station) → verdict_for asked station ≡ Accepted station
 
--- the plan of a job, with its audio files and clocks, is granted to be rendered in this way
+-- The decision to render the plan of a job, with its audio files and clocks, in this way (by threads, in rounds, or as
+-- a trace tells).
 abbrev pub granted : Job → Way → Ruling
 granted job way = Granted job.plan job.ready.library job.ready.clocks way
 

@@ -33,7 +33,7 @@ pub data Verdict : Type 0 where
   Accepted : Station → Verdict
   Made : Files → Station → Verdict
 
--- the line that a call prints if its words have no form
+-- The line that a call prints if its words have no form: it shows the four forms.
 abbrev pub usage_line : List ℕ
 usage_line = codes "usage: check FILE | render FILE N [--one-thread] [--window=W] [--start=D:HH:MM:SS] [--trace=NAME] [--cues] | make SEED SIZE | replay FILE N TRACE [--start=D:HH:MM:SS]\n"
 

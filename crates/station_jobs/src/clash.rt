@@ -14,8 +14,8 @@ use refusal_lines::Fault;
 use station_render::cue_file_name;
 use std::alloc::Global;
 
-/// Refuses two files of one name: where cue files are wanted, one that has the name of an output; then a trace that has
-/// the name of an output or of a cue file.
+/// Refuses a rendering that would write two files of one name: a cue file (where they are wanted) and an output, or the
+/// trace and an output or a cue file.
 pub fn keep_apart(
     alloc: Global,
     plan: &Plan,
@@ -47,7 +47,7 @@ fn find_clash(
     find_trace_clash(alloc, plan, trace, cues)
 }
 
-// If cue files are wanted, the name of the first one that an output has too.
+// If cue files are wanted, the name of the first one that would overwrite an output; else `None`.
 fn find_cue_clash(alloc: Global, plan: &Plan, cues: bool) -> Result<Option<Text>, Memory>
     ensures { IfOk result (λ name. name ≡ cue_clash plan.now cues) }
 {

@@ -85,8 +85,8 @@ pub(crate) fn conclude(
     report_or_halt(report(alloc, &job.plan, job.ticks, &rendered))
 }
 
-/// The report, or that memory was refused for it. It is a function of its own, since with a plan alive a `?` would be
-/// one more place at which the caller ends.
+/// Hands a report on, or ends the call where memory was refused for it. It is a function of its own, since with a plan
+/// alive a `?` would be one more place at which the caller ends.
 pub(crate) fn report_or_halt(report: Result<String, Memory>) -> Result<String, CallEnd>
     ensures told { IfOk result (λ text. report ≡ Ok text) }
     ensures starved { IfErr result (λ halt. halt ≡ no_memory) }

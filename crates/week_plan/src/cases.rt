@@ -87,8 +87,8 @@ fn push_fates(
     Ok(())
 }
 
-// Appends what becomes of each case. Takes its seconds from `holes`, and from `free` too if its source never falls
-// silent. `kept` is room for a case's table, which stays for the next case, since that may have the same predicate.
+// Appends what becomes of each case of a `switch`. Takes its seconds from `holes`, and from `free` too if its source
+// never falls silent. `kept` is room for a case's table, which stays for the next case with the same predicate.
 fn push_each_fate(
     alloc: Global,
     into: &mut Vec<Fate>,
@@ -113,8 +113,8 @@ fn push_each_fate(
     Ok(())
 }
 
-// Makes in `kept` the table of case k, whose predicate is `pred`. Nothing is done if case k - 1 has the same predicate,
-// since its table is there.
+// Makes in `kept` the table of the seconds of the week at which case k, with the predicate `pred`, holds. If case k - 1
+// has the same predicate, that table is there already.
 fn keep_table(
     alloc: Global,
     kept: &mut Vec<u64>,
@@ -149,7 +149,7 @@ fn take_case(holes: &mut [u64], free: &mut [u64], table: &[u64], sure: bool) -> 
     fate
 }
 
-// Takes the seconds of a table out of `from`, if the source of its case never falls silent (`sure`).
+// Takes the seconds of `table` out of the table `from`, if `sure` says that the source of the case never falls silent.
 fn take_if(from: &mut [u64], table: &[u64], sure: bool)
     requires from { IsTable from.old }
     requires table { IsTable table.now }

@@ -43,7 +43,7 @@ pub fn push_when(
     Ok(())
 }
 
-// Whether the first span is the whole week.
+// Whether the first of these spans is the whole week, from second 0 to 604800.
 fn is_whole(spans: &[Span]) -> bool
     ensures { result ≡ is_whole spans.now }
 {

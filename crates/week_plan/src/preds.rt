@@ -33,7 +33,7 @@ pub fn table_of(alloc: Global, pred: &Pred) -> Result<Vec<u64>, Memory>
     }
 }
 
-// The table of the seconds at which all of these predicates hold.
+// The table of the seconds of the week at which all of these predicates hold, the parts of an `and`.
 #[cycle(table)]
 fn all_table(alloc: Global, parts: &[Pred]) -> Result<Vec<u64>, Memory>
     ensures { IfOk result (λ words. IsTableOf (λ at. list_all (λ p. holds (view_pred p) at) parts.now) words.items) }
@@ -46,7 +46,7 @@ fn all_table(alloc: Global, parts: &[Pred]) -> Result<Vec<u64>, Memory>
     Ok(words)
 }
 
-// The table of the seconds at which at least one of these predicates holds.
+// The table of the seconds of the week at which at least one of these predicates holds, the parts of an `or`.
 #[cycle(table)]
 fn any_table(alloc: Global, parts: &[Pred]) -> Result<Vec<u64>, Memory>
     ensures { IfOk result (λ words. IsTableOf (λ at. list_any (λ p. holds (view_pred p) at) parts.now) words.items) }

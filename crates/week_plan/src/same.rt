@@ -109,7 +109,7 @@ fn is_interval(from: TimeMark, to: TimeMark, pred: &Pred) -> bool
     }
 }
 
-// Whether two intervals have the same marks: `from` and `since` begin them, `to` and `until` end them.
+// Whether two intervals of time have the same marks: `from` and `since` begin them, `to` and `until` end them.
 fn is_both(from: TimeMark, since: TimeMark, to: TimeMark, until: TimeMark) -> bool
     ensures from { result ≡ true → from ≡ since }
     ensures to { result ≡ true → to ≡ until }

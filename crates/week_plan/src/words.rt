@@ -12,8 +12,8 @@ const HOUR: u32 = 3600;
 
 const DAY: u32 = 86_400;
 
-/// Appends a span by its first and its last second: with `daily` as a span of each day, else of the week, round whose
-/// end it goes where the last second comes before the first.
+/// Appends the text of a span by its first and last second: of each day with `daily`, else of the week, with the names
+/// of days. A span of the week goes round its end where the last second comes first.
 pub fn push_span_text(into: &mut Vec<u8>, daily: bool, from: u32, last: u32) -> Result<(), Memory>
     requires from { from < 604800 }
     requires last { last < 604800 }
@@ -84,7 +84,7 @@ fn push_end(into: &mut Vec<u8>, last: u32) -> Result<(), Memory>
     push_clock(into, last % DAY + 1)
 }
 
-// Appends a time of the day, told in seconds since midnight; its seconds only if they are not 0.
+// Appends a time of the day, told in seconds since midnight: `HH:MM`, and `:SS` where it is not on a full minute.
 fn push_clock(into: &mut Vec<u8>, second: u32) -> Result<(), Memory>
     ensures { OnOk result (into.new.items ≡ into.old.items ++ clock_text second) }
 {
@@ -106,7 +106,7 @@ fn push_seconds(into: &mut Vec<u8>, seconds: u32) -> Result<(), Memory>
     push_two(into, seconds)
 }
 
-// Appends a number below 100 in two digits.
+// Appends a number below 100 in two digits, such as `07`.
 fn push_two(into: &mut Vec<u8>, number: u32) -> Result<(), Memory>
     ensures { OnOk result (into.new.items ≡ into.old.items ++ two_digits number) }
 {
@@ -129,7 +129,7 @@ fn push_dash(into: &mut Vec<u8>) -> Result<(), Memory>
     push_plain(into, b"-")
 }
 
-// Appends the name of a day of the week, of which Monday is 0.
+// Appends the short name of a day of the week, from 0 for Monday, and a blank.
 #[tactic(auto, unfolding(crate::specs::Texts::day_text))]
 fn push_day(into: &mut Vec<u8>, day: u32) -> Result<(), Memory>
     ensures { OnOk result (into.new.items ≡ into.old.items ++ day_text day) }
