@@ -1,4 +1,4 @@
--- Outputs.
+-- The outputs of a plan, each of which writes a source to a file.
 use Rattle.std.specs.Prelude.{ℕ, List, nat_lt, Bool, true, false, bytes_eq, count_by, Ok, Err}
 use Rattle.std.specs.List.{list_any}
 use Rattle.liq_base.specs.declared.limits.TheConstants.{MAX_OUTPUTS}

@@ -1,4 +1,4 @@
-// A call of a builtin.
+// The evaluation of a call of a builtin function.
 ghost use Rattle.std.specs.Prelude.{◌≡◌, map};
 ghost use Rattle.script_values.specs.Gives.{Gives};
 ghost use Rattle.script_values.specs.View.{view_value};

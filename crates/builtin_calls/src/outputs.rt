@@ -1,4 +1,4 @@
-// Outputs.
+// The outputs of a plan, each of which writes a source to a file.
 ghost use Rattle.std.specs.Prelude.{◌≡◌, ◌<◌, count_by, length, map};
 ghost use Rattle.std.specs.List.{list_any};
 ghost use Rattle.plan_core.specs.Plans.{is_output};

@@ -1,4 +1,4 @@
-// One cell, changed.
+// One cell, a pair of samples, changed by a node.
 ghost use Rattle.std.specs.Prelude.{◌≡◌};
 ghost use Rattle.stream_meaning.specs.Arithmetic.{amplified, cells_of, doubled, halved};
 ghost use Rattle.op_mix.specs.Mixings.{front_of};

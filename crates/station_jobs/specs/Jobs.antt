@@ -1,4 +1,4 @@
--- What is done for a verdict.
+-- What a call does to the shelf of files for its verdict, and what it reports.
 use Rattle.std.specs.Prelude.{◌≡◌, ◌⊎◌, ℕ, List, Bool, false, Some, map}
 use Rattle.liq_base.specs.Files.{Files}
 use Rattle.liq_base.specs.Shelves.{OnlyRead, ShelfTold}
@@ -54,8 +54,8 @@ pub record Told (station : Station) (old new : ShelfTold) (report : List ℕ) : 
   pub marking : IsMarking station.plan.nodes mark
   pub report_is : report ≡ check_report_of station mark
 
--- The shelf is as it was, and the report is the summary of a run over the files of a workload. Rounds on one thread
--- have one record, and the same summary, so this rests on the station and its files alone.
+-- What `make` did: the shelf was only read, and the report is the summary of a run over the files of a workload. Rounds
+-- on one thread have the same summary, so it rests on the station and its files alone.
 pub record Summed (made : Files) (station : Station) (old new : ShelfTold) (report : List ℕ) : Type 0 where
   pub kept : OnlyRead old new
   pub run : Run

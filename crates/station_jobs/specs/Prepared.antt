@@ -161,7 +161,8 @@ pub record IsJobFor (rendering : Rendering) (job : Job) : Type 0 where
   pub trace_is : rendering.trace ≡ name_in job
   pub cues_are : rendering.cues ≡ job.cues
 
--- what is asked for is a rendering: once it is granted, its station is accepted
+-- What a call asks for writes outputs to the shelf, as a rendering and a replay do: any station that is granted for it
+-- is accepted to be rendered.
 abbrev pub IsToRender : Asked → Type 0
 IsToRender asked = (station : Station) → verdict_for asked station ≡ Accepted station
 

@@ -1,4 +1,4 @@
--- What is told of a workload.
+-- The summary that is printed of a rendered workload.
 use Rattle.std.specs.Prelude.{◌≡◌, ℕ, ℤ, pos, ◌+ℤ◌, ◌*◌, List, [], ◌∷◌, ◌++◌, codes, drop, fold, unwrap_or}
 use Rattle.std.specs.Fmt.{signed_decimal}
 use Rattle.liq_base.specs.Files.{Files, file_at}

@@ -1,4 +1,4 @@
-// What is done before the last text is written.
+// The jobs of a call: checks and renderings, each to its report.
 ghost use Rattle.std.specs.Prelude.{◌≡◌, IfOk, IfErr, None, Ok, Some};
 ghost use Rattle.std.specs.Option.{ForSome};
 ghost use Rattle.liq_base.specs.Shelves.{OnlyRead, ShelfTold};

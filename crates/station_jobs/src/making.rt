@@ -1,4 +1,4 @@
-// A workload is made, rendered and told.
+// A workload is made from a seed, rendered and summed up.
 ghost use Rattle.std.specs.Prelude.{◌≡◌, [], true, IfOk};
 ghost use Rattle.liq_base.specs.Shelves.{ShelfTold};
 ghost use Rattle.station_jobs.specs.Verdicts.{files_made};

@@ -59,8 +59,8 @@ pub fn prepare<'a, S: Shelf>(
     })
 }
 
-/// The plan and the clocks of the script of this name, as `prepare` finds them for no tick. Its audio files are read
-/// and given back, and none is decoded.
+/// Reads the script of this name for a check, which renders no tick: gives its plan and clocks, or the fault. Its audio
+/// files are read and given back, and none is decoded.
 pub fn prepare_check<S: Shelf>(
     alloc: Global,
     file: &str,

@@ -29,9 +29,9 @@ pub struct FoundTrace {
     pub turns: RecordTurns,
 }
 
-/// The trace in the file of this name, with all the turns of its record. It fits if it is that of a lawful record of
-/// this job whose ticks can be ordered. `docs/faults.md` has the faults, which are looked for in this order: no file,
-/// too many bytes, another form, no such record.
+/// Reads the trace in the file of this name, and finds the turns in which its ticks are replayed. The replay is
+/// refused, in this order, if there is no file, it is too large, is no trace, or is of no lawful run of this job.
+/// `docs/faults.md` has these faults.
 pub fn find_trace<S: Shelf>(
     alloc: Global,
     job: &Job<'_>,

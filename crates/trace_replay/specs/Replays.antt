@@ -1,4 +1,4 @@
--- What a replay leaves.
+-- What a replay of a trace leaves: all ticks made, or a part of them.
 use Rattle.std.specs.Prelude.{◌≡◌, ℕ, suc, true, false, List}
 use Rattle.std.specs.List.{flat_map}
 use Rattle.liq_base.specs.Pieces.{SinkTold}

@@ -1,4 +1,4 @@
-// General types.
+// General types of defs and builtins, which each call makes its own.
 use type_terms::{Ty, places};
 
 /// What a type variable of a general type may stand for: anything, int or decimal, or what a variable of the
