@@ -20,8 +20,9 @@ is_listed calls call = list_any (λ listed. listed == call) calls
 abbrev pub raised : ℕ → Bool → ℕ
 raised count failed = if failed then one_more count else count
 
--- All that a shelf in memory keeps whose calls can be told to fail: its files, the names of the sinks it made, what it
--- tells of those it closed, how many calls of each sort were made, which are to fail, and how many failed.
+-- All that a shelf in memory keeps whose calls can be told to fail: its files, the names of the sinks it made, and what
+-- it tells of those it closed. For each sort of call it keeps how many were made, which are to fail, and how many
+-- failed.
 pub record ShelfState : Type 0 where
   pub files : Files
   pub created : List (List ℕ)

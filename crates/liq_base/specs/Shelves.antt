@@ -29,9 +29,9 @@ closing_of name held left pieces faults = record {
 abbrev pub without_faults : Closing → Closing
 without_faults closing = record closing { faults = 0 }
 
--- The files, the names of the sinks that were made and what is told of those that were closed, in their order and also
--- where a closing failed, each where it is told; how often a read failed, and how often a creation or a closing failed
--- or a sink that had failed was closed.
+-- What a shelf tells of itself, each where it is told: its files, the names of the sinks that it made, and what is told
+-- of those that it closed, in order. It always tells how many reads failed (`reads`), and how many creations and
+-- closings failed or closed a sink that had failed (`writes`).
 pub record ShelfTold : Type 0 where
   pub files : Option Files
   pub created : Option (List (List ℕ))

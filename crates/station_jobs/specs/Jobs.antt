@@ -17,8 +17,9 @@ use Rattle.stations.specs.Reports.{report_of, check_report_of}
 use Rattle.station_jobs.specs.Summary.{SumsAsOneThread, summary_of}
 use Rattle.station_jobs.specs.Verdicts.{Verdict, Usage, Checked, Accepted, Made}
 
--- A run by threads could be that of one thread: if the main clocks can be listed so that each buffer leads to a later
--- one, all ticks have an order in which each chunk is put in an earlier tick than the one that takes it.
+-- The ticks of a run have one order in which each chunk is accepted by a buffer in an earlier tick than the one that
+-- gets it. It is said where the main clocks can be listed so that each buffer that joins two of them leads to a later
+-- one.
 abbrev pub IsOrderedOnward : Station → Run → Type 0
 IsOrderedOnward station run = (window : ℕ)
     (lawful : AreWindows (bare station) station.clocks.running window station.ticks run) (listing : List ℕ)
@@ -29,11 +30,9 @@ IsOrderedOnward station run = (window : ℕ)
 abbrev pub names_of : Station → Run → List (List ℕ)
 names_of station run = map (λ file. file.name) (files_of station run)
 
--- A run wrote all outputs, then their cue files, where these are wanted, and then its trace, if one is wanted; the
--- shelf made and closed these files in this order, and no other, each with room for just its bytes; and this is the
--- report. A replay's run is the record of its trace. On one thread and in a replay there is no other run, so it always
--- writes and tells the same. Where no buffer joins two clocks, one thread writes the same outputs and cue files and
--- tells the same.
+-- A run wrote all outputs, then the wanted cue files and trace. The shelf made and closed just these files, in this
+-- order, each with room for its bytes, and this is the report. On one thread and in a replay there is no other run.
+-- Where no buffer joins two clocks, one thread writes the same outputs and cue files and tells the same.
 pub record Wrote (station : Station) (files : Files) (old new : ShelfTold) (report : List ℕ) : Type 0 where
   pub run : Run
   pub lawful : IsLawful station run

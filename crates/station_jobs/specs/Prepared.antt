@@ -139,9 +139,8 @@ ForEach asked files P = (verdict : Verdict) → IsVerdictOn asked files verdict 
 abbrev pub ForOneOf : Asked → ShelfTold → (Files → Verdict → Type 0) → Type 0
 ForOneOf asked shelf P = ForSome shelf.files (λ files. ForOne asked files (P files))
 
--- How a job may end, by what the shelf tells before and after it: with the report of what was done; with the fault that
--- is the verdict, or since a read failed, where the shelf was only read; since a write failed; or since memory was
--- refused.
+-- How a job may end, by what the shelf tells before and after it: with the report of what was done, or with the fault
+-- that is the verdict. Or a read failed, and the shelf was only read; or a write failed; or memory was refused.
 abbrev pub Ended : (asked : Asked) (old new : ShelfTold) → Result (String Global) CallEnd → Type 0
 Ended asked old new (Ok report) = ForOneOf asked old
     (λ files verdict. IsDone verdict files old new (string_bytes report))

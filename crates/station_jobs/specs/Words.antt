@@ -3,8 +3,9 @@ use Rattle.std.specs.Prelude.{◌≡◌, ◌≢◌, ◌≤◌, ◌<◌, ◌⊎�
 use Rattle.std.specs.declared.alloc.Global.{Global}
 use Rattle.fixed_text.specs.Texts.{IsStartText}
 
--- What is asked of a rendering, but for its way: the file of the script, the second of the week at which it begins, for
--- how many ticks, the name of the file that gets the trace of its buffers, if one is wanted, and whether cue files are.
+-- What is asked of a rendering: the file of the script, the second of the week at which it begins, and for how many
+-- ticks. Then the name of the file that gets the trace of its buffers, if one is wanted, and whether cue files are
+-- wanted.
 pub record Rendering : Type 0 where
   pub file : List ℕ
   pub start : ℕ
@@ -18,10 +19,9 @@ abbrev pub rendering_by : (file : List ℕ) (start ticks : ℕ) (trace : Option 
 rendering_by file start ticks trace cues =
     record { file = file; start = start; ticks = ticks; trace = trace; cues = cues }
 
--- What the words of a form ask for: that the script in a file is checked; that it is rendered: by threads in windows of
--- so many ticks, or, where no window is there, on one thread; that the workload of a seed and of so many audio files is
--- rendered and told; or that the script in a file is rendered again, on one thread, from a second of the week on and
--- for so many ticks, as the trace in the file of this name tells.
+-- What the words of a call ask for: to check a script; to render it, by threads in windows of ticks or, with no window,
+-- on one thread; to render and sum up the workload of a seed and a size. Or to replay a script on one thread, from a
+-- second of the week on, for so many ticks, as a trace tells.
 pub data Asked : Type 0 where
   Check : (file : List ℕ) → Asked
   Render : (rendering : Rendering) (window : Option ℕ) → Asked

@@ -49,9 +49,9 @@ impl Model for RecordTurns {
     } };
 }
 
-/// The turns in which the clocks make the record that a trace tells, where the trace, which was read, is that of a
-/// lawful record of `ticks` ticks of a plan, with its clocks, its files and its start second, whose ticks can be
-/// ordered; and `None` where it is not. Only want of memory comes in place of an answer.
+/// Finds the turns in which the clocks replay a trace; `None` if it is of no lawful run of `ticks` ticks of this plan,
+/// with these clocks, files and start second, whose ticks can be put in one order. Only want of memory comes in place
+/// of an answer.
 pub fn find_record(
     alloc: Global,
     plan: &Plan,
