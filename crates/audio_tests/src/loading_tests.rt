@@ -29,14 +29,14 @@ const FILES: &[(&str, &[u8])] = &[
     ("text", b"no audio file"),
 ];
 
-/// A file of this name and these bytes.
+/// A file for a shelf in memory: copies of this name and these bytes.
 fn file_of(alloc: Global, name: &str, bytes: &[u8]) -> Result<(String, Vec<u8>), AllocError> {
     let name = String::from_str(alloc, name)?;
     let bytes = bytes.to_vec(alloc)?;
     Ok((name, bytes))
 }
 
-/// Adds these files.
+/// Appends files of these names and bytes to the list from which a shelf in memory is made.
 fn add_files(
     alloc: Global,
     files: &mut Vec<(String, Vec<u8>)>,
@@ -48,14 +48,14 @@ fn add_files(
     Ok(())
 }
 
-/// A shelf with the files.
+/// A shelf in memory with the audio files and lists of these tests.
 fn shelf(alloc: Global) -> Result<SureShelf, AllocError> {
     let mut files = Vec::new(alloc);
     add_files(alloc, &mut files, FILES)?;
     Ok(SureShelf::new(alloc, files))
 }
 
-/// A plan of this leaf alone, at so many samples a second.
+/// A plan for these tests with one node, a leaf that plays files, at `rate` samples a second.
 fn plan_of(alloc: Global, leaf: Op, rate: u32) -> Result<Plan, AllocError>
     ensures leaf { IfOk result (λ plan. length plan.nodes ≡ 1) }
     ensures rate { IfOk result (λ plan. plan.rate ≡ rate) }
@@ -74,7 +74,7 @@ fn plan_of(alloc: Global, leaf: Op, rate: u32) -> Result<Plan, AllocError>
     })
 }
 
-/// A `single` of this file, or a `playlist` of this list.
+/// The operator of a leaf that plays files by this name: a `playlist` of the list, or a `single` of the audio file.
 fn leaf_of(alloc: Global, is_list: bool, name: &str) -> Result<Op, Memory> {
     let file = Text::from_str(alloc, name)?;
     if is_list {
@@ -84,7 +84,8 @@ fn leaf_of(alloc: Global, is_list: bool, name: &str) -> Result<Op, Memory> {
     }
 }
 
-/// The library of a plan of one leaf, where so many bytes are the most for one file and for all.
+/// Loads the audio files of a plan with one leaf, from the shelf of these tests. `file` and `all` are the most bytes
+/// allowed for one file and for all.
 fn library_of(alloc: Global, leaf: Op, rate: u32, file: u16, all: u16) -> Result<Library, LoadFault>
     requires least { 8000 ≤ rate }
     requires most { rate ≤ 192000 }
@@ -99,7 +100,8 @@ fn library_of(alloc: Global, leaf: Op, rate: u32, file: u16, all: u16) -> Result
     load(alloc, &plan, &mut shelf, sizes)
 }
 
-/// How many files a leaf plays, or the fault of its loading.
+/// How many audio files are loaded for a plan of one leaf, or the fault of loading them. `file` and `all` are the most
+/// bytes allowed for one file and for all.
 fn count_tracks(
     alloc: Global,
     rate: u32,
@@ -116,7 +118,7 @@ fn count_tracks(
     Ok(library.tracks(0))
 }
 
-/// The word for a fault in these tables.
+/// The word by which the rows of these tests name a fault of loading.
 fn fault_name(fault: &LoadFault) -> &'static str {
     match fault {
         LoadFault::Missing(_) => "missing",
@@ -170,7 +172,8 @@ const ROWS: &[Row] = &[
     (true, true, "rates", 52, 101, Err("all too large")),
 ];
 
-/// Each row has its answer.
+/// Checks each row: loads the files of its leaf, and compares their number, or the fault, with the one that the row
+/// wants.
 fn check(rt: &impl Abort, alloc: Global, rows: &[Row]) {
     for row in rows {
         let (slow, is_list, name, file, all, want) = *row;
@@ -181,6 +184,8 @@ fn check(rt: &impl Abort, alloc: Global, rows: &[Row]) {
     }
 }
 
+// The loading of audio files keeps to the bounds on one file and on all, and leaves out of a list what is no audio
+// file.
 #[test]
 fn audio_files_are_of_bounded_size_and_lists_skip_what_is_none(rt: HostRuntime) {
     check(&rt, rt.alloc(), ROWS);
@@ -198,8 +203,8 @@ const HEADS: &[(usize, u64, Option<Result<(u64, u64), WavFault>>)] = &[
     (36, 36, Some(Err(WavFault::NoData))),
 ];
 
-/// What the front of a file of `size` bytes tells: the place of the first block and the bytes of all, a fault, or
-/// nothing.
+/// Reads the head of a WAV file of `size` bytes from its front: gives where the samples begin and how many bytes they
+/// have, a fault, or `None` where the front is too short to tell.
 fn told_by(front: &[u8], size: u64) -> Option<Result<(u64, u64), WavFault>> {
     match read_head(front, size) {
         Some(Ok(head)) => Some(Ok((head.at, head.size))),
@@ -208,7 +213,8 @@ fn told_by(front: &[u8], size: u64) -> Option<Result<(u64, u64), WavFault>> {
     }
 }
 
-/// Each row tells what it should.
+/// Checks each row: takes so many bytes of the test file as the front of a file of this size, and compares what its
+/// head tells with the row.
 fn check_heads(rt: &impl Abort, rows: &[(usize, u64, Option<Result<(u64, u64), WavFault>>)]) {
     for row in rows {
         let (length, size, told) = *row;
@@ -217,6 +223,7 @@ fn check_heads(rt: &impl Abort, rows: &[(usize, u64, Option<Result<(u64, u64), W
     }
 }
 
+// The front of a WAV file tells where its samples are or what is wrong, and nothing where it is too short.
 #[test]
 fn the_front_of_a_file_tells_its_head(rt: HostRuntime) {
     check_heads(&rt, HEADS);

@@ -26,11 +26,13 @@ use Rattle.builtin_calls.specs.Times.{overlap_samples, track_of, samples_of, pit
 use Rattle.builtin_calls.specs.Sinks.{add_output}
 use Rattle.builtin_calls.specs.Settings.{setting}
 
--- the node of this operator, of this kind, over these children
+-- A node of the plan from its three parts: its operator, its kind (mono or stereo), and the numbers of the nodes it
+-- reads.
 abbrev pub node : Op → Kind → List ℕ → Node
 node o k children = record { op = o; kind = k; children = children }
 
--- what `output.file(fallible=false, format, name, s)` makes: an output of the source to the file of this name
+-- What a call of `output.file(fallible=false, format, name, s)` comes to: the state gets an output that writes the
+-- source `s` to the file of this name. `kinds` has the channel kind of `s`.
 unfoldable pub output_file : List Kind → List Argument → Machine → Outcome
 output_file kinds given m = do
   fallible ← bool_or (codes "fallible") false given
@@ -40,21 +42,23 @@ output_file kinds given m = do
   s ← plain_source m.plan.nodes k name.1
   add_output name.0 s.0 fallible.0 format.0 m
 
--- what `set(key, value)` makes: the setting of this key
+-- What a call of `set(key, value)` comes to: the setting of this key, such as the sample rate, gets this value.
 unfoldable pub set : List Argument → Machine → Outcome
 set given m = do
   key ← plain_text given
   value ← plain_argument key.1
   setting key.0 value.0 m
 
--- what `single(file)` makes: a node that repeats an audio file
+-- What a call of `single(file)` comes to: the plan gets a node that plays one audio file again and again, and the value
+-- is this source.
 unfoldable pub single : List Kind → List Argument → Machine → Outcome
 single kinds given m = do
   file ← plain_text given
   k ← one_kind kinds
   add (node (op.Single file.0) k []) m
 
--- the one mode of a playlist, "normal"; any other is a bad value at token `at`
+-- Checks the `mode` of a playlist: "normal" is the only one. Any other is a bad value, told at token `at`, the name of
+-- the call.
 abbrev pub is_normal : ℕ → List ℕ → Result (Unit {0}) Stop
 is_normal at mode =
     elim (bytes_eq mode (codes "normal")) [
@@ -62,7 +66,8 @@ is_normal at mode =
       | false ↦ Err (BadValue at)
     ]
 
--- what `playlist(loop=true, mode="normal", file)` makes: a node that plays the files of a list
+-- What a call of `playlist(loop=true, mode="normal", file)` comes to: the plan gets a node that plays the audio files
+-- listed in `file`. `at` is the token of the call's name, for faults.
 unfoldable pub playlist : ℕ → List Kind → List Argument → Machine → Outcome
 playlist at kinds given m = do
   again ← bool_or (codes "loop") true given
@@ -72,7 +77,8 @@ playlist at kinds given m = do
   normal ← is_normal at mode.0
   add (node (op.Playlist file.0 again.0) k []) m
 
--- what `blank(duration=0.)` makes: a node of zeros, in tracks of this duration
+-- What a call of `blank(duration=0.)` comes to: the plan gets a node that plays silence, in tracks of this many
+-- seconds; one endless track where it is not above 0.
 unfoldable pub blank : ℕ → List Kind → List Argument → Machine → Outcome
 blank at kinds given m = do
   duration ← decimal_or (codes "duration") (some_millionths 0 tt) given
@@ -80,7 +86,8 @@ blank at kinds given m = do
   track ← track_of at m.plan.rate duration.0
   add (node (op.Blank track) k []) m
 
--- what `square(f)` makes: a node that plays a square wave of this pitch
+-- What a call of `square(f)` comes to: the plan gets a node that plays a square wave of f hertz. `at` is the token of
+-- the call's name, for faults.
 unfoldable pub square : ℕ → List Kind → List Argument → Machine → Outcome
 square at kinds given m = do
   f ← plain_decimal given
@@ -88,44 +95,49 @@ square at kinds given m = do
   pitch ← pitch_of at f.0
   add (node (op.Square pitch) k []) m
 
--- what `fail()` makes: a node that has nothing to play
+-- What a call of `fail()` comes to: the plan gets a node that never has anything to play, and the value is this source.
 unfoldable pub fail : List Kind → Machine → Outcome
 fail kinds m = do
   k ← one_kind kinds
   add (node op.Fail k []) m
 
--- the first argument without a label, a list of sources of this kind, at most 65535
+-- Reads the first argument without a label as a list of sources of kind k, and gives the numbers of their nodes. More
+-- than 65535 are a fault.
 unfoldable pub few_sources : List Node → Kind → List Argument → Result (List ℕ) Stop
 few_sources nodes k given = do
   sources ← plain_sources nodes k given
   few sources.0
 
--- the first argument without a label, a list of predicates with sources of this kind, at most 65535
+-- Reads the first argument without a label as the cases of a `switch`, each a predicate of time and a source of kind k.
+-- Gives all predicates, and the nodes of all sources, at most 65535.
 unfoldable pub few_pairs : List Node → Kind → List Argument → Result (List Predicate × List ℕ) Stop
 few_pairs nodes k given = do
   pairs ← plain_pairs nodes k given
   children ← few pairs.0.1
   Ok (pairs.0.0, children)
 
--- the argument `track_sensitive`, or true, and the other arguments
+-- Reads the argument `track_sensitive`, true where it is missing: whether a selection changes its child only where a
+-- track ends. Gives it with the arguments that are left.
 unfoldable pub sensitive_or : List Argument → Result (Bool × List Argument) Stop
 sensitive_or given = bool_or (codes "track_sensitive") true given
 
--- what a builtin over a list of sources makes: a node of this operator over them
+-- What a call comes to whose one argument is a list of sources, such as `sequence` or `rotate`: the plan gets a node of
+-- operator `o` that reads these sources.
 unfoldable pub over_sources : Op → List Kind → List Argument → Machine → Outcome
 over_sources o kinds given m = do
   k ← one_kind kinds
   children ← few_sources m.plan.nodes k given
   add (node o k children) m
 
--- what `fallback(track_sensitive=true, sources)` makes: a node that plays the first source that is ready
+-- What a call of `fallback(track_sensitive=true, sources)` comes to: the plan gets a node that plays the first of the
+-- sources that is ready.
 unfoldable pub fallback : List Kind → List Argument → Machine → Outcome
 fallback kinds given m = do
   sensitive ← sensitive_or given
   over_sources (op.Fallback sensitive.0) kinds sensitive.1 m
 
--- what `switch(track_sensitive=true, pairs)` makes: a node that plays the first source that is ready and whose
--- predicate holds
+-- What a call of `switch(track_sensitive=true, pairs)` comes to: the plan gets a node that plays the first source that
+-- is ready and whose predicate of time holds.
 unfoldable pub switch : List Kind → List Argument → Machine → Outcome
 switch kinds given m = do
   sensitive ← sensitive_or given
@@ -133,7 +145,8 @@ switch kinds given m = do
   pairs ← few_pairs m.plan.nodes k sensitive.1
   add (node (op.Switch sensitive.0 pairs.0) k pairs.1) m
 
--- a seed; a number below zero is a bad value at token `at`
+-- The seed of a `random`: the number n, which must not be below zero; otherwise a bad value at token `at`, the name of
+-- the call.
 abbrev pub seed_of : ℕ → ℤ → Result ℕ Stop
 seed_of at n =
     elim (int_lt n (pos 0)) [
@@ -141,7 +154,8 @@ seed_of at n =
       | false ↦ Ok (unsigned_abs n)
     ]
 
--- what `random(seed=0, sources)` makes: a node that chooses a source by chance for each track
+-- What a call of `random(seed=0, sources)` comes to: the plan gets a node that draws one of the sources for each track,
+-- by numbers that follow from the seed.
 unfoldable pub random : ℕ → List Kind → List Argument → Machine → Outcome
 random at kinds given m = do
   number ← int_or (codes "seed") (pos 0) given
@@ -151,13 +165,15 @@ random at kinds given m = do
   children ← few sources.0
   add (node (op.Random seed) k children) m
 
--- what `add(normalize=true, sources)` makes: a node that mixes these sources
+-- What a call of `add(normalize=true, sources)` comes to: the plan gets a node that mixes these sources, as their mean
+-- where `normalize` is true and else as their sum.
 unfoldable pub add_sources : List Kind → List Argument → Machine → Outcome
 add_sources kinds given m = do
   normalize ← bool_or (codes "normalize") true given
   over_sources (op.Add normalize.0) kinds normalize.1 m
 
--- what `amplify(k, s)` makes: a node that multiplies each sample of the source by this factor
+-- What a call of `amplify(k, s)` comes to: the plan gets a node that multiplies each sample of the source `s` by the
+-- factor `k`.
 unfoldable pub amplify : List Kind → List Argument → Machine → Outcome
 amplify kinds given m = do
   factor ← plain_decimal given
@@ -165,26 +181,28 @@ amplify kinds given m = do
   s ← plain_source m.plan.nodes k factor.1
   add (node (op.Amplify factor.0) k (s.0 ∷ [])) m
 
--- what `mean(s)` makes: a mono node of a stereo source
+-- What a call of `mean(s)` comes to: the plan gets a mono node that averages both sides of the stereo source `s`.
 unfoldable pub mean : List Argument → Machine → Outcome
 mean given m = do
   s ← plain_source m.plan.nodes Kind.Stereo given
   add (node op.Mean Mono (s.0 ∷ [])) m
 
--- what `stereo(s)` makes: a stereo node of a mono source
+-- What a call of `stereo(s)` comes to: the plan gets a stereo node that plays the mono source `s` on both sides.
 unfoldable pub stereo : List Argument → Machine → Outcome
 stereo given m = do
   s ← plain_source m.plan.nodes Mono given
   add (node op.Stereo Kind.Stereo (s.0 ∷ [])) m
 
--- the overlap of a crossfade of node s in samples, within the limits
+-- The overlap of a crossfade of node s, from seconds to samples. It is a fault, where the overlap is too long or a path
+-- down from the crossfade has more than 4 crossfades. `at` is the token of the call's name.
 unfoldable pub short_overlap : ℕ → ℕ → Decimal → Plan → Result ℕ Stop
 short_overlap at s duration plan = do
   overlap ← overlap_samples at plan.rate duration
   crossfades ← at_most MAX_CROSSFADES Crossfades (crossfades_with s plan)
   at_most MAX_OVERLAP Overlap overlap
 
--- what `crossfade(duration=5., s)` makes: a node that mixes each track of the source into the one before
+-- What a call of `crossfade(duration=5., s)` comes to: the plan gets a node that mixes the begin of each track of `s`
+-- into the end of the one before, over this many seconds.
 unfoldable pub crossfade : ℕ → List Kind → List Argument → Machine → Outcome
 crossfade at kinds given m = do
   duration ← decimal_or (codes "duration") (some_millionths 5000000 tt) given
@@ -193,20 +211,22 @@ crossfade at kinds given m = do
   overlap ← short_overlap at s.0 duration.0 m.plan
   add (node (op.Crossfade overlap) k (s.0 ∷ [])) m
 
--- an endless blank, and a fallback from a source to it
+-- Makes the source of node s infallible: adds an endless blank of kind k, and a fallback that plays s while it is ready
+-- and else the blank. The value is the fallback.
 unfoldable pub safe : Kind → ℕ → Machine → Outcome
 safe k s m = do
   silence ← push (node (op.Blank 0) k []) m
   add (node (op.Fallback false) k (s ∷ silence.0 ∷ [])) silence.1
 
--- what `mksafe(s)` makes: an endless blank, and a fallback from the source to it
+-- What a call of `mksafe(s)` comes to: a source that plays `s` while it is ready, and silence while it is not.
 unfoldable pub mksafe : List Kind → List Argument → Machine → Outcome
 mksafe kinds given m = do
   k ← one_kind kinds
   s ← plain_source m.plan.nodes k given
   safe k s.0 m
 
--- a buffer whose reader collects the time `held` before it plays, and that holds at most the time `most`
+-- The sizes of a buffer, from two times in seconds: the samples that its reader collects before it plays (`held`), and
+-- how many chunks it holds at most (`most`). Times below zero or beyond the limits are faults.
 unfoldable pub buffer_plan : ℕ → Decimal → Decimal → Plan → Result BufferPlan Stop
 buffer_plan at held most plan = do
   pre ← samples_of at plan.rate held
@@ -215,7 +235,8 @@ buffer_plan at held most plan = do
   capacity ← at_most MAX_CAPACITY Capacity (chunks room plan.frame)
   Ok (record { pre = prefill; capacity = capacity })
 
--- what `buffer(buffer=1., max=10., s)` makes: a buffer with its feed from the source, and its reader
+-- What a call of `buffer(buffer=1., max=10., s)` comes to: the plan gets a buffer, a sink that feeds it from `s`, and a
+-- node that reads it. The value is the reader.
 unfoldable pub buffer : ℕ → List Kind → List Argument → Machine → Outcome
 buffer at kinds given m = do
   held ← decimal_or (codes "buffer") (some_millionths 1000000 tt) given
@@ -225,7 +246,8 @@ buffer at kinds given m = do
   made ← buffer_plan at held.0 most.0 m.plan
   add_buffer s.0 k made m
 
--- what `clock(id="", s)` makes: a node that has the source in the clock of this id
+-- What a call of `clock(id="", s)` comes to: the plan gets a node that passes `s` on and sets it in the clock of this
+-- id.
 unfoldable pub clock : List Kind → List Argument → Machine → Outcome
 clock kinds given m = do
   id ← text_or (codes "id") [] given
@@ -233,7 +255,8 @@ clock kinds given m = do
   s ← plain_source m.plan.nodes k id.1
   add (node (op.Clock id.0) k (s.0 ∷ [])) m
 
--- what a call of a builtin makes, by its open kinds and its arguments; its name stands at token `at`
+-- What a call of any builtin comes to: its value and the state after it, or why evaluation stops. `at` is the token of
+-- its name, and `kinds` has the channel kinds that typing found for it.
 unfoldable pub builtin : Builtin → ℕ → List Kind → List Argument → Machine → Outcome
 builtin builtins.OutputFile at kinds given m = output_file kinds given m
 builtin builtins.Set at kinds given m = set given m

@@ -14,7 +14,7 @@ use Rattle.script_values.specs.declared.machine.Machine.{Machine}
 use Rattle.script_values.specs.Outcomes.{◌>>=◌, Outcome}
 use Rattle.script_values.specs.Values.{Source}
 
--- the number n, or that a limit is passed where it is above `most`
+-- Checks a number against a limit: gives n where it is at most `most`, and else the fault that this limit was passed.
 abbrev pub at_most : ℕ → Limit → ℕ → Result ℕ Stop
 at_most most limit n =
     elim (nat_le n most) [
@@ -22,7 +22,8 @@ at_most most limit n =
       | false ↦ Err (TooLarge limit)
     ]
 
--- these children; more than 65535 are too many
+-- Checks how many sources a node gets: gives the list where it has at most 65535 children, and else the fault that they
+-- are too many.
 abbrev pub few : List ℕ → Result (List ℕ) Stop
 few children =
     elim (nat_le (length children) MAX_CHILDREN) [
@@ -30,12 +31,13 @@ few children =
       | false ↦ Err (TooLarge Children)
     ]
 
--- how many crossfades a path down from a crossfade of this node has at most, with that crossfade
+-- The most crossfades on a path that begins at a new crossfade of node `child` and goes down through children. The new
+-- one counts too.
 abbrev pub crossfades_with : ℕ → Plan → ℕ
 crossfades_with child plan = 1 + slice_index (crossfade_counts plan.nodes) child
 
--- Adds a node and gives its number. No path down from it may have more than 4 crossfades: only a crossfade can come to
--- that.
+-- Adds a node to the plan and gives its number. Faults: a path down from it has more than 4 crossfades, or the plan has
+-- as many nodes as it may.
 unfoldable pub push : Node → Machine → Result (ℕ × Machine) Stop
 push node m = do
   crossfades ← at_most MAX_CROSSFADES Crossfades (crossfades_from m.plan.nodes node)
@@ -44,11 +46,12 @@ push node m = do
     | false ↦ Ok (length m.plan.nodes, record m { plan = with_node m.plan node })
   ]
 
--- adds a node and gives its source
+-- Adds a node to the plan; the value is the new node as a source of the script.
 unfoldable pub add : Node → Machine → Outcome
 add node m = push node m >>= λ x. Ok (Source x.0, x.1)
 
--- adds a buffer with its feed and its reader, and gives the reader's source
+-- Adds a buffer of these sizes to the plan, with a sink that feeds it from node `source` and a node that reads it. The
+-- value is the reader as a source; the fault is a plan that is full.
 unfoldable pub add_buffer : ℕ → Kind → BufferPlan → Machine → Outcome
 add_buffer source k buffer m =
     elim (nat_le MAX_NODES (length m.plan.nodes)) [

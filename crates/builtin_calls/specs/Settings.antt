@@ -8,8 +8,8 @@ use Rattle.script_values.specs.declared.machine.Machine.{Machine}
 use Rattle.script_values.specs.Outcomes.{◌>>=◌, Outcome}
 use Rattle.script_values.specs.Values.{Value, Int, Number, UnitValue}
 
--- notes that this statement makes a setting; only a call of `set` at top level that holds no other call, with no other
--- statement before it, may do so
+-- Notes in the state that this statement makes a setting, or faults where none may stand. Settings come first: a
+-- setting is a call of `set` at top level that holds no other call, with only settings before it.
 abbrev pub settings_opened : Machine → Result Machine Stop
 settings_opened m =
     elim m.settings.allowed [
@@ -17,7 +17,7 @@ settings_opened m =
       | false ↦ Err BadSetting
     ]
 
--- a rate in samples a second, within its bounds
+-- Checks a sample rate: gives n samples a second where it is within the bounds, and else the fault of a bad setting.
 abbrev pub rate_within : ℤ → Result ℕ Stop
 rate_within n =
     elim (int_le (pos MIN_RATE) n && int_le n (pos MAX_RATE)) [
@@ -25,31 +25,32 @@ rate_within n =
       | false ↦ Err BadSetting
     ]
 
--- a rate, which is an int within its bounds
+-- Reads the value of the setting of the sample rate: an int within the bounds. Any other value is a bad setting.
 unfoldable pub rate_of : Value → Result ℕ Stop
 rate_of (Int n) = rate_within n
 rate_of v = Err BadSetting
 
--- a tick in seconds; its range is checked where the settings end
+-- Reads the value of the setting of the tick: a decimal of seconds. Any other value is a bad setting. Its range is
+-- checked once all settings are known.
 unfoldable pub duration_of : Value → Result Decimal Stop
 duration_of (Number d) = Ok d
 duration_of v = Err BadSetting
 
--- sets how many samples a second has, where settings may still come
+-- Sets the sample rate of the plan, in samples a second. A fault, where settings are over or the value is no such rate.
 unfoldable pub set_rate : Value → Machine → Outcome
 set_rate v m = do
   c ← settings_opened m
   rate ← rate_of v
   Ok (UnitValue, record c { plan = record c.plan { rate = rate } })
 
--- sets how long a tick is, where settings may still come
+-- Sets how many seconds a tick lasts. A fault, where settings are over or the value is no decimal.
 unfoldable pub set_duration : Value → Machine → Outcome
 set_duration v m = do
   c ← settings_opened m
   d ← duration_of v
   Ok (UnitValue, record c { settings = record c.settings { duration = d } })
 
--- makes the setting of this key; any other key changes nothing
+-- What `set` does, by the key: sets the sample rate, or the duration of a tick. Any other key changes nothing.
 unfoldable pub setting : List ℕ → Value → Machine → Outcome
 setting key v m =
     elim (bytes_eq key (codes "frame.audio.samplerate")) [

@@ -1,4 +1,4 @@
--- Outputs.
+-- The outputs of a plan, each of which writes a source to a file.
 use Rattle.std.specs.Prelude.{ℕ, List, nat_lt, Bool, true, false, bytes_eq, count_by, Ok, Err}
 use Rattle.std.specs.List.{list_any}
 use Rattle.liq_base.specs.declared.limits.TheConstants.{MAX_OUTPUTS}
@@ -11,12 +11,13 @@ use Rattle.script_values.specs.declared.machine.Machine.{Machine}
 use Rattle.script_values.specs.Outcomes.{Outcome}
 use Rattle.script_values.specs.Values.{UnitValue}
 
--- whether a sink is an output to the file of this name
+-- Whether a sink of the plan is an output to the file of this name. A feed of a buffer writes no file.
 abbrev pub is_named : List ℕ → SinkPlan → Bool
 is_named name (Output other node fallible wide) = bytes_eq name other
 is_named name (Feed buffer node) = false
 
--- adds an output of a node to a file; its name is of no earlier output, and outputs are at most 64
+-- Adds an output to the plan, which writes node number `node` to a file, `wide` with samples of 24 bits. Faults: an
+-- earlier output has this file, or there are 64 outputs.
 unfoldable pub add_output : List ℕ → ℕ → (fallible wide : Bool) → Machine → Outcome
 add_output name node fallible wide m =
     elim (list_any (is_named name) m.plan.sinks) [

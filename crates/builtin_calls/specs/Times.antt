@@ -5,7 +5,7 @@ use Rattle.fixed_text.specs.Texts.{samples_in}
 use Rattle.script_values.specs.declared.fault.Stop.{Stop}
 use Rattle.script_values.specs.declared.fault.Stop.TheVariants.{BadValue}
 
--- a number of samples; none is a bad value at token `at`
+-- Checks that a time lasts at least one sample: gives n, or a bad value at token `at` where n is 0.
 abbrev pub some_samples : ℕ → ℕ → Result ℕ Stop
 some_samples at n =
     elim (nat_eq n 0) [
@@ -13,7 +13,8 @@ some_samples at n =
       | false ↦ Ok n
     ]
 
--- the samples of an overlap, which lasts one at least
+-- The overlap d of a crossfade in samples, at `rate` samples a second. Less than one sample is a bad value at token
+-- `at`.
 unfoldable pub overlap_samples : ℕ → ℕ → Decimal → Result ℕ Stop
 overlap_samples at rate d =
     elim (int_le d.millionths (pos 0)) [
@@ -21,7 +22,8 @@ overlap_samples at rate d =
       | false ↦ some_samples at (samples_in d.millionths rate)
     ]
 
--- the samples of a track; a time that is not above zero makes one endless track, told by 0
+-- The duration d of a track of silence in samples, at `rate` samples a second. A time that is not above zero gives 0,
+-- which stands for one endless track; less than one sample is a bad value at token `at`.
 unfoldable pub track_of : ℕ → ℕ → Decimal → Result ℕ Stop
 track_of at rate d =
     elim (int_le d.millionths (pos 0)) [
@@ -29,7 +31,7 @@ track_of at rate d =
       | false ↦ some_samples at (samples_in d.millionths rate)
     ]
 
--- the samples of a time; one below zero is a bad value at token `at`
+-- The time d in samples, at `rate` samples a second. A time below zero is a bad value at token `at`.
 unfoldable pub samples_of : ℕ → ℕ → Decimal → Result ℕ Stop
 samples_of at rate d =
     elim (int_lt d.millionths (pos 0)) [
@@ -37,7 +39,7 @@ samples_of at rate d =
       | false ↦ Ok (samples_in d.millionths rate)
     ]
 
--- a pitch; one that is not above zero is a bad value at token `at`
+-- Checks the pitch d of a wave, in hertz: gives it, or a bad value at token `at` where it is not above zero.
 unfoldable pub pitch_of : ℕ → Decimal → Result Decimal Stop
 pitch_of at d =
     elim (int_le d.millionths (pos 0)) [
@@ -45,6 +47,6 @@ pitch_of at d =
       | false ↦ Ok d
     ]
 
--- how many whole chunks of `frame` samples these samples make, and at least one
+-- How many whole chunks of `frame` samples, the samples of one tick, fit in so many samples; at least one.
 abbrev pub chunks : ℕ → ℕ → ℕ
 chunks samples frame = max 1 (samples / frame)

@@ -1,4 +1,4 @@
-// A call of a builtin.
+// The evaluation of a call of a builtin function.
 ghost use Rattle.std.specs.Prelude.{◌≡◌, map};
 ghost use Rattle.script_values.specs.Gives.{Gives};
 ghost use Rattle.script_values.specs.View.{view_value};
@@ -16,8 +16,9 @@ use script_values::{Given, Machine, Stop, Value};
 use std::alloc::Global;
 use typing_rules::Builtin;
 
-/// Calls the builtin of this name, whose name stands at the token `at`, with these open kinds and arguments.
-/// `docs/builtins.md` says what each makes of them.
+/// Evaluates a call of a builtin: gives its value, and changes the state, above all the plan. `at` is the token of its
+/// name, for faults, and `kinds` has the kinds (mono or stereo) that typing found. `docs/builtins.md` says what each
+/// makes.
 pub fn builtin(
     alloc: Global,
     name: Builtin,
@@ -33,7 +34,8 @@ pub fn builtin(
     call(alloc, name, at, kinds, &mut rest, machine)
 }
 
-// Calls the builtin of this name at token `at`; its arguments are taken out of `given`.
+// Evaluates a call of a builtin by its name: each has a function that takes its arguments out of `given`. `at` is the
+// token of its name.
 #[tactic(auto, unfolding(crate::specs::Builtins::builtin))]
 fn call(
     alloc: Global,

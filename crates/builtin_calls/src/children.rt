@@ -76,7 +76,8 @@ pub(crate) fn random(
     add(machine, Op::Random { seed }, kind, Items::from_vec(sources))
 }
 
-/// `add(normalize=true, sources)`: adds a node that mixes these sources.
+/// `add(normalize=true, sources)`: adds a node that mixes these sources, as their mean with `normalize` and else as
+/// their sum.
 #[tactic(auto, unfolding(crate::specs::Builtins::add_sources))]
 pub(crate) fn sum(
     alloc: Global,
@@ -91,7 +92,8 @@ pub(crate) fn sum(
     over_sources(alloc, Op::Add { normalize }, kinds, given, machine)
 }
 
-/// A node of this operator over a list of sources, as `sequence(sources)` and `rotate(sources)` make it.
+/// Adds a node of this operator that reads a list of sources, the one argument that is left, as `sequence(sources)` and
+/// `rotate(sources)` do.
 #[tactic(auto, unfolding(crate::specs::Builtins::over_sources))]
 pub(crate) fn over_sources(
     alloc: Global,
@@ -108,7 +110,8 @@ pub(crate) fn over_sources(
     add(machine, op, kind, Items::from_vec(children))
 }
 
-// A seed, or a bad value at token `at` where the number is below zero.
+// The seed of a `random`: the number, which must not be below zero; otherwise a bad value at token `at`, the name of
+// the call.
 fn seed_of(at: u32, number: i64) -> Result<u64, Stop>
     ensures { Gives (λ n. n) result (seed_of at number) }
 {
@@ -118,7 +121,8 @@ fn seed_of(at: u32, number: i64) -> Result<u64, Stop>
     Ok(number as u64)
 }
 
-// The next argument without a label, a list of sources of this kind, at most 65535.
+// Takes the first argument without a label, a list of sources of this kind, and gives the numbers of their nodes, at
+// most 65535.
 #[tactic(auto, unfolding(crate::specs::Builtins::few_sources))]
 fn few_sources(
     alloc: Global,
@@ -135,7 +139,8 @@ fn few_sources(
     Ok(sources)
 }
 
-// The next argument without a label, a list of predicates with sources of this kind, at most 65535.
+// Takes the first argument without a label, the cases of a `switch`, and gives their predicates of time and the nodes
+// of their sources, at most 65535.
 #[tactic(auto, unfolding(crate::specs::Builtins::few_pairs))]
 fn few_pairs(alloc: Global, plan: &Draft, kind: Kind, given: &mut Vec<Given>) -> Result<Pairs, Stop>
     ensures given { Gives (λ ps. (map view_shared ps.preds.items, ps.sources.items)) result
@@ -148,7 +153,8 @@ fn few_pairs(alloc: Global, plan: &Draft, kind: Kind, given: &mut Vec<Given>) ->
     Ok(pairs)
 }
 
-// The argument `track_sensitive`, or true: whether a selection changes its child only where a track ends.
+// Takes the argument `track_sensitive`, true where it is missing: whether a selection changes its child only where a
+// track ends.
 #[tactic(auto, unfolding(crate::specs::Builtins::sensitive_or))]
 fn sensitive_or(given: &mut Vec<Given>) -> Result<bool, Stop>
     ensures { Gives (λ b. (b, map view_given given.new.items)) result (sensitive_or (map view_given given.old.items)) }

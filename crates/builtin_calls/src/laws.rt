@@ -10,7 +10,8 @@ ghost use Rattle.script_values.specs.Values.{Value};
 ghost use Rattle.builtin_calls.specs.Builtins.{builtin};
 ghost use Rattle.builtin_calls.specs.Sound.{IsSound, Keeps};
 
-/// The plan stays well formed along calls of builtins and counted work, and its nodes stay where they are.
+/// A law: along calls of builtins and counted work the plan of an evaluation stays well formed, and each node keeps its
+/// number.
 pub fn calls_keep_plans()
     ensures first { IsSound first_machine }
     ensures counting { (n : ℕ) (m c : Machine) → count_work n m ≡ Ok c → Keeps m c }

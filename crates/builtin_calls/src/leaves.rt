@@ -101,7 +101,8 @@ pub(crate) fn fail(alloc: Global, kinds: &[Kind], machine: &mut Machine) -> Resu
     add(machine, Op::Fail, kind, Items::new(alloc))
 }
 
-// The one mode of a playlist, "normal"; any other is a bad value at token `at`.
+// Checks the `mode` of a playlist: "normal" is the only one. Any other is a bad value at token `at`, the name of the
+// call.
 fn is_normal(at: u32, mode: &str) -> Result<(), Stop>
     ensures { Gives (λ _. tt) result (is_normal at mode.now) }
 {

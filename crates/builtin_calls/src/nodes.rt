@@ -12,7 +12,7 @@ use plan_core::{BufferPlan, Draft, Items, Node, Op, PlanFault};
 use script_values::{Limit, Machine, Stop, Value};
 use std::alloc::Global;
 
-/// The number, or that this limit is passed where it is above `most`.
+/// Checks a number against a limit: gives it where it is at most `most`, and else the fault that this limit was passed.
 pub(crate) fn at_most(most: u32, limit: Limit, number: u64) -> Result<u32, Stop>
     ensures { Gives (λ n. n) result (at_most most limit number) }
 {
@@ -22,7 +22,7 @@ pub(crate) fn at_most(most: u32, limit: Limit, number: u64) -> Result<u32, Stop>
     Ok(number as u32)
 }
 
-/// Refuses more than 65535 children.
+/// Checks how many sources a node gets: more than 65535 children are a fault.
 pub(crate) fn few(children: &[u32]) -> Result<(), Stop>
     ensures given { Gives (λ _. children.now) result (few children.now) }
     ensures short { OnOk result (length children.now ≤ MAX_CHILDREN) }
@@ -33,7 +33,8 @@ pub(crate) fn few(children: &[u32]) -> Result<(), Stop>
     Ok(())
 }
 
-/// Refuses a crossfade of this node if a path down from it would have more than 4 crossfades.
+/// Checks that a crossfade of node `child` may be made: it is a fault where a path down from it would have more than 4
+/// crossfades.
 pub(crate) fn room_over(plan: &Draft, child: u32) -> Result<(), Stop>
     ensures { Gives (λ _. crossfades_with child plan.now) result
         (at_most MAX_CROSSFADES Limit.Crossfades (crossfades_with child plan.now)) }
@@ -44,7 +45,8 @@ pub(crate) fn room_over(plan: &Draft, child: u32) -> Result<(), Stop>
     Ok(())
 }
 
-/// Adds a node to the plan, and returns its number.
+/// Adds a node to the plan and gives its number. Faults: a path down from it has more than 4 crossfades, or the plan
+/// has as many nodes as it may.
 #[tactic(auto, unfolding(crate::specs::Nodes::push))]
 pub(crate) fn push(machine: &mut Machine, node: Node) -> Result<u32, Stop>
     requires children { All (λ child. child < length machine.old.plan.nodes) node.children }
@@ -63,7 +65,7 @@ pub(crate) fn push(machine: &mut Machine, node: Node) -> Result<u32, Stop>
     }
 }
 
-/// Adds a node to the plan; the value is its source.
+/// Adds a node of this operator, kind and children to the plan; the value is the new node as a source of the script.
 #[tactic(auto, unfolding(crate::specs::Nodes::add))]
 pub(crate) fn add(
     machine: &mut Machine,
@@ -83,7 +85,8 @@ pub(crate) fn add(
     Ok(Value::Source(number))
 }
 
-/// Adds a buffer with its feed from node `source` and its reader; the value is the reader's source.
+/// Adds a buffer of these sizes to the plan, with a sink that feeds it from node `source` and a node that reads it. The
+/// value is the reader as a source.
 #[tactic(auto, unfolding(crate::specs::Nodes::add_buffer))]
 pub(crate) fn add_buffer(
     alloc: Global,
@@ -101,14 +104,14 @@ pub(crate) fn add_buffer(
     }
 }
 
-/// A list of one child, by its number.
+/// Makes the list of children of a node that reads one source, by the number of its node.
 pub(crate) fn one_child(alloc: Global, child: u32) -> Result<Items<u32>, Memory>
     ensures { IfOk result (λ children. children ≡ child ∷ []) }
 {
     Ok(Items::from_vec(vec![in alloc; child]?))
 }
 
-/// A list of two children, by their numbers.
+/// Makes the list of children of a node that reads two sources, by the numbers of their nodes.
 pub(crate) fn two_children(alloc: Global, first: u32, second: u32) -> Result<Items<u32>, Memory>
     ensures { IfOk result (λ children. children ≡ first ∷ second ∷ []) }
 {

@@ -1,4 +1,4 @@
-// Outputs.
+// The outputs of a plan, each of which writes a source to a file.
 ghost use Rattle.std.specs.Prelude.{◌≡◌, ◌<◌, count_by, length, map};
 ghost use Rattle.std.specs.List.{list_any};
 ghost use Rattle.plan_core.specs.Plans.{is_output};
@@ -35,7 +35,7 @@ pub(crate) fn output_file(
     add_output(machine, name, source, fallible, wide)
 }
 
-/// Whether a sink is an output to the file of this name.
+/// Whether a sink of the plan is an output to the file of this name. A feed of a buffer writes no file.
 fn is_named(name: &str, sink: &SinkPlan) -> bool
     ensures { result ≡ is_named name.now sink.now }
 {
@@ -45,7 +45,7 @@ fn is_named(name: &str, sink: &SinkPlan) -> bool
     }
 }
 
-// Whether one of these sinks is an output to the file of this name.
+// Whether one of these sinks of the plan is an output to the file of this name.
 fn has_name(name: &str, sinks: &[SinkPlan]) -> bool
     ensures { result ≡ list_any (is_named name.now) sinks.now }
 {
@@ -57,7 +57,7 @@ fn has_name(name: &str, sinks: &[SinkPlan]) -> bool
     false
 }
 
-// How many of these sinks are outputs.
+// How many of these sinks of the plan are outputs to files; the others feed buffers.
 fn outputs(sinks: &[SinkPlan]) -> usize
     ensures { result ≡ count_by is_output sinks.now }
 {
@@ -70,8 +70,8 @@ fn outputs(sinks: &[SinkPlan]) -> usize
     count
 }
 
-// Adds an output of a node to the file `name`, which no earlier output has; at most 64. It is `wide` with 24 bits a
-// sample.
+// Adds an output to the plan, which writes node number `node` to the file `name`, `wide` with samples of 24 bits.
+// Faults: an earlier output has this file, or there are 64 outputs.
 #[tactic(auto, unfolding(crate::specs::Sinks::add_output))]
 fn add_output(
     machine: &mut Machine,

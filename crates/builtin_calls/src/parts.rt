@@ -12,7 +12,8 @@ use liq_base::{Kind, Text};
 use script_values::{Given, Stop, Value, argument};
 use std::alloc::Global;
 
-/// The open kind of a call that has one.
+/// The first of the kinds (mono or stereo) that typing found for a call. A call that needs one has it, so an empty list
+/// is stuck.
 pub(crate) fn one_kind(kinds: &[Kind]) -> Result<Kind, Stop>
     ensures { Gives (λ k. k) result (one_kind kinds.now) }
 {
@@ -22,7 +23,8 @@ pub(crate) fn one_kind(kinds: &[Kind]) -> Result<Kind, Stop>
     }
 }
 
-/// Takes the next argument without a label.
+/// Takes the first argument without a label out of a call's arguments, and gives its value. None is stuck, for typing
+/// refuses it.
 #[tactic(auto, unfolding(crate::specs::Parts::plain_argument))]
 pub(crate) fn plain(given: &mut Vec<Given>) -> Result<Value, Stop>
     ensures { Gives (λ v. (view_value v, map view_given given.new.items)) result
@@ -34,7 +36,7 @@ pub(crate) fn plain(given: &mut Vec<Given>) -> Result<Value, Stop>
     }
 }
 
-/// The next argument without a label, a text.
+/// Takes the first argument without a label out of a call's arguments, and gives it as a text.
 #[tactic(auto, unfolding(crate::specs::Parts::plain_text))]
 pub(crate) fn plain_text(alloc: Global, given: &mut Vec<Given>) -> Result<Text, Stop>
     ensures { Gives (λ t. (t, map view_given given.new.items)) result (plain_text (map view_given given.old.items)) }
@@ -44,7 +46,7 @@ pub(crate) fn plain_text(alloc: Global, given: &mut Vec<Given>) -> Result<Text, 
     Ok(text)
 }
 
-/// The next argument without a label, a decimal.
+/// Takes the first argument without a label out of a call's arguments, and gives it as a decimal.
 #[tactic(auto, unfolding(crate::specs::Parts::plain_decimal))]
 pub(crate) fn plain_decimal(given: &mut Vec<Given>) -> Result<Decimal, Stop>
     ensures { Gives (λ d. (d, map view_given given.new.items)) result (plain_decimal (map view_given given.old.items)) }
@@ -54,7 +56,8 @@ pub(crate) fn plain_decimal(given: &mut Vec<Given>) -> Result<Decimal, Stop>
     Ok(number)
 }
 
-/// The next argument without a label, a format: true for samples of 24 bits.
+/// Takes the first argument without a label out of a call's arguments, an output format: true for samples of 24 bits,
+/// false for 16.
 #[tactic(auto, unfolding(crate::specs::Parts::plain_format))]
 pub(crate) fn plain_format(given: &mut Vec<Given>) -> Result<bool, Stop>
     ensures { Gives (λ w. (w, map view_given given.new.items)) result (plain_format (map view_given given.old.items)) }
@@ -64,7 +67,8 @@ pub(crate) fn plain_format(given: &mut Vec<Given>) -> Result<bool, Stop>
     Ok(wide)
 }
 
-/// The bool with this label, or its default.
+/// Takes the argument with this label out of a call's arguments, and gives it as a bool, or the default where there is
+/// none.
 #[tactic(auto, unfolding(crate::specs::Parts::bool_or))]
 pub(crate) fn bool_or(given: &mut Vec<Given>, label: &str, default: bool) -> Result<bool, Stop>
     ensures { Gives (λ b. (b, map view_given given.new.items)) result
@@ -79,7 +83,8 @@ pub(crate) fn bool_or(given: &mut Vec<Given>, label: &str, default: bool) -> Res
     }
 }
 
-/// The decimal with this label, or its default.
+/// Takes the argument with this label out of a call's arguments, and gives it as a decimal, or the default where there
+/// is none.
 #[tactic(auto, unfolding(crate::specs::Parts::decimal_or))]
 pub(crate) fn decimal_or(
     given: &mut Vec<Given>,
@@ -98,7 +103,8 @@ pub(crate) fn decimal_or(
     }
 }
 
-/// The int with this label, or its default.
+/// Takes the argument with this label out of a call's arguments, and gives it as an int, or the default where there is
+/// none.
 #[tactic(auto, unfolding(crate::specs::Parts::int_or))]
 pub(crate) fn int_or(given: &mut Vec<Given>, label: &str, default: i64) -> Result<i64, Stop>
     ensures { Gives (λ n. (n, map view_given given.new.items)) result
@@ -113,7 +119,8 @@ pub(crate) fn int_or(given: &mut Vec<Given>, label: &str, default: i64) -> Resul
     }
 }
 
-/// The text with this label, or its default.
+/// Takes the argument with this label out of a call's arguments, and gives it as a text, or the default where there is
+/// none.
 #[tactic(auto, unfolding(crate::specs::Parts::text_or))]
 pub(crate) fn text_or(
     alloc: Global,
@@ -133,7 +140,7 @@ pub(crate) fn text_or(
     }
 }
 
-/// The text that a value is. A value of another type is stuck, which typing excludes.
+/// The text of a value. A value of another type is stuck: typing refuses such a call.
 #[tactic(auto, unfolding(crate::specs::Parts::as_text))]
 fn as_text(alloc: Global, value: Value) -> Result<Text, Stop>
     ensures { Gives (λ t. t) result (as_text (view_value value)) }
@@ -144,7 +151,7 @@ fn as_text(alloc: Global, value: Value) -> Result<Text, Stop>
     }
 }
 
-/// The decimal that a value is, as the typing says.
+/// The number of a value that is a decimal. A value of another type is stuck: typing refuses such a call.
 #[tactic(auto, unfolding(crate::specs::Parts::as_decimal))]
 fn as_decimal(value: Value) -> Result<Decimal, Stop>
     ensures { Gives (λ d. d) result (as_decimal (view_value value)) }
@@ -155,7 +162,7 @@ fn as_decimal(value: Value) -> Result<Decimal, Stop>
     }
 }
 
-/// The int that a value is, as the typing says.
+/// The number of a value that is an int. A value of another type is stuck: typing refuses such a call.
 #[tactic(auto, unfolding(crate::specs::Parts::as_int))]
 fn as_int(value: Value) -> Result<i64, Stop>
     ensures { Gives (λ n. n) result (as_int (view_value value)) }
@@ -166,7 +173,7 @@ fn as_int(value: Value) -> Result<i64, Stop>
     }
 }
 
-/// The bool that a value is, as the typing says.
+/// The truth of a value that is a bool. A value of another type is stuck: typing refuses such a call.
 #[tactic(auto, unfolding(crate::specs::Parts::as_bool))]
 fn as_bool(value: Value) -> Result<bool, Stop>
     ensures { Gives (λ b. b) result (as_bool (view_value value)) }
@@ -177,7 +184,8 @@ fn as_bool(value: Value) -> Result<bool, Stop>
     }
 }
 
-/// Whether the format that a value is has samples of 24 bits.
+/// Whether a value that is an output format has samples of 24 bits, and not of 16. Another value is stuck: typing
+/// refuses such a call.
 #[tactic(auto, unfolding(crate::specs::Parts::as_format))]
 fn as_format(value: Value) -> Result<bool, Stop>
     ensures { Gives (λ w. w) result (as_format (view_value value)) }

@@ -13,7 +13,8 @@ use liq_base::limits::{MAX_RATE, MIN_RATE};
 use script_values::{Given, Machine, Stop, Value};
 use std::alloc::Global;
 
-/// `set(key, value)`: makes the setting of this key.
+/// `set(key, value)`: makes the setting of this key, the sample rate or the duration of a tick; any other key changes
+/// nothing.
 #[tactic(auto, unfolding(crate::specs::Builtins::set))]
 pub(crate) fn set(
     alloc: Global,
@@ -27,7 +28,7 @@ pub(crate) fn set(
     setting(machine, key.as_str(), &value)
 }
 
-// Notes that this statement makes a setting, if one may stand here.
+// Notes that this statement makes a setting, or faults where none may stand: settings come before all other statements.
 fn opened(machine: &mut Machine) -> Result<(), Stop>
     ensures { Gives (λ _. machine.new) result (settings_opened machine.old) }
 {
@@ -38,7 +39,7 @@ fn opened(machine: &mut Machine) -> Result<(), Stop>
     Ok(())
 }
 
-// A rate in samples a second, which is an int within its bounds.
+// Reads the value of the setting of the sample rate: an int within the bounds. Another value is a bad setting.
 #[tactic(auto, unfolding(crate::specs::Settings::rate_of))]
 fn rate_of(value: &Value) -> Result<u32, Stop>
     ensures { Gives (λ n. n) result (rate_of (view_value value.now)) }
@@ -49,7 +50,8 @@ fn rate_of(value: &Value) -> Result<u32, Stop>
     }
 }
 
-/// A rate in samples a second, from `MIN_RATE` to `MAX_RATE`.
+/// Checks a sample rate: gives it where it is from `MIN_RATE` to `MAX_RATE` samples a second, and else the fault of a
+/// bad setting.
 fn rate_within(number: i64) -> Result<u32, Stop>
     ensures { Gives (λ n. n) result (rate_within number) }
 {
@@ -62,7 +64,8 @@ fn rate_within(number: i64) -> Result<u32, Stop>
     Ok(number as u32)
 }
 
-// A tick in seconds; its range is checked where the settings end.
+// Reads the value of the setting of the tick: a decimal of seconds. Another value is a bad setting. Its range is
+// checked once all settings are known.
 #[tactic(auto, unfolding(crate::specs::Settings::duration_of))]
 fn duration_of(value: &Value) -> Result<Decimal, Stop>
     ensures { Gives (λ d. d) result (duration_of (view_value value.now)) }
@@ -73,7 +76,8 @@ fn duration_of(value: &Value) -> Result<Decimal, Stop>
     }
 }
 
-/// Sets the rate of the plan, if a setting may stand here.
+/// Sets the sample rate of the plan, in samples a second. A fault, where settings are over or the value is no such
+/// rate.
 #[tactic(auto, unfolding(crate::specs::Settings::set_rate))]
 fn set_rate(machine: &mut Machine, value: &Value) -> Result<Value, Stop>
     ensures { Gives (λ v. (view_value v, machine.new)) result (set_rate (view_value value.now) machine.old) }
@@ -84,7 +88,7 @@ fn set_rate(machine: &mut Machine, value: &Value) -> Result<Value, Stop>
     Ok(Value::Nothing)
 }
 
-/// Sets how long a tick is, if a setting may stand here.
+/// Sets how many seconds a tick lasts. A fault, where settings are over or the value is no decimal.
 #[tactic(auto, unfolding(crate::specs::Settings::set_duration))]
 fn set_duration(machine: &mut Machine, value: &Value) -> Result<Value, Stop>
     ensures { Gives (λ v. (view_value v, machine.new)) result (set_duration (view_value value.now) machine.old) }
@@ -95,7 +99,7 @@ fn set_duration(machine: &mut Machine, value: &Value) -> Result<Value, Stop>
     Ok(Value::Nothing)
 }
 
-/// Makes the setting of this key; any other key changes nothing.
+/// What `set` does, by the key: sets the sample rate, or the duration of a tick. Any other key changes nothing.
 #[tactic(auto, unfolding(crate::specs::Settings::setting))]
 fn setting(machine: &mut Machine, key: &str, value: &Value) -> Result<Value, Stop>
     ensures { Gives (λ v. (view_value v, machine.new)) result (setting key.now (view_value value.now) machine.old) }

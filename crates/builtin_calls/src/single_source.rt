@@ -35,7 +35,7 @@ pub(crate) fn amplify(
     add(machine, Op::Amplify { factor }, kind, children)
 }
 
-/// `mean(s)`: adds a node that makes a stereo source mono.
+/// `mean(s)`: adds a mono node that averages both sides of a stereo source.
 #[tactic(auto, unfolding(crate::specs::Builtins::mean))]
 pub(crate) fn mean(
     alloc: Global,
@@ -49,7 +49,7 @@ pub(crate) fn mean(
     add(machine, Op::Mean, Kind::Mono, children)
 }
 
-/// `stereo(s)`: adds a node that makes a mono source stereo.
+/// `stereo(s)`: adds a stereo node that plays a mono source on both sides.
 #[tactic(auto, unfolding(crate::specs::Builtins::stereo))]
 pub(crate) fn stereo(
     alloc: Global,
@@ -83,7 +83,7 @@ pub(crate) fn crossfade(
     add(machine, Op::Crossfade { overlap }, kind, children)
 }
 
-/// `mksafe(s)`: adds an endless blank, and a fallback from the source to it.
+/// `mksafe(s)`: adds a source that plays `s` while it is ready, and silence while it is not.
 #[tactic(auto, unfolding(crate::specs::Builtins::mksafe))]
 pub(crate) fn mksafe(
     alloc: Global,
@@ -99,7 +99,8 @@ pub(crate) fn mksafe(
     safe(alloc, machine, kind, source)
 }
 
-/// `buffer(buffer=1., max=10., s)`, whose name stands at token `at`: adds a buffer with its feed and its reader.
+/// `buffer(buffer=1., max=10., s)`, whose name stands at token `at`: adds a buffer, a sink that feeds it from `s`, and
+/// a node that reads it, which is the value.
 #[tactic(auto, unfolding(crate::specs::Builtins::buffer))]
 pub(crate) fn buffer(
     alloc: Global,
@@ -119,7 +120,7 @@ pub(crate) fn buffer(
     add_buffer(alloc, machine, source, kind, plan)
 }
 
-/// `clock(id="", s)`: adds a node that has the source in the clock of this id.
+/// `clock(id="", s)`: adds a node that passes the source on and sets it in the clock of this id.
 #[tactic(auto, unfolding(crate::specs::Builtins::clock))]
 pub(crate) fn clock(
     alloc: Global,
@@ -138,7 +139,8 @@ pub(crate) fn clock(
     add(machine, Op::Clock(id), kind, children)
 }
 
-// The overlap of a crossfade of this source in samples, at most `MAX_OVERLAP`.
+// The overlap of a crossfade of this source, from seconds to samples. It is a fault where it is too long, or where a
+// path down from the crossfade has more than 4 crossfades.
 #[tactic(auto, unfolding(crate::specs::Builtins::short_overlap))]
 fn short_overlap(at: u32, plan: &Draft, source: u32, duration: Decimal) -> Result<u32, Stop>
     ensures { Gives (λ n. n) result (short_overlap at source duration plan.now) }
@@ -149,7 +151,8 @@ fn short_overlap(at: u32, plan: &Draft, source: u32, duration: Decimal) -> Resul
     Ok(overlap)
 }
 
-/// Adds an endless blank, and a fallback from node `source` to it; the value is the fallback's source.
+/// Makes a source infallible: adds an endless blank, and a fallback that plays node `source` while it is ready and else
+/// the blank. The value is the fallback.
 #[tactic(auto, unfolding(crate::specs::Builtins::safe))]
 fn safe(alloc: Global, machine: &mut Machine, kind: Kind, source: u32) -> Result<Value, Stop>
     requires { source < length machine.old.plan.nodes }
@@ -165,8 +168,8 @@ fn safe(alloc: Global, machine: &mut Machine, kind: Kind, source: u32) -> Result
     add(machine, Op::Fallback { sensitive: false }, kind, children)
 }
 
-// A buffer whose reader collects the time `held` before it plays, and that holds at most the time `most`, both in
-// seconds.
+// The sizes of a buffer, from two times in seconds: the samples that its reader collects before it plays (`held`), and
+// how many chunks it holds at most (`most`). Times below zero or beyond the limits are faults.
 #[tactic(auto, unfolding(crate::specs::Builtins::buffer_plan))]
 fn buffer_plan(at: u32, plan: &Draft, held: Decimal, most: Decimal) -> Result<BufferPlan, Stop>
     ensures { Gives (λ b. b) result (buffer_plan at held most plan.now) }

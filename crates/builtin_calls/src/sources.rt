@@ -22,7 +22,7 @@ pub(crate) struct Pairs {
     pub(crate) sources: Vec<u32>,
 }
 
-/// The next argument without a label, a source of this kind, by the number of its node.
+/// Takes the first argument without a label, a source of this kind, and gives the number of its node.
 #[tactic(auto, unfolding(crate::specs::Parts::plain_source))]
 pub(crate) fn plain_source(plan: &Draft, kind: Kind, given: &mut Vec<Given>) -> Result<u32, Stop>
     ensures given { Gives (λ n. (n, map view_given given.new.items)) result
@@ -34,7 +34,7 @@ pub(crate) fn plain_source(plan: &Draft, kind: Kind, given: &mut Vec<Given>) -> 
     Ok(source)
 }
 
-/// The next argument without a label, a list of sources of this kind, by the numbers of their nodes.
+/// Takes the first argument without a label, a list of sources of this kind, and gives the numbers of their nodes.
 #[tactic(auto, unfolding(crate::specs::Parts::plain_sources))]
 pub(crate) fn plain_sources(
     alloc: Global,
@@ -51,7 +51,8 @@ pub(crate) fn plain_sources(
     Ok(sources)
 }
 
-/// The next argument without a label, a list of predicates with sources of this kind.
+/// Takes the first argument without a label, the cases of a `switch`, and gives their predicates of time and the nodes
+/// of their sources, which are of this kind.
 #[tactic(auto, unfolding(crate::specs::Parts::plain_pairs))]
 pub(crate) fn plain_pairs(
     alloc: Global,
@@ -68,7 +69,7 @@ pub(crate) fn plain_pairs(
     Ok(pairs)
 }
 
-// The node of a value that is a source of this kind. The value is dropped.
+// The number of the node of a value that is a source of this kind. The value is dropped.
 fn as_source(plan: &Draft, kind: Kind, value: Value) -> Result<u32, Stop>
     ensures given { Gives (λ n. n) result (source_of plan.now.nodes kind (view_value value)) }
     ensures there { IfOk result (λ n. n < length plan.now.nodes) }
@@ -76,7 +77,7 @@ fn as_source(plan: &Draft, kind: Kind, value: Value) -> Result<u32, Stop>
     source_of(plan, kind, &value)
 }
 
-/// The nodes of a value that is a list of sources of this kind. The value is dropped.
+/// The numbers of the nodes of a value that is a list of sources of this kind. The value is dropped.
 fn as_sources(alloc: Global, plan: &Draft, kind: Kind, value: Value) -> Result<Vec<u32>, Stop>
     ensures given { Gives (λ ns. ns.items) result (sources_of plan.now.nodes kind (view_value value)) }
     ensures there { IfOk result (λ ns. All (λ n. n < length plan.now.nodes) ns.items) }
@@ -84,7 +85,7 @@ fn as_sources(alloc: Global, plan: &Draft, kind: Kind, value: Value) -> Result<V
     sources_of(alloc, plan, kind, &value)
 }
 
-/// The cases of a value that is a list of predicates with sources of this kind. The value is dropped.
+/// The cases of a `switch` from a value that is a list of tuples, with sources of this kind. The value is dropped.
 fn as_pairs(alloc: Global, plan: &Draft, kind: Kind, value: Value) -> Result<Pairs, Stop>
     ensures given { Gives (λ ps. (map view_shared ps.preds.items, ps.sources.items)) result
         (pairs_of plan.now.nodes kind (view_value value)) }
@@ -93,7 +94,7 @@ fn as_pairs(alloc: Global, plan: &Draft, kind: Kind, value: Value) -> Result<Pai
     pairs_of(alloc, plan, kind, &value)
 }
 
-/// Whether two kinds are the same.
+/// Whether two kinds, each mono or stereo, are the same.
 fn is_kind(wanted: Kind, kind: Kind) -> bool
     ensures { result ≡ is_kind wanted kind }
 {
@@ -105,7 +106,7 @@ fn is_kind(wanted: Kind, kind: Kind) -> bool
     }
 }
 
-// The node of a source of this kind, by its number.
+// The number of the node of a value that is a source of this kind. Another value is stuck: typing refuses such a call.
 #[tactic(auto, unfolding(crate::specs::Parts::source_of))]
 fn source_of(plan: &Draft, kind: Kind, value: &Value) -> Result<u32, Stop>
     ensures given { Gives (λ n. n) result (source_of plan.now.nodes kind (view_value value.now)) }
@@ -117,7 +118,8 @@ fn source_of(plan: &Draft, kind: Kind, value: &Value) -> Result<u32, Stop>
     }
 }
 
-/// The number of a node, if it is there and of this kind; otherwise the value is stuck.
+/// Checks that the node of this number is in the plan and of this kind, and gives the number. What fails is stuck:
+/// typing refuses it.
 fn of_kind(plan: &Draft, kind: Kind, number: u32) -> Result<u32, Stop>
     ensures given { Gives (λ n. n) result (of_kind kind number (slice_get plan.now.nodes number)) }
     ensures there { IfOk result (λ n. n < length plan.now.nodes) }
@@ -134,7 +136,8 @@ fn of_kind(plan: &Draft, kind: Kind, number: u32) -> Result<u32, Stop>
     }
 }
 
-// The nodes of a list of sources of this kind.
+// The numbers of the nodes of a value that is a list of sources of this kind. Another value is stuck: typing refuses
+// such a call.
 #[tactic(auto, unfolding(crate::specs::Parts::sources_of))]
 fn sources_of(alloc: Global, plan: &Draft, kind: Kind, value: &Value) -> Result<Vec<u32>, Stop>
     ensures given { Gives (λ ns. ns.items) result (sources_of plan.now.nodes kind (view_value value.now)) }
@@ -146,7 +149,7 @@ fn sources_of(alloc: Global, plan: &Draft, kind: Kind, value: &Value) -> Result<
     }
 }
 
-/// The nodes of these values, which are sources of this kind.
+/// The numbers of the nodes of these values, each of which is a source of this kind.
 fn sources_in(alloc: Global, plan: &Draft, kind: Kind, parts: &[Value]) -> Result<Vec<u32>, Stop>
     ensures given { Gives (λ ns. ns.items) result
         (nodes_from plan.now.nodes kind (many (map view_value parts.now)) []) }
@@ -160,7 +163,8 @@ fn sources_in(alloc: Global, plan: &Draft, kind: Kind, parts: &[Value]) -> Resul
     Ok(sources)
 }
 
-/// The predicate that a value is.
+/// The predicate of time, such as `8h-12h`, that a value is; it is shared. Another value is stuck: typing refuses such
+/// a call.
 #[tactic(auto, unfolding(crate::specs::Parts::pred_of))]
 fn pred_of(value: &Value) -> Result<SharedPred, Stop>
     ensures { Gives (λ p. view_shared p) result (pred_of (view_value value.now)) }
@@ -171,7 +175,8 @@ fn pred_of(value: &Value) -> Result<SharedPred, Stop>
     }
 }
 
-// The case that a tuple is: its predicate, and the node of its source, which is of this kind.
+// The case of a `switch` that a value is, a tuple: its predicate of time, and the node of its source, which is of this
+// kind.
 #[tactic(auto, unfolding(crate::specs::Parts::case_of))]
 fn pair_of(plan: &Draft, kind: Kind, value: &Value) -> Result<(SharedPred, u32), Stop>
     ensures given { Gives (λ x. (view_shared x.0, x.1)) result (case_of plan.now.nodes kind (view_value value.now)) }
@@ -183,7 +188,8 @@ fn pair_of(plan: &Draft, kind: Kind, value: &Value) -> Result<(SharedPred, u32),
     }
 }
 
-/// The case of a tuple with these two parts: its predicate, and the node of its source, which is of this kind.
+/// The case of a `switch` whose tuple has these parts: a predicate of time, and the node of a source of this kind.
+/// Anything but two parts is stuck.
 #[tactic(auto, unfolding(crate::specs::Parts::pair_in))]
 fn pair_in(plan: &Draft, kind: Kind, parts: &[Value]) -> Result<(SharedPred, u32), Stop>
     ensures given { Gives (λ x. (view_shared x.0, x.1)) result
@@ -202,7 +208,8 @@ fn pair_in(plan: &Draft, kind: Kind, parts: &[Value]) -> Result<(SharedPred, u32
     }
 }
 
-/// The cases that these tuples are.
+/// The cases of a `switch` from these values, each a tuple: the predicates of time, and the nodes of the sources, in
+/// order.
 fn pairs_in(alloc: Global, plan: &Draft, kind: Kind, parts: &[Value]) -> Result<Pairs, Stop>
     ensures given { Gives (λ ps. (map view_shared ps.preds.items, ps.sources.items)) result
         (pairs_from plan.now.nodes kind (many (map view_value parts.now)) [] []) }
@@ -218,7 +225,8 @@ fn pairs_in(alloc: Global, plan: &Draft, kind: Kind, parts: &[Value]) -> Result<
     Ok(Pairs { preds, sources })
 }
 
-/// The cases of a list of tuples.
+/// The cases of a `switch` from a value that is a list of tuples: the predicates of time, and the nodes of the sources,
+/// in order.
 #[tactic(auto, unfolding(crate::specs::Parts::pairs_of))]
 fn pairs_of(alloc: Global, plan: &Draft, kind: Kind, value: &Value) -> Result<Pairs, Stop>
     ensures given { Gives (λ ps. (map view_shared ps.preds.items, ps.sources.items)) result

@@ -43,7 +43,7 @@ pub(crate) fn track_of(at: u32, rate: u32, time: Decimal) -> Result<u64, Stop>
     Ok(samples)
 }
 
-/// A pitch in hertz; one that is not above zero is a bad value at token `at`.
+/// Checks the pitch of a wave, in hertz: gives it, or a bad value at token `at` where it is not above zero.
 #[tactic(auto, unfolding(crate::specs::Times::pitch_of))]
 pub(crate) fn pitch_of(at: u32, pitch: Decimal) -> Result<Decimal, Stop>
     ensures { Gives (λ d. d) result (pitch_of at pitch) }
@@ -54,7 +54,7 @@ pub(crate) fn pitch_of(at: u32, pitch: Decimal) -> Result<Decimal, Stop>
     Ok(pitch)
 }
 
-/// How many whole chunks of `frame` samples these samples make, and at least one.
+/// How many whole chunks of `frame` samples, the samples of one tick, fit in so many samples; at least one.
 pub(crate) fn chunks(samples: u64, frame: u32) -> u64
     ensures { result ≡ chunks samples frame }
 {
@@ -64,14 +64,14 @@ pub(crate) fn chunks(samples: u64, frame: u32) -> u64
     }
 }
 
-/// No time, the duration of a `blank` where none is given.
+/// A time of zero seconds, the duration of a `blank` where none is given.
 pub(crate) fn no_time() -> Decimal
     ensures { result ≡ some_millionths 0 tt }
 {
     Decimal { millionths: 0 }
 }
 
-/// The time that a `buffer` collects before it plays, where none is given.
+/// A time of one second, which a `buffer` collects before it plays where none is given.
 pub(crate) fn one_second() -> Decimal
     ensures { result ≡ some_millionths 1000000 tt }
 {
@@ -80,7 +80,7 @@ pub(crate) fn one_second() -> Decimal
     }
 }
 
-/// The overlap of a `crossfade`, where none is given.
+/// A time of five seconds, the overlap of a `crossfade` where none is given.
 pub(crate) fn five_seconds() -> Decimal
     ensures { result ≡ some_millionths 5000000 tt }
 {
@@ -89,7 +89,7 @@ pub(crate) fn five_seconds() -> Decimal
     }
 }
 
-/// The time that a `buffer` holds at most, where none is given.
+/// A time of ten seconds, which a `buffer` holds at most where none is given.
 pub(crate) fn ten_seconds() -> Decimal
     ensures { result ≡ some_millionths 10000000 tt }
 {

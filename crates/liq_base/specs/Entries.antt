@@ -10,13 +10,13 @@ use Rattle.liq_base.specs.Shelves.{Closing, closing_of}
 use Rattle.std.specs.Str.{bytes_eq}
 use Rattle.liq_base.specs.declared.closed.Closed.{Closed, End, File', Lost'}
 
--- the files among the closed sinks, as names and bytes, the newest first
+-- The files that a shelf in memory wrote, as names and bytes, the newest first. A sink whose closing failed is no file.
 abbrev pub entries : Closed → List (List ℕ × List ℕ)
 entries End = []
 entries (File' p name bytes left pieces faults next) = (string_bytes name, bytes.items) ∷ entries next
 entries (Lost' p name bytes left pieces faults next) = entries next
 
--- what is told of each sink that was closed, the newest last; a closing that failed is told too
+-- What a shelf in memory tells of each sink that it closed, the newest last. A closing that failed is told too.
 abbrev pub closings : Closed → List Closing
 closings End = []
 closings (File' p name bytes left pieces faults next) = closings next
@@ -26,16 +26,17 @@ closings (Lost' p name bytes left pieces faults next) = closings next
     ++ closing_of (string_bytes name) bytes.items left pieces faults
     ∷ []
 
--- the bytes of the first entry of this name, if there is one
+-- The bytes of the first entry of this name in a list of names and bytes, if there is one.
 abbrev pub stored : List ℕ → List (List ℕ × List ℕ) → Option (List ℕ)
 stored name [] = None
 stored name (entry ∷ entries) = if bytes_eq name entry.0 then Some entry.1 else stored name entries
 
--- the files that a shelf was given, as names and bytes
+-- The files with which a shelf in memory was made, as names and bytes.
 abbrev pub given_entries : List (String Global × Vec ℕ Global) → List (List ℕ × List ℕ)
 given_entries given = map (λ e. (string_bytes e.0, e.1.items)) given
 
--- the files of a shelf: those that were closed hide those that were given
+-- The files of a shelf in memory, as a map from names: those that it wrote hide those of the same name with which it
+-- was made.
 abbrev pub files_of : Closed → List (String Global × Vec ℕ Global) → Files
 files_of closed given = from_entries (entries closed ++ given_entries given)
 
@@ -50,7 +51,7 @@ found (e ∷ es) name =
 pub stored_is_file : (all : List (List ℕ × List ℕ)) (name : List ℕ) → file_at (from_entries all) name ≡ stored name all
 stored_is_file all name = get-from_entries nat_list_cmp_total all name ∙ found all name
 
--- the first of two texts that is there
+-- The bytes of a name that is looked up in two lists: what the first has, or else what the other has.
 abbrev pub first_of : Option (List ℕ) → Option (List ℕ) → Option (List ℕ)
 first_of None other = other
 first_of (Some bytes) other = Some bytes

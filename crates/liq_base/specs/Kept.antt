@@ -5,7 +5,8 @@ use Rattle.liq_base.specs.Counts.{Rose}
 use Rattle.liq_base.specs.Pieces.{IsPrefix, SinkTold}
 use Rattle.liq_base.specs.Files.{Files, with_file, HoldsPart, Closed, ClosedPart}
 
--- the name holds a prefix of the bytes, or, for this cause, what it held; nothing else changed
+-- What writing `bytes` under `name` left of the files: the name holds a prefix of the bytes, or, for this cause, all
+-- files are as they were. Nothing else changed.
 abbrev pub HoldsPartOr : Type 0 → Files → List ℕ → List ℕ → Files → Type 0
 HoldsPartOr cause files name bytes after =
     (cause × (after ≡ files)) ⊎ ((part : List ℕ) × IsPrefix part bytes × (after ≡ with_file files name part))

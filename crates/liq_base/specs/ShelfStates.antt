@@ -12,17 +12,17 @@ use Rattle.liq_base.specs.declared.shelf.ShelfFault.{ShelfFault}
 use Rattle.liq_base.specs.declared.shelf.ShelfFault.TheVariants.{Failed}
 use Rattle.liq_base.specs.declared.mem_shelf.FailingAppend.{FailingAppend}
 
--- whether the call of this number is listed
+-- Whether the call of this number is among the calls that a shelf in memory was told to let fail.
 abbrev pub is_listed : List ℕ → ℕ → Bool
 is_listed calls call = list_any (λ listed. listed == call) calls
 
--- a count of faults after one more call, which failed or did not
+-- A count of faults after one more call, which `failed` or did not: one more, up to 2^64 - 1, or as it was.
 abbrev pub raised : ℕ → Bool → ℕ
 raised count failed = if failed then one_more count else count
 
--- the files, the names of the sinks that were made, and what is told of those that were closed, in their order; how
--- many reads, creations and closings were called; which of these, and which appends, are listed to fail; the two counts
--- of faults
+-- All that a shelf in memory keeps whose calls can be told to fail: its files, the names of the sinks it made, and what
+-- it tells of those it closed. For each sort of call it keeps how many were made, which are to fail, and how many
+-- failed.
 pub record ShelfState : Type 0 where
   pub files : Files
   pub created : List (List ℕ)
@@ -37,11 +37,12 @@ pub record ShelfState : Type 0 where
   pub read_faults : ℕ
   pub write_faults : ℕ
 
--- files as a map of names and bytes, which codes to numbers
+-- A code of files as numbers: a map of names and bytes as it is. A type with a code can be what contracts see.
 abbrev pub files_code : Coded Files
 files_code = map.code (coded_list coded_ℕ) (coded_list coded_ℕ)
 
--- a closing as nested pairs, which code to numbers
+-- A code of what is told of a closed sink as numbers, by way of nested pairs. A type with a code can be what contracts
+-- see.
 abbrev closing_code : Coded Closing
 closing_code = code_by (List ℕ
     × (ℕ × (ℕ × (ℕ × ℕ))))
@@ -54,7 +55,7 @@ closing_code = code_by (List ℕ
       faults = p.1.1.1.1;
     }) (λ _. refl)
 
--- a listed append as nested pairs, which code to numbers
+-- A code of an append that is to fail as numbers, by way of nested pairs. A type with a code can be what contracts see.
 abbrev append_code : Coded FailingAppend
 append_code = code_by (ℕ
     × (ℕ × ℕ)) (coded× coded_ℕ (coded× coded_ℕ coded_ℕ)) (λ f. (f.sink, (f.call, f.taken))) (λ p. record {
@@ -63,8 +64,8 @@ append_code = code_by (ℕ
       taken = p.1.1;
     }) (λ _. refl)
 
--- a shelf as nested pairs, which code to numbers: its files, its sinks, the calls made, those listed, and the counts of
--- faults
+-- A code of all that a shelf in memory keeps as numbers, by way of nested pairs. A type with a code can be what
+-- contracts see.
 abbrev pub shelf_code : Coded ShelfState
 shelf_code =
     code_by ((Files × (List (List ℕ) × List Closing))
@@ -99,7 +100,7 @@ shelf_code =
     })
     (λ _. refl)
 
--- what a shelf in memory tells
+-- What a shelf in memory tells of itself: its files, the sinks that it made and closed, and its two counts of faults.
 abbrev pub shelf_told : ShelfState → ShelfTold
 shelf_told shelf = record {
   files = Some shelf.files;
@@ -109,11 +110,11 @@ shelf_told shelf = record {
   writes = shelf.write_faults;
 }
 
--- what a shelf of which no call fails tells: these files, and that nothing failed
+-- What a shelf in memory tells of itself that never fails: its files, and that no call failed.
 abbrev pub sure_shelf_told : Files → ShelfTold
 sure_shelf_told files = record { files = Some files; created = None; closed = None; reads = 0; writes = 0 }
 
--- a shelf of which no call was made, and none is listed
+-- A shelf in memory that was just made with these files: no call was made of it, and none is to fail.
 abbrev pub untouched : Files → ShelfState
 untouched files = record {
   files = files;
@@ -130,35 +131,38 @@ untouched files = record {
   write_faults = 0;
 }
 
--- what a read of at most so many bytes answers about this file
+-- What a read answers about a file that has these bytes, or that is missing (`None`), where at most `most` bytes are
+-- allowed: found, missing or too large.
 abbrev pub fetched : Option (List ℕ) → ℕ → Fetched
 fetched None most = Missing
 fetched (Some bytes) most = if nat_le (length bytes) most then Found else TooLarge
 
--- whether the next read is listed to fail
+-- Whether the next read of a shelf in memory is one that it was told to let fail.
 abbrev pub read_fails : ShelfState → Bool
 read_fails shelf = is_listed shelf.failing_reads shelf.reads
 
--- whether the next creation is listed to fail
+-- Whether the next creation of a shelf in memory is one that it was told to let fail.
 abbrev pub create_fails : ShelfState → Bool
 create_fails shelf = is_listed shelf.failing_creates shelf.creates
 
--- whether the next closing is listed to fail
+-- Whether the next closing of a shelf in memory is one that it was told to let fail.
 abbrev pub close_fails : ShelfState → Bool
 close_fails shelf = is_listed shelf.failing_closes shelf.closes
 
--- what a read answers where memory is not refused
+-- What the next read of the file of this name answers, with at most `most` bytes allowed, unless memory is refused: a
+-- listed fault, or found, missing or too large.
 abbrev pub read_answer : ShelfState → List ℕ → ℕ → Result Fetched ShelfFault
 read_answer shelf name most = if read_fails shelf then Err Failed else Ok (fetched (file_at shelf.files name) most)
 
--- the shelf after a read
+-- A shelf in memory after one more read: it counts the call, and the fault if it was to fail.
 abbrev pub after_read : ShelfState → ShelfState
 after_read shelf = record shelf {
   reads = one_more shelf.reads;
   read_faults = raised shelf.read_faults (read_fails shelf);
 }
 
--- the shelf after a creation that made the sinks of these names: one, or none
+-- A shelf in memory after one more creation, which made a sink of one name, or none. It counts the call, and the fault
+-- if it was to fail.
 abbrev pub after_create : ShelfState → List (List ℕ) → ShelfState
 after_create shelf made = record shelf {
   created = shelf.created ++ made;
@@ -166,22 +170,26 @@ after_create shelf made = record shelf {
   write_faults = raised shelf.write_faults (create_fails shelf);
 }
 
--- the listed appends of the sink of this number: for each the number of its call, and how many bytes it takes
+-- The appends that are to fail of the sink which creation number `sink` makes: for each the number of its call, and how
+-- many bytes it takes.
 abbrev pub appends_of : ℕ → List FailingAppend → List (ℕ × ℕ)
 appends_of sink fails = map (λ fail. (fail.call, fail.taken)) (filter (λ fail. fail.sink == sink) fails)
 
--- the sink that a creation makes
+-- The sink that the next creation of a shelf in memory makes: empty, with this name and room, and with the appends that
+-- are to fail.
 abbrev pub created_sink : ShelfState → List ℕ → ℕ → NamedState
 created_sink shelf name room = record {
   name = name;
   sink = empty_sink room (appends_of shelf.creates shelf.failing_appends);
 }
 
--- the files after the closing of this sink, which failed or did not
+-- The files of a shelf in memory after this sink was closed: with its bytes under its name, or as they were if the
+-- closing `failed`.
 abbrev pub files_after : Bool → Files → NamedState → Files
 files_after failed files out = if failed then files else with_file files out.name out.sink.held
 
--- the shelf after the closing of this sink
+-- A shelf in memory after this sink was closed: its bytes are a file unless the closing failed. It counts the call, and
+-- a fault if the closing was to fail or the sink had failed.
 abbrev pub after_close : ShelfState → NamedState → ShelfState
 after_close shelf out = record shelf {
   files = files_after (close_fails shelf) shelf.files out;

@@ -5,8 +5,8 @@ use Rattle.liq_base.specs.Counts.{Rose}
 use Rattle.liq_base.specs.Pieces.{SinkTold}
 use Rattle.liq_base.specs.Files.{Files}
 
--- what is told of a sink that was closed: its name, for how many bytes it was created, how many it held, how many
--- pieces it had got, and how often it had failed
+-- What a shelf tells of a sink that it closed: its name, for how many bytes it was created, how many it held, how many
+-- pieces it had got, and how often it had failed.
 pub record Closing : Type 0 where
   pub name : List ℕ
   pub room : ℕ
@@ -14,8 +14,8 @@ pub record Closing : Type 0 where
   pub pieces : ℕ
   pub faults : ℕ
 
--- the closing of a sink of this name, which holds these bytes, takes so many more, got so many pieces and failed so
--- often
+-- What is told of a sink that was closed, from its state: its name, the bytes it held, how many more it had room for
+-- (`left`), how many pieces it got, and how often it failed.
 abbrev pub closing_of : (name held : List ℕ) → (left pieces faults : ℕ) → Closing
 closing_of name held left pieces faults = record {
   name = name;
@@ -25,13 +25,13 @@ closing_of name held left pieces faults = record {
   faults = faults;
 }
 
--- a closing, as of a sink that had not failed
+-- What is told of a closed sink, with its count of faults set to 0.
 abbrev pub without_faults : Closing → Closing
 without_faults closing = record closing { faults = 0 }
 
--- The files, the names of the sinks that were made and what is told of those that were closed, in their order and also
--- where a closing failed, each where it is told; how often a read failed, and how often a creation or a closing failed
--- or a sink that had failed was closed.
+-- What a shelf tells of itself, each where it is told: its files, the names of the sinks that it made, and what is told
+-- of those that it closed, in order. It always tells how many reads failed (`reads`), and how many creations and
+-- closings failed or closed a sink that had failed (`writes`).
 pub record ShelfTold : Type 0 where
   pub files : Option Files
   pub created : Option (List (List ℕ))
@@ -39,12 +39,13 @@ pub record ShelfTold : Type 0 where
   pub reads : ℕ
   pub writes : ℕ
 
--- what a shelf tells of the names of the sinks that it made, or of those that were closed, after one more
+-- A list that a shelf tells, of the sinks it made or closed, with one more item at its end; `None` where it does not
+-- tell the list.
 abbrev pub noted : {A : Type 0} → A → Option (List A) → Option (List A)
 noted item None = None
 noted item (Some items) = Some (items ++ item ∷ [])
 
--- no sink was made and none closed
+-- What a call that only reads changes of a shelf: no file, no creation and no closing. Its counts of faults may rise.
 pub record OnlyRead (old new : ShelfTold) : Type 0 where
   pub files : new.files ≡ old.files
   pub created : new.created ≡ old.created
@@ -52,7 +53,8 @@ pub record OnlyRead (old new : ShelfTold) : Type 0 where
   pub reads : old.reads ≤ new.reads
   pub writes : old.writes ≤ new.writes
 
--- a sink of this name was made, and none closed
+-- What a creation changes of a shelf: the name of one new sink is noted. No file changes and no sink is closed; its
+-- counts of faults may rise.
 pub record OnlyMade (name : List ℕ) (old new : ShelfTold) : Type 0 where
   pub files : new.files ≡ old.files
   pub created : new.created ≡ noted name old.created
@@ -60,7 +62,7 @@ pub record OnlyMade (name : List ℕ) (old new : ShelfTold) : Type 0 where
   pub reads : old.reads ≤ new.reads
   pub writes : old.writes ≤ new.writes
 
--- a sink tells all that is told of it once it is closed
+-- A byte sink tells all facts that a closing tells of it: its name, its bytes, its room and its number of appends.
 pub record TellsAll (out : SinkTold) : Type 0 where
   pub name : IsSome out.name
   pub held : IsSome out.held
@@ -78,13 +80,15 @@ pub record IsFresh (name : List ℕ) (room : ℕ) (shelf : ShelfTold) (out : Sin
   pub tells : IsSome shelf.files → IsSome out.name × IsSome out.held
   pub tells_all : IsSome shelf.closed → TellsAll out
 
--- the closings that a shelf tells grew by that of a sink which told `out`, where all that a closing tells was told
+-- The closings that a shelf tells, `before` and `after`, grew by that of a sink that told `out`. It is said where the
+-- sink told all that a closing tells.
 abbrev pub Lists : SinkTold → (before after : Option (List Closing)) → Type 0
 Lists out before after =
     ForSome out.name (λ name. ForSome out.held (λ held. ForSome out.room (λ left. ForSome out.appends (λ pieces. after
     ≡ noted (closing_of name held left pieces out.faults) before))))
 
--- a sink that told this was closed, whatever was answered, and none made
+-- What a closing changes of a shelf, whether it succeeds or not: the sink that told `out` is listed as closed, and no
+-- sink is made. If the sink had failed, the count of failed writes rises.
 pub record OnlyClosed (out : SinkTold) (old new : ShelfTold) : Type 0 where
   pub files : is_some new.files ≡ is_some old.files
   pub created : new.created ≡ old.created

@@ -2,27 +2,29 @@
 use Rattle.std.specs.Prelude.{ℕ, ◌+◌, ◌-◌, ◌^◌, List, [], ◌∷◌, ◌++◌, take, length, min, Option, Some, None, if◌then◌else◌, nat_eq, nat_le}
 use Rattle.liq_base.specs.Pieces.{SinkTold}
 
--- a count and one more, as far as a u64 counts
+-- A count of calls or faults and one more, up to the most that a u64 holds.
 abbrev pub one_more : ℕ → ℕ
 one_more count = min (count + 1) (2 ^ 64 - 1)
 
--- after how many bytes this call fails, where it is listed; of a call that is listed twice the first place counts
+-- After how many bytes the append of number `call` is to fail, by a list of such calls with their bytes; `None` if it
+-- is not on it. Of a call that stands twice the first place counts.
 abbrev pub listed : List (ℕ × ℕ) → ℕ → Option ℕ
 listed [] call = None
 listed (fail ∷ fails) call = if nat_eq fail.0 call then Some fail.1 else listed fails call
 
--- after how many of its bytes a piece of this size stops, with so much room left: where it is listed, at 0 for want of
--- room, or nowhere
+-- After how many bytes an append of `size` bytes stops, with `left` bytes of room: at a listed place within piece and
+-- room, at 0 for want of room, or nowhere (`None`).
 abbrev pub stop : Option ℕ → ℕ → ℕ → Option ℕ
 stop (Some at) left size = Some (min at (min size left))
 stop None left size = if nat_le size left then None else Some 0
 
--- the bytes that are taken of a piece: so many if it stops, and otherwise all
+-- The bytes that a sink takes of a piece: those before the place at which it stops, or all where it does not stop.
 abbrev pub taken_at : Option ℕ → List ℕ → List ℕ
 taken_at (Some at) piece = take at piece
 taken_at None piece = piece
 
--- the bytes held and the room for them, the calls that are listed to fail, and how many calls were made and failed
+-- All that a byte sink in memory keeps: its bytes, its room, the appends that are to fail (number and bytes taken), and
+-- how many calls were made and failed.
 pub record SinkState : Type 0 where
   pub held : List ℕ
   pub room : ℕ
@@ -30,20 +32,22 @@ pub record SinkState : Type 0 where
   pub calls : ℕ
   pub faults : ℕ
 
--- a sink to which nothing was appended
+-- A byte sink in memory that was just made, with this room and with these appends that are to fail.
 abbrev pub empty_sink : ℕ → List (ℕ × ℕ) → SinkState
 empty_sink room fails = record { held = []; room = room; fails = fails; calls = 0; faults = 0 }
 
--- after how many bytes this piece stops, if its call is listed or the room is too small
+-- After how many bytes the next append, of this piece, stops: because it is listed to fail, or for want of room; `None`
+-- if it is taken whole.
 abbrev pub stops : SinkState → List ℕ → Option ℕ
 stops sink piece = stop (listed sink.fails sink.calls) (sink.room - length sink.held) (length piece)
 
--- a count of faults after a piece that stopped, or was taken whole
+-- The count of faults of a sink after an append that stopped early (one more) or was taken whole (`None`: as before).
 abbrev pub faults_after : Option ℕ → ℕ → ℕ
 faults_after None faults = faults
 faults_after (Some at) faults = one_more faults
 
--- the sink after an append of this piece
+-- A byte sink in memory after an append of this piece: it holds what it took of it, and counts the call, and the fault
+-- if it stopped early.
 abbrev pub appended : SinkState → List ℕ → SinkState
 appended sink piece = record {
   held = sink.held ++ taken_at (stops sink piece) piece;
@@ -53,7 +57,7 @@ appended sink piece = record {
   faults = faults_after (stops sink piece) sink.faults;
 }
 
--- what a sink in memory without a name tells: its bytes, its appends and its faults
+-- What a byte sink in memory without a name tells of itself: its bytes, the number of its appends and its faults.
 abbrev pub sink_told : SinkState → SinkTold
 sink_told sink = record {
   held = Some sink.held;
@@ -63,12 +67,12 @@ sink_told sink = record {
   faults = sink.faults;
 }
 
--- a sink that a shelf in memory made, with its name
+-- All that a sink keeps which a shelf in memory made: its name, and the byte sink behind it.
 pub record NamedState : Type 0 where
   pub name : List ℕ
   pub sink : SinkState
 
--- what a sink in memory with a name tells: all that a sink can tell
+-- What a sink of a shelf in memory tells of itself: its bytes, name, room left, number of appends and faults.
 abbrev pub named_told : NamedState → SinkTold
 named_told named = record {
   held = Some named.sink.held;
@@ -78,13 +82,14 @@ named_told named = record {
   faults = named.sink.faults;
 }
 
--- a sink in memory that never fails, with its name and its room
+-- All that a sink in memory keeps which never fails: its name, its bytes and for how many bytes it was made.
 pub record SureState : Type 0 where
   pub name : List ℕ
   pub held : List ℕ
   pub room : ℕ
 
--- what a sink that never fails tells: its bytes, its name and its room, and nothing of its appends
+-- What a sink in memory that never fails tells of itself: its bytes, its name and its room left. It does not tell its
+-- appends.
 abbrev pub sure_told : SureState → SinkTold
 sure_told sure = record {
   held = Some sure.held;

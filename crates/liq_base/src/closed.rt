@@ -38,6 +38,7 @@ pub(crate) struct Entry {
 
 /// The files are not printed.
 impl fmt::Debug for Closed {
+    // Prints the word `Closed` alone, and none of the files.
     fn fmt<W: fmt::Write>(&self, f: &mut fmt::Formatter<W>) -> fmt::Result {
         f.write_str("Closed")
     }
@@ -45,13 +46,14 @@ impl fmt::Debug for Closed {
 
 /// The file is not printed.
 impl fmt::Debug for Entry {
+    // Prints the word `Entry` alone, and nothing of the file.
     fn fmt<W: fmt::Write>(&self, f: &mut fmt::Formatter<W>) -> fmt::Result {
         f.write_str("Entry")
     }
 }
 
 impl Entry {
-    /// An entry with nothing in it, for a sink to become.
+    /// An entry with nothing in it, made together with a sink, so that closing the sink takes no memory.
     pub fn empty(alloc: Global) -> Result<Box<Entry>, Memory> {
         let entry = Entry {
             name: String::new(alloc),
@@ -65,7 +67,8 @@ impl Entry {
     }
 }
 
-/// The file of this name: the newest that was closed, else the first that was given.
+/// The bytes of the file of this name in a shelf in memory: of those that it wrote the newest, else the first of those
+/// with which it was made.
 pub(crate) fn find_file<'a>(
     closed: &'a Closed,
     given: &'a [(String, Vec<u8>)],
@@ -80,7 +83,8 @@ pub(crate) fn find_file<'a>(
     }
 }
 
-/// Adds the bytes of the file of this name to `into`, if it has at most `most`.
+/// Reads the file of this name in a shelf in memory: adds its bytes to `into`, if it has at most `most`, and answers
+/// whether it was found, missing or too large.
 pub(crate) fn fetch_file(
     closed: &Closed,
     given: &[(String, Vec<u8>)],
@@ -113,7 +117,7 @@ pub(crate) fn fetch_file(
     }
 }
 
-/// The bytes of the newest of these files that has this name.
+/// The bytes of the newest file of this name that a shelf in memory wrote. A sink whose closing failed is no file.
 fn find_closed<'a>(closed: &'a Closed, name: &str) -> Option<&'a [u8]>
     ensures { MatchOption result (stored name.now (entries closed.now) ≡ None)
         (λ bytes. stored name.now (entries closed.now) ≡ Some bytes.now) }
@@ -131,7 +135,7 @@ fn find_closed<'a>(closed: &'a Closed, name: &str) -> Option<&'a [u8]>
     }
 }
 
-/// The first of these files that has this name.
+/// The bytes of the first file of this name with which a shelf in memory was made.
 fn find_given<'a>(given: &'a [(String, Vec<u8>)], name: &str) -> Option<&'a [u8]>
     ensures { MatchOption result (stored name.now (given_entries given.now) ≡ None)
         (λ bytes. stored name.now (given_entries given.now) ≡ Some bytes.now) }

@@ -14,5 +14,6 @@ pub trait Gate {
 pub struct FreeGate;
 
 impl Gate for FreeGate {
+    // Lets the clock begin its tick at once.
     fn enter(&self, _clock: u32, _tick: u64) {}
 }

@@ -99,7 +99,7 @@ impl MemShelf {
         }
     }
 
-    /// Lists the read of this number, counted from 0, as one that fails.
+    /// Tells the shelf to let the read of this number, counted from 0, fail.
     pub fn fail_read(&mut self, call: u64) -> Result<(), Memory>
         ensures listed { OnOk result (self.new ≡ record self.old {
           failing_reads = self.old.failing_reads ++ call
@@ -111,7 +111,7 @@ impl MemShelf {
         Ok(())
     }
 
-    /// Lists the creation of this number, counted from 0, as one that fails.
+    /// Tells the shelf to let the creation of this number, counted from 0, fail.
     pub fn fail_create(&mut self, call: u64) -> Result<(), Memory>
         ensures listed { OnOk result (self.new ≡ record self.old {
           failing_creates = self.old.failing_creates ++ call
@@ -123,7 +123,7 @@ impl MemShelf {
         Ok(())
     }
 
-    /// Lists the closing of this number, counted from 0, as one that fails.
+    /// Tells the shelf to let the closing of this number, counted from 0, fail.
     pub fn fail_close(&mut self, call: u64) -> Result<(), Memory>
         ensures listed { OnOk result (self.new ≡ record self.old {
           failing_closes = self.old.failing_closes ++ call
@@ -135,8 +135,8 @@ impl MemShelf {
         Ok(())
     }
 
-    /// Lists an append that fails after `taken` bytes: call number `call` of the sink that creation
-    /// number `sink` makes. A sink takes its list over when it is made.
+    /// Tells the shelf to let an append fail after `taken` bytes: call number `call` of the sink that creation number
+    /// `sink` makes, both from 0. A sink takes its list over when it is made.
     pub fn fail_append(&mut self, sink: u32, call: u64, taken: u64) -> Result<(), Memory>
         ensures listed { OnOk result (self.new ≡ record self.old {
           failing_appends = self.old.failing_appends
@@ -149,7 +149,7 @@ impl MemShelf {
         Ok(())
     }
 
-    /// The bytes of the file of this name, if there is one.
+    /// The bytes of the file of this name in the shelf; `None` where there is none.
     pub fn get(&self, name: &str) -> Option<&[u8]>
         ensures file { MatchOption result (file_at self.now.files name.now ≡ None)
             (λ bytes. file_at self.now.files name.now ≡ Some bytes.now) }
@@ -157,7 +157,7 @@ impl MemShelf {
         find_file(&self.closed, &self.given, name)
     }
 
-    /// Notes the name of a sink that the shelf made.
+    /// Appends a name to the list of the sinks that this shelf made.
     fn note(&mut self, name: &str) -> Result<(), Memory>
         ensures noted { OnOk result (self.new ≡ record self.old { created = self.old.created ++ name.now ∷ [] }) }
         ensures unchanged { OnErr result (self.new ≡ self.old) }
@@ -167,7 +167,7 @@ impl MemShelf {
         Ok(())
     }
 
-    /// Counts a read, and tells whether it is to fail.
+    /// Counts one more read, and answers whether the shelf was told to let it fail; if so it counts a fault too.
     fn count_read(&mut self) -> bool
         ensures next { self.new ≡ after_read self.old }
         ensures fails { result ≡ read_fails self.old }
@@ -187,6 +187,8 @@ impl Shelf for MemShelf {
 
     ghost told = { shelf_told };
 
+    // Adds the bytes of the file of this name to `into`, if it has at most `most`; fails where this read is listed to
+    // fail.
     fn read(&mut self, name: &str, into: &mut Vec<u8>, most: u64) -> Result<Fetched, ShelfFault>
         ensures next { self.new ≡ after_read self.old }
         ensures answer { result ≢ Err ShelfFault.Memory → result ≡ read_answer self.old name.now most }
@@ -208,6 +210,8 @@ impl Shelf for MemShelf {
         fetch_file(&self.closed, &self.given, name, into, most)
     }
 
+    // Makes an empty sink of this name in memory, with this room, and notes its name; fails where this creation is
+    // listed to fail.
     fn create(&mut self, name: &str, room: u64) -> Result<NamedSink, ShelfFault>
         ensures next { OnOk result (self.new ≡ after_create self.old (name.now ∷ [])) }
         ensures refused { OnErr result (self.new ≡ after_create self.old []) }
@@ -231,6 +235,8 @@ impl Shelf for MemShelf {
         Ok(out)
     }
 
+    // Makes the bytes of a sink the file of its name, and tells it among the closed ones. Where this closing is listed
+    // to fail, the files stay as they were.
     fn close(&mut self, out: NamedSink) -> Result<(), Failed>
         ensures next { self.new ≡ after_close self.old out }
         ensures answer { is_ok result ≡ not (close_fails self.old) }
@@ -253,7 +259,8 @@ impl Shelf for MemShelf {
     }
 }
 
-/// The listed appends of sink `sink`: for each the number of its call, and how many bytes it takes.
+/// The appends that are to fail of the sink which creation number `sink` makes: for each the number of the call, and
+/// how many bytes it takes.
 fn listed_appends(
     alloc: Global,
     fails: &[FailingAppend],
@@ -270,7 +277,7 @@ fn listed_appends(
     Ok(own)
 }
 
-/// A count of faults after one more call, which failed or did not; at most `u64::MAX`.
+/// A count of faults after one more call, which `failed` or did not: one more, up to `u64::MAX`, or as it was.
 fn raise(count: u64, failed: bool) -> u64
     ensures { result ≡ raised count failed }
 {

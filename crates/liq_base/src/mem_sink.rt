@@ -39,8 +39,8 @@ impl Model for MemSink {
 }
 
 impl MemSink {
-    /// A sink that reserves room for so many bytes. Its call number `k`, counted from 0, fails
-    /// after `j` bytes where `(k, j)` is listed; of a call that is listed twice the first counts.
+    /// Makes an empty sink that reserves room for so many bytes. Its append number `k`, from 0, fails after `j` bytes
+    /// where `(k, j)` is in `fails`; of a number that stands there twice the first counts.
     pub fn new(alloc: Global, room: u64, fails: Vec<(u64, u64)>) -> Result<MemSink, Memory>
         ensures empty { IfOk result (λ sink. sink ≡ empty_sink room fails.items) }
     {
@@ -54,35 +54,35 @@ impl MemSink {
         })
     }
 
-    /// The bytes that were taken.
+    /// The bytes that were appended to the sink and taken.
     pub fn held(&self) -> &[u8]
         ensures held { result.now ≡ self.now.held }
     {
         &self.bytes
     }
 
-    /// How many more bytes it takes.
+    /// How many more bytes the sink has room for.
     pub(crate) fn left(&self) -> u64
         ensures { result ≡ self.now.room - length self.now.held }
     {
         self.room - self.bytes.len() as u64
     }
 
-    /// How often a call failed.
+    /// How many appends of the sink failed.
     pub(crate) fn faults(&self) -> u64
         ensures { result ≡ self.now.faults }
     {
         self.faults
     }
 
-    /// How many pieces were handed to it, at most as many as a `u64` counts.
+    /// How many appends were made to the sink, whether they failed or not; at most as many as a `u64` counts.
     pub(crate) fn calls(&self) -> u64
         ensures { result ≡ self.now.calls }
     {
         self.calls
     }
 
-    /// The bytes that were taken, with their memory.
+    /// Gives up the sink for the bytes that it took, without copying them.
     pub(crate) fn into_bytes(self) -> Vec<u8>
         ensures { result.items ≡ self.held }
     {
@@ -122,6 +122,8 @@ impl Sink for MemSink {
 
     ghost told = { sink_told };
 
+    // Adds a piece to the bytes held. Where the call is listed to fail, or the room is too small, it takes a front of
+    // the piece, counts a fault and fails.
     fn append(&mut self, piece: &[u8]) -> Result<(), Failed>
         ensures next { self.new ≡ appended self.old piece.now }
         ensures answer { is_ok result ≡ is_none (stops self.old piece.now) }

@@ -9,6 +9,7 @@ use std::fmt;
 pub struct Memory;
 
 impl fmt::Display for Memory {
+    // Writes in words that memory was refused.
     fn fmt<W: fmt::Write>(&self, f: &mut fmt::Formatter<W>) -> fmt::Result {
         write!(f, "out of memory")
     }
@@ -17,12 +18,14 @@ impl fmt::Display for Memory {
 impl std::error::Error for Memory {}
 
 impl From<AllocError> for Memory {
+    // Makes an allocation that was refused want of memory.
     fn from(_refused: AllocError) -> Memory {
         Memory
     }
 }
 
 impl<T: Drop> From<AllocFailed<T>> for Memory {
+    // Makes an allocation that was refused want of memory; the value that it hands back is dropped.
     fn from(_refused: AllocFailed<T>) -> Memory {
         Memory
     }
@@ -38,7 +41,7 @@ pub enum Kind {
 impl Kind {
     ghost use Rattle.liq_base.specs.Kinds.{channels_of};
 
-    /// How many channels a source of this kind has.
+    /// How many channels the sound of a source of this kind has: one for mono, two for stereo.
     pub fn channels(self) -> u16
         ensures count { result ≡ channels_of self }
     {

@@ -44,14 +44,15 @@ impl NamedSink {
         Ok(NamedSink { name, sink, entry })
     }
 
-    /// How often a call failed.
+    /// How many appends of the sink failed.
     pub(crate) fn faults(&self) -> u64
         ensures { result ≡ self.now.sink.faults }
     {
         self.sink.faults()
     }
 
-    /// The entry that the sink becomes when its shelf closes it; no other entry is behind it.
+    /// Makes the sink, as its shelf closes it, an entry of the shelf's list of closed sinks, with its name, bytes and
+    /// counts. The entry is linked to no other yet.
     pub(crate) fn into_entry(self) -> Box<Entry>
         ensures name { string_bytes result.value.name ≡ self.name }
         ensures bytes { result.value.bytes.items ≡ self.sink.held }
@@ -75,6 +76,8 @@ impl Sink for NamedSink {
 
     ghost told = { named_told };
 
+    // Adds a piece, which fits, to the bytes held. Where the call is listed to fail, it takes a front of the piece and
+    // fails.
     fn append(&mut self, piece: &[u8]) -> Result<(), Failed>
         requires { HasRoom (named_told self.old).room (length piece.now) }
         ensures next { self.new ≡ record self.old { sink = appended self.old.sink piece.now } }

@@ -40,6 +40,7 @@ pub enum ShelfFault {
 }
 
 impl fmt::Display for ShelfFault {
+    // Writes the fault of a shelf in words: a failed device, or want of memory.
     fn fmt<W: fmt::Write>(&self, f: &mut fmt::Formatter<W>) -> fmt::Result {
         match self {
             ShelfFault::Failed => Failed.fmt(f),
@@ -55,6 +56,7 @@ impl From<Memory> for ShelfFault {
 
     ghost from_gives = { λ _ fault. fault ≡ memory_fault };
 
+    // Makes want of memory a fault of a shelf.
     fn from(_memory: Memory) -> ShelfFault {
         ShelfFault::Memory
     }

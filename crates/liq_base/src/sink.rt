@@ -9,6 +9,7 @@ use std::fmt;
 pub struct Failed;
 
 impl fmt::Display for Failed {
+    // Writes in words that a device failed.
     fn fmt<W: fmt::Write>(&self, f: &mut fmt::Formatter<W>) -> fmt::Result {
         write!(f, "a device failed")
     }

@@ -49,7 +49,7 @@ impl SureShelf {
         }
     }
 
-    /// The bytes of the file of this name, if there is one.
+    /// The bytes of the file of this name in the shelf; `None` where there is none.
     pub fn get(&self, name: &str) -> Option<&[u8]>
         ensures file { MatchOption result (file_at self.now name.now ≡ None)
             (λ bytes. file_at self.now name.now ≡ Some bytes.now) }
@@ -65,6 +65,8 @@ impl Shelf for SureShelf {
 
     ghost told = { sure_shelf_told };
 
+    // Adds the bytes of the file of this name to `into`, if it has at most `most`. It never fails but for want of
+    // memory.
     fn read(&mut self, name: &str, into: &mut Vec<u8>, most: u64) -> Result<Fetched, ShelfFault>
         ensures next { self.new ≡ self.old }
         ensures answer { result ≢ Err ShelfFault.Memory → result ≡ Ok (fetched (file_at self.old name.now) most) }
@@ -79,6 +81,7 @@ impl Shelf for SureShelf {
         fetch_file(&self.closed, &self.given, name, into, most)
     }
 
+    // Makes an empty sink of this name in memory, with room for so many bytes. It never fails but for want of memory.
     fn create(&mut self, name: &str, room: u64) -> Result<SureSink, ShelfFault>
         ensures next { self.new ≡ self.old }
         ensures made { IfOk result (λ out. out ≡ record { name = name.now; held = []; room = room }) }
@@ -87,6 +90,7 @@ impl Shelf for SureShelf {
         Ok(SureSink::new(self.alloc, name, room)?)
     }
 
+    // Makes the bytes of a sink the file of its name. It never fails.
     fn close(&mut self, out: SureSink) -> Result<(), Failed>
         ensures next { self.new ≡ with_file self.old out.name out.held }
         ensures sure { result ≡ Ok tt }

@@ -30,7 +30,7 @@ impl<T> Model for TokenTable<T> {
 }
 
 impl<T: Copy> TokenTable<T> {
-    /// No token has a value. It takes no memory.
+    /// An empty table of values by token indexes: no token has a value. It takes no memory.
     pub fn new(alloc: Global) -> TokenTable<T>
         ensures { (t : ℕ) → at_token t result ≡ None }
     {
@@ -40,7 +40,7 @@ impl<T: Copy> TokenTable<T> {
         }
     }
 
-    /// The value of the token at an index, if it has one.
+    /// The value that the table has for the token with index `at`; `None` where it has none.
     pub fn get(&self, at: u32) -> Option<T>
         ensures { result ≡ at_token at self.now }
     {
@@ -49,7 +49,8 @@ impl<T: Copy> TokenTable<T> {
         self.values.get(before as usize).copied()
     }
 
-    /// Gives the token at an index this value, in place of any that it had. Where memory runs out no value changes.
+    /// Gives the token with index `at` this value in the table, in place of any that it had. Where memory runs out no
+    /// value changes.
     pub fn put(&mut self, at: u32, value: T) -> Result<(), Memory>
         ensures put { OnOk result ((t : ℕ) → at_token t self.new
             ≡ cond (nat_eq at t) (Some value) (at_token t self.old)) }
@@ -64,8 +65,8 @@ impl<T: Copy> TokenTable<T> {
     }
 }
 
-// The place of a value before which `before` others were put: places count values from 1. Where a `u32` cannot count so
-// many, memory is refused.
+// The number that a token's place gets for a value that is put behind `before` others: values count from 1. Where a
+// `u32` cannot count so many, memory is refused.
 fn next_place(before: usize) -> Result<u32, Memory>
     ensures next { IfOk result (λ place. place ≡ before + 1) }
 {
@@ -75,8 +76,8 @@ fn next_place(before: usize) -> Result<u32, Memory>
     before.checked_add(1).ok_or(Memory)
 }
 
-// Makes a place for the token with index `at`, and for those before it; a new place names no value. Where memory runs
-// out, some are made.
+// Lengthens the list of places, so that the token with index `at` has one. A new place is 0, which names no value.
+// Where memory runs out, some are made.
 fn reach(places: &mut Vec<u32>, at: u32) -> Result<(), Memory>
     ensures there { OnOk result (at < length places.new.items) }
     ensures same { (t : ℕ) → get_or places.new.items t 0 ≡ get_or places.old.items t 0 }

@@ -26,7 +26,7 @@ impl Model for Text {
 }
 
 impl Text {
-    /// The text of these characters.
+    /// Makes an owned text, a copy of these characters.
     pub fn from_str(alloc: Global, s: &str) -> Result<Text, Memory>
         ensures copied { IfOk result (λ t. t ≡ s.now) }
     {
@@ -34,14 +34,14 @@ impl Text {
         Ok(Text { string })
     }
 
-    /// The text that a string holds. It takes no memory.
+    /// Makes a text of an owned string, without copying it. It takes no memory.
     pub fn from_string(string: String) -> Text
         ensures held { result ≡ string_bytes string }
     {
         Text { string }
     }
 
-    /// The text, to be read.
+    /// Borrows the characters of the text.
     pub fn as_str(&self) -> &str
         ensures same { result.now ≡ self.now }
     {
@@ -62,6 +62,7 @@ impl PartialEq for Text {
 
     ghost laws = { partial_equiv_from_equiv nat_list_eq_equiv };
 
+    // Whether two texts have the same bytes.
     fn eq(&self, other: &Text) -> bool {
         self.as_str() == other.as_str()
     }
@@ -76,6 +77,7 @@ impl PartialOrd for Text {
 
     ghost laws = { texts_po };
 
+    // Compares two texts by their bytes; there is always an answer.
     fn partial_cmp(&self, other: &Text) -> Option<Ordering> {
         Some(self.cmp(other))
     }
@@ -91,6 +93,7 @@ impl Ord for Text {
 
     ghost matches_eq = { texts_ties };
 
+    // Compares two texts by their bytes: the first that differ decide, and a text comes before its continuations.
     fn cmp(&self, other: &Text) -> Ordering {
         self.as_str().cmp(other.as_str())
     }
@@ -102,6 +105,7 @@ impl Hash for Text {
 
     ghost respects_eq = { Prim.search (hashing, rules) };
 
+    // Feeds the characters of the text to a hasher.
     fn hash<H: Hasher>(&self, state: &mut H) {
         self.as_str().hash(state);
     }

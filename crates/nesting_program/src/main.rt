@@ -40,11 +40,13 @@ const NESTS: [Nest; 18] = [
     ("def f(~a=", "(", "1", ")", ") = y = 1 y end", 198),
 ];
 
+// Tells for each way of nesting brackets in a script whether the parser takes it at the deepest level allowed.
 fn main(rt: HostRuntime) -> io::Result<()> {
     tell(&rt, rt.alloc(), &NESTS)
 }
 
-// Prints a line for each: how many levels it has, how it begins, and whether its script is parsed.
+// Prints a line for each way of nesting brackets: how many levels it has, how its script begins, and whether that is
+// parsed.
 fn tell(rt: &impl Print, alloc: Global, nests: &[Nest]) -> io::Result<()> {
     for nest in nests {
         let text = written(alloc, nest)?;
@@ -54,7 +56,8 @@ fn tell(rt: &impl Print, alloc: Global, nests: &[Nest]) -> io::Result<()> {
     Ok(())
 }
 
-// The script of these parts, with all its levels.
+// Writes the script of one way of nesting brackets: what stands before, the opening of each level, what is within, the
+// closing of each, and what stands behind.
 fn written(alloc: Global, nest: &Nest) -> Result<String, AllocError> {
     let (before, open, within, close, behind, levels) = *nest;
     let mut text = String::from_str(alloc, before)?;
@@ -69,7 +72,7 @@ fn written(alloc: Global, nest: &Nest) -> Result<String, AllocError> {
     Ok(text)
 }
 
-// Whether a script is parsed, in a word.
+// Lexes and parses a script, and gives a word for how that went: `parsed`, `refused` by the parser, or `not lexed`.
 fn answer(alloc: Global, text: &[u8]) -> &'static str {
     match lex(alloc, text) {
         Ok(tokens) => match parse(alloc, text, &tokens) {

@@ -7,7 +7,8 @@ use Rattle.stream_meaning.specs.Arithmetic as mixing
 use Rattle.op_mix.specs.declared.mixer.Mixer.{Mixer}
 use Rattle.op_mix.specs.declared.mixer.Mixer.TheVariants.{Adds, Scales, Halves, Doubles, Passes}
 
--- what a mixer makes of its children's slots, as the definitions say it
+-- The arithmetic of a mixing node (sum, gain, mean of both sides, left on both sides, or none), from the program's type
+-- to that of the stream definitions.
 abbrev pub mixing_of : Mixer → Mixing
 mixing_of (Adds normalize) = mixing.Adds normalize
 mixing_of (Scales factor) = mixing.Scales factor.millionths
@@ -15,7 +16,7 @@ mixing_of Halves = mixing.Halves
 mixing_of Doubles = mixing.Doubles
 mixing_of Passes = mixing.Passes
 
--- the first of these cells
+-- The first of these cells (an instant's pair of samples) as what a node offers; nothing where there is none.
 abbrev pub front_of : List Cell → Slot
 front_of [] = None
 front_of (cell ∷ cells) = Some cell

@@ -1,4 +1,4 @@
-// One cell, changed.
+// One cell, a pair of samples, changed by a node.
 ghost use Rattle.std.specs.Prelude.{◌≡◌};
 ghost use Rattle.stream_meaning.specs.Arithmetic.{amplified, cells_of, doubled, halved};
 ghost use Rattle.op_mix.specs.Mixings.{front_of};
@@ -7,7 +7,7 @@ use fixed_text::Decimal;
 use frame_core::Cell;
 use sample_kernels::{halves, scale};
 
-/// The first cell among these slots.
+/// The first cell (a pair of samples) among what the children offer at an instant; `None` where none offers.
 pub fn first_cell(slots: &[Option<Cell>]) -> Option<Cell>
     ensures { result ≡ front_of (cells_of slots.now) }
 {
@@ -19,7 +19,7 @@ pub fn first_cell(slots: &[Option<Cell>]) -> Option<Cell>
     None
 }
 
-/// A cell, each of whose samples is multiplied by a factor.
+/// A cell with both samples multiplied by a factor. Its flag for a new track and its title stay.
 pub fn amplified(cell: Cell, factor: Decimal) -> Cell
     ensures { result ≡ amplified factor.millionths cell }
 {
@@ -34,7 +34,7 @@ pub fn amplified(cell: Cell, factor: Decimal) -> Cell
     }
 }
 
-/// The mono cell of a stereo one: half the sum of its two samples.
+/// The mono cell of a stereo one: its left sample is half the sum of both, and its right one is 0.
 pub fn halved(cell: Cell) -> Cell
     ensures { result ≡ halved cell }
 {
@@ -49,7 +49,7 @@ pub fn halved(cell: Cell) -> Cell
     }
 }
 
-/// The stereo cell of a mono one: its sample on both sides.
+/// The stereo cell of a mono one: its left sample stands on both sides.
 pub fn doubled(cell: Cell) -> Cell
     ensures { result ≡ doubled cell }
 {

@@ -16,8 +16,8 @@ use sample_kernels::{add_into, clamp_all, divide, halves, scale};
 use stream_meaning::Part;
 
 impl Mixer {
-    /// Writes the samples of a node in a stretch to `left` and `right`, by what the nodes before it gave. A child is
-    /// heard where it offers by its part there; where none does nothing is written. `sums` is room. It takes no memory.
+    /// Writes the samples of a node over a run of instants to `left` and `right`, from the samples `before` of its
+    /// children. A child counts if it offers a cell; where none does, nothing is written. `sums` is room for the work.
     pub fn run(
         &self,
         children: &[u32],
@@ -46,8 +46,8 @@ impl Mixer {
         }
     }
 
-    // Writes the samples of a node that changes the first of its children that offers; where none does it writes
-    // nothing.
+    // Writes the samples, over a run of instants, of a node that changes one source: the first of its children that
+    // offers. Where none does, nothing is written.
     fn change_first(
         &self,
         children: &[u32],
@@ -73,7 +73,8 @@ impl Mixer {
         self.change(from_left, from_right, left, right);
     }
 
-    // Writes the samples of a node that changes one child, from those of that child. A sum copies them.
+    // Writes the samples of a node over a run from those of its one source: times a factor, the mean of both sides, the
+    // left ones on both, or as they are.
     fn change(&self, from_left: &[i16], from_right: &[i16], left: &mut [i16], right: &mut [i16])
         requires from { length from_right.now ≡ length from_left.now }
         requires same { length left.old ≡ length from_left.now }
@@ -102,8 +103,8 @@ impl Mixer {
     }
 }
 
-/// Writes one side of the samples of a sum: at each instant that of the children that offer, by the lanes of all nodes.
-/// `sums` and `counts` are room. Where no child offers nothing is written.
+/// Writes one side of the samples of a sum over a run of instants: at each, the sum or mean of the children that offer.
+/// `lanes` has the samples of all nodes; `sums` and `counts` are room. Where no child offers, nothing is written.
 pub fn sum_lane(
     children: &[u32],
     parts: &[Part],
@@ -130,7 +131,8 @@ pub fn sum_lane(
     }
 }
 
-// Writes to `sums` the sum of the samples of the children that offer, at each instant, and answers how many they are.
+// Writes to `sums`, for each instant of a run, the sum of the samples of the children that offer, and answers how many
+// of them there are.
 fn add_all(children: &[u32], parts: &[Part], lanes: &[Vec<i16>], sums: &mut [i32]) -> u16
     requires few { length children.now ≤ 65535 }
     requires short { length sums.old ≤ 2048 }
@@ -152,7 +154,7 @@ fn add_all(children: &[u32], parts: &[Part], lanes: &[Vec<i16>], sums: &mut [i32
     count
 }
 
-// Writes one side of the samples of a sum, from the sums of `parts` children: their mean with `normalize`, or the sum
+// Makes samples of the sums over a run: with `normalize` the mean of the `parts` children that were added, or the sum
 // cut to the range of a sample. `counts` is room.
 fn level_all(sums: &[i32], parts: u16, normalize: bool, counts: &mut [u16], into: &mut [i16])
     requires counts { length counts.old ≡ length sums.now }

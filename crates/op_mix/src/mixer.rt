@@ -28,7 +28,8 @@ pub enum Mixer {
 }
 
 impl Mixer {
-    /// The slot that a node makes of those of its children, in their order. It takes no memory.
+    /// What a mixing node offers at an instant, from what its children offer, in their order: a sum or mean of all, or
+    /// a change of the first one. It takes no memory.
     pub fn slot(&self, slots: &[Option<Cell>]) -> Option<Cell>
         requires { length slots.now ≤ 65535 }
         ensures { result ≡ mix_slot (mixing_of self.now) slots.now }

@@ -30,15 +30,15 @@ impl Model for Sums {
 }
 
 impl Sums {
-    /// Room for the sums of any run. No later call takes memory.
+    /// Reserves room for the sums over any run of instants, of at most 2048. No later call takes memory.
     pub fn new(alloc: Global) -> Result<Sums, Memory> {
         let sums = vec![in alloc; 0; MAX_STRETCH as usize]?;
         let counts = vec![in alloc; 0; MAX_STRETCH as usize]?;
         Ok(Sums { sums, counts })
     }
 
-    /// Writes one side of the samples of a sum: at each instant that of the children that offer, by the lanes of all
-    /// nodes. Where no child offers nothing is written.
+    /// Writes one side of the samples of a sum over a run of instants: at each, the sum or mean of the children that
+    /// offer. `lanes` has the samples of all nodes. Where no child offers, nothing is written.
     pub fn sum(
         &mut self,
         children: &[u32],

@@ -7,8 +7,8 @@ use crate::change::first_cell;
 use frame_core::Cell;
 use sample_kernels::{clamp_all, divide};
 
-/// The sum or the mean of the cells among these slots, with the flag and the title of the first of them; nothing where
-/// there is none.
+/// The cell of a sum at an instant: the sum, or with `normalize` the mean, of the cells that the children offer, with
+/// the track flag and the title of the first. `None` where no child offers.
 pub fn summed(slots: &[Option<Cell>], normalize: bool) -> Option<Cell>
     requires { length slots.now ≤ 65535 }
     ensures { result ≡ summed_slot normalize (cells_of slots.now) }
@@ -31,7 +31,7 @@ pub fn summed(slots: &[Option<Cell>], normalize: bool) -> Option<Cell>
     })
 }
 
-/// The sum of `parts` samples and of one more.
+/// Adds one more sample to a sum of `parts` samples. The 32 bits hold it, as a node has at most 65535 children.
 pub fn added(sum: i32, parts: u16, sample: i16) -> i32
     requires few { parts < 65535 }
     requires sum { IsSumOf parts sum }
@@ -41,7 +41,7 @@ pub fn added(sum: i32, parts: u16, sample: i16) -> i32
     sum + i32::from(sample)
 }
 
-// One sample of `parts`, by their sum: the mean with `normalize`, or the sum cut to the range of a sample.
+// Makes one sample of the sum of `parts` samples: with `normalize` their mean, or the sum cut to the range of a sample.
 fn level(sum: i32, parts: u16, normalize: bool) -> i16
     requires some { 0 < parts }
     requires sum { IsSumOf parts sum }

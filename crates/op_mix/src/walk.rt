@@ -8,7 +8,7 @@ use stream_meaning::Part;
 // What a node that has no lane gives over a run.
 static SILENCE: [i16; MAX_STRETCH as usize] = [0; MAX_STRETCH as usize];
 
-/// Whether a node offers a cell, by what each node did at an instant.
+/// Whether a node offers a cell (a pair of samples), by `parts`, what each node did at an instant.
 pub fn offers(parts: &[Part], node: u32) -> bool
     ensures { result ≡ offers_in parts.now node }
 {
@@ -18,7 +18,8 @@ pub fn offers(parts: &[Part], node: u32) -> bool
     }
 }
 
-/// The first of these children that offers a cell.
+/// The first of these children that offers a cell, by `parts`, what each node did at an instant; `None` where none
+/// does.
 pub fn first_that_offers(children: &[u32], parts: &[Part]) -> Option<u32>
     ensures { result ≡ first_that_gives (offers_in parts.now) children.now }
 {
@@ -30,8 +31,8 @@ pub fn first_that_offers(children: &[u32], parts: &[Part]) -> Option<u32>
     None
 }
 
-/// The samples of a node over the first `count` instants of a run, by the lanes of the nodes: silence where it has no
-/// lane.
+/// The samples of a node over the first `count` instants of a run, on one side, from the buffers of all nodes: silence
+/// where its own is shorter.
 pub fn samples_of(lanes: &[Vec<i16>], node: u32, count: usize) -> &[i16]
     requires short { count ≤ 2048 }
     ensures is { result.now ≡ samples_of lanes.now node count }
@@ -45,7 +46,7 @@ pub fn samples_of(lanes: &[Vec<i16>], node: u32, count: usize) -> &[i16]
     own
 }
 
-// The lane of a node, which is empty where the node has none.
+// The buffer with the samples of a node over a run, on one side; empty where the node has none.
 fn lane_of(lanes: &[Vec<i16>], node: u32) -> &[i16]
     ensures { result.now ≡ lane_at lanes.now node }
 {
@@ -55,7 +56,7 @@ fn lane_of(lanes: &[Vec<i16>], node: u32) -> &[i16]
     }
 }
 
-// `count` samples of silence.
+// A slice of `count` zero samples, for a node that has no samples over a run.
 fn silence(count: usize) -> &'static [i16]
     requires short { count ≤ 2048 }
     ensures { result.now ≡ replicate count (pos 0) }

@@ -5,11 +5,13 @@ use Rattle.seed_words.specs.Words.{Unread}
 use Rattle.op_select.specs.Selection.{plays_on}
 use Rattle.op_turn.specs.Turns.{random_pick, rotated}
 
--- the child that a choice finds, by the words that a random has left; a rotate has none
+-- The child that a new choice finds, from what a rotate or a random keeps: a random draws it by its next word of random
+-- bits, and a rotate, which has no words, takes the next after `last`.
 abbrev pub chosen_by : Option Unread → (last : Option ℕ) → List Slot → Option ℕ
 chosen_by None last slots = rotated slots last
 chosen_by (Some words) last slots = random_pick slots words.next
 
--- the child that is used: the one used last while it goes on with its track, or else the one that a choice finds
+-- The child that a rotate or a random plays, from what it keeps: the one used last while it goes on with its track, or
+-- else the one that a new choice finds.
 abbrev pub used_by : Option Unread → (last : Option ℕ) → List Slot → Option ℕ
 used_by words last slots = if plays_on slots last then last else chosen_by words last slots

@@ -8,75 +8,83 @@ use Rattle.seed_words.specs.Words.{Unread, word, words_from}
 use Rattle.op_turn.specs.declared.turn.Turn.{Turn}
 use Rattle.op_turn.specs.declared.turn.Turn.TheVariants.{Random, Rotate}
 
--- the children that offer, in their order, where the first of these slots is that of child `from`
+-- The numbers of the children that offer a cell, in their order, by what each offers at an instant. The first of these
+-- slots is that of child number `from`.
 abbrev pub offering_from : List Slot → (from : ℕ) → List ℕ
 offering_from [] from = []
 offering_from (slot ∷ slots) from = if is_some slot then from ∷ offering_from slots (suc from)
     else offering_from slots (suc from)
 
--- the child that a rotate chooses: the first that offers of those after the child used last, and then of those from 0
--- to that child; where none was used, the first that offers
+-- The child that a rotate chooses: the next after the child used last that offers, going on at child 0 behind the last
+-- one. Where none was used yet, the first that offers.
 abbrev pub rotated : List Slot → (last : Option ℕ) → Option ℕ
 rotated slots None = slice_get (offering_from slots 0) 0
 rotated slots (Some last) =
     slice_get (offering_from (drop (suc last) slots) (suc last) ++ offering_from (take (suc last) slots) 0) 0
 
--- the child that a random chooses by a word w: of the m children that offer the one with number w mod m; none where m
--- is 0
+-- The child that a random chooses by a word w of random bits: of the m children that offer, the one of number w mod m,
+-- from 0; none where m is 0.
 abbrev pub random_pick : List Slot → (w : ℕ) → Option ℕ
 random_pick slots w = slice_get (offering_from slots 0) (w % length (offering_from slots 0))
 
--- what a rotate or a random goes by: the child that it used when it last gave, or none, and at how many of the instants
--- at which it gave the child was found by a choice
+-- What the choice of a rotate or a random rests on: the child that it used when it last gave a cell, if any, and at how
+-- many instants so far a child was newly chosen.
 pub record Past : Type 0 where
   pub last : Option ℕ
   pub choices : ℕ
 
--- the child that a choice finds, by what the children offer; a random takes one word for each choice at which it gave
+-- The child that a new choice finds at an instant: a rotate takes the next after the one used last, and a random draws
+-- one by the next word of its seed.
 abbrev pub chosen : Turn → Past → List Slot → Option ℕ
 chosen Rotate past slots = rotated slots past.last
 chosen (Random seed) past slots = random_pick slots (word seed past.choices)
 
--- the child that is used: the one used last while it goes on with its track, or else the one that a choice finds
+-- The child that a rotate or a random plays at an instant: the one used last while it goes on with its track, or else a
+-- newly chosen one.
 abbrev pub used_child : Turn → Past → List Slot → Option ℕ
 used_child turn past slots = if plays_on slots past.last then past.last else chosen turn past slots
 
--- the past after one more instant at which the node gave, by what its children offered there
+-- The past of a rotate or a random after one more instant at which it gave, where its children offered these slots: the
+-- child that it used, and whether that was a new choice.
 abbrev pub past_behind : Turn → Past → List Slot → Past
 past_behind turn past slots = record {
   last = used_child turn past slots;
   choices = if plays_on slots past.last then past.choices else suc past.choices;
 }
 
--- the past after the instants at which the node gave, the latest first, each with what its children offered there
+-- The past of a rotate or a random, from the instants at which it gave a cell, the latest first, each with what its
+-- children offered then.
 abbrev pub past_of : Turn → (gave : List (List Slot)) → Past
 past_of turn [] = record { last = None; choices = 0 }
 past_of turn (slots ∷ gave) = past_behind turn (past_of turn gave) slots
 
--- what the node offers: the cell of the child that is used, marked as a selection marks it
+-- What a rotate or a random offers at an instant: the child that it uses, with its cell, which is marked as the first
+-- of a track where it begins one or the child is another than the one used last.
 abbrev pub offered : Turn → Past → List Slot → Option Picked
 offered turn past slots = picked slots past.last (used_child turn past slots)
 
--- the past after one more instant, by what the node gave there: its cell is marked where a choice found the child
+-- The past of a rotate or a random after one more instant, from the cell that it gave then: the cell is marked as the
+-- first of a track exactly where the child was newly chosen.
 abbrev pub past_given : Past → Picked → Past
 past_given past pick = record {
   last = Some pick.child;
   choices = if pick.cell.first then suc past.choices else past.choices;
 }
 
--- what a state keeps: how many children there are, the child used last, or none, and the words of a random's seed that
--- were not used up; a rotate has none
+-- What a rotate or a random keeps from instant to instant: how many children it has, the child used last, if any, and
+-- the random words of the seed that are left; a rotate has none.
 pub record Turning : Type 0 where
   pub children : ℕ
   pub last : Option ℕ
   pub words : Option Unread
 
--- the words of a random's seed that are left after so many choices; a rotate has none
+-- The random words of a seed that are left after so many choices, each of which takes one; a rotate has none.
 abbrev pub words_left : Turn → (choices : ℕ) → Option Unread
 words_left Rotate choices = None
 words_left (Random seed) choices = Some (words_from seed choices)
 
--- the state stands for this past: it has the child used last, and as many words were used up as there were choices
+-- What a node keeps is true to its past: it has the child that was used last, and has used up one word of its seed for
+-- each choice.
 pub record StandsFor (turn : Turn) (past : Past) (state : Turning) : Type 0 where
   pub last : state.last ≡ past.last
   pub words : state.words ≡ words_left turn past.choices

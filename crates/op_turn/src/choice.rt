@@ -8,7 +8,7 @@ use crate::{Pick, Turn};
 use frame_core::Cell;
 use seed_words::SeedWords;
 
-/// The words that choose: those of a random's seed, from the first one on. A rotate needs none.
+/// The words of random bits by which a random chooses, from the first word of its seed on. A rotate needs none.
 pub fn words_of(turn: Turn) -> Option<SeedWords>
     ensures { result ≡ words_left turn 0 }
 {
@@ -18,7 +18,7 @@ pub fn words_of(turn: Turn) -> Option<SeedWords>
     }
 }
 
-/// Uses up one word, if words choose.
+/// Uses up one word of random bits of a random, so that its next choice takes the next; a rotate has none.
 pub fn use_word(words: &mut Option<SeedWords>)
     ensures { (turn : TheTurn) (choices : ℕ) → words.old ≡ words_left turn choices
         → words.new ≡ words_left turn (suc choices) }
@@ -28,7 +28,8 @@ pub fn use_word(words: &mut Option<SeedWords>)
     }
 }
 
-/// The child that a rotate chooses: the next one that offers after the child that was used last, in a ring.
+/// The child that a rotate chooses: the next after the child `last` that offers a cell, going on at child 0 behind the
+/// last one; `None` where none offers.
 pub fn rotated(offers: &[Option<Cell>], last: Option<u32>) -> Option<u32>
     requires children { length offers.now < 2 ^ 32 }
     requires last { IfSome last (λ child. child < length offers.now) }
@@ -44,7 +45,8 @@ pub fn rotated(offers: &[Option<Cell>], last: Option<u32>) -> Option<u32>
     }
 }
 
-/// The child that a random chooses by this word, among those that offer; `None` where none does.
+/// The child that a random chooses by a word of random bits: of the children that offer a cell, the one of number
+/// `word` modulo their count; `None` where none offers.
 pub fn drawn(offers: &[Option<Cell>], word: u32) -> Option<u32>
     requires { length offers.now < 2 ^ 32 }
     ensures { result ≡ random_pick offers.now word }
@@ -56,7 +58,8 @@ pub fn drawn(offers: &[Option<Cell>], word: u32) -> Option<u32>
     find_offering(offers, 0, word % count)
 }
 
-/// The child that is used, with the cell that is offered with it; `last` is the one that was used last.
+/// Puts together what a rotate or a random offers: the child `used` with its cell, which is marked as the first of a
+/// track where it begins one or the child is another than `last`.
 pub fn picked(offers: &[Option<Cell>], last: Option<u32>, used: Option<u32>) -> Option<Pick>
     ensures { result ≡ picked offers.now last used }
 {
@@ -69,7 +72,8 @@ pub fn picked(offers: &[Option<Cell>], last: Option<u32>, used: Option<u32>) -> 
     })
 }
 
-// The child with this number, from 0, among those that offer, in their order. The first offer is that of child `from`.
+// The child of this number, from 0, among those that offer a cell, in their order. `offers` begins with what child
+// `from` offers.
 fn find_offering(offers: &[Option<Cell>], from: u32, number: u32) -> Option<u32>
     requires { from + length offers.now < 2 ^ 32 }
     ensures { result ≡ slice_get (offering_from offers.now from) number }
@@ -87,7 +91,7 @@ fn find_offering(offers: &[Option<Cell>], from: u32, number: u32) -> Option<u32>
     None
 }
 
-// How many children offer.
+// How many children offer a cell at this instant.
 fn count_offering(offers: &[Option<Cell>]) -> u32
     requires { length offers.now < 2 ^ 32 }
     ensures { result ≡ length (offering_from offers.now 0) }

@@ -35,7 +35,7 @@ impl Model for TurnState {
 }
 
 impl TurnState {
-    /// A rotate or a random over so many children, before the first instant at which it gave.
+    /// A rotate or a random over so many children that gave nothing yet: no child was used, and no word of the seed.
     pub fn new(turn: Turn, children: u32) -> TurnState
         ensures children { result.children ≡ children }
         ensures stands { StandsFor turn (past_of turn []) result }
@@ -47,8 +47,8 @@ impl TurnState {
         }
     }
 
-    /// The child that is used at this instant, over what each child offers, and the cell that is offered with it.
-    /// `None` where no child offers. The rules are in `docs/streams.md`.
+    /// What a rotate or a random offers at this instant, from what each child offers: the child that is used, and its
+    /// cell. `None` where no child offers. The rules are in `docs/streams.md`.
     pub fn offer(&self, offers: &[Option<Cell>]) -> Option<Pick>
         requires { length offers.now ≡ self.now.children }
         ensures offered { (turn : TheTurn) (past : Past) → StandsFor turn past self.now
@@ -59,7 +59,8 @@ impl TurnState {
         picked(offers, self.last, self.used(offers))
     }
 
-    /// Goes on by one instant at which the node gave, where the children offered this. Some child offered.
+    /// Goes on by one instant at which the node gave a cell, from what its children offered: notes the child used, and
+    /// uses up a word where it was newly chosen.
     pub fn advance(&mut self, offers: &[Option<Cell>])
         requires offers { length offers.now ≡ self.old.children }
         requires some { list_any is_some offers.now ≡ true }
@@ -72,7 +73,8 @@ impl TurnState {
         }
     }
 
-    /// Goes on by one instant at which the node gave this, which it had offered.
+    /// Goes on by one instant at which the node gave this cell of this child, as it had offered: notes the child, and
+    /// uses up a word where it was newly chosen.
     pub fn give(&mut self, pick: Pick)
         requires { pick.child < self.old.children }
         ensures children { self.new.children ≡ self.old.children }
@@ -86,8 +88,8 @@ impl TurnState {
         }
     }
 
-    // The child that is used, by what each child offers: the one used last while it plays its track, or else one by
-    // choice.
+    // The child that is played at this instant, by what each child offers: the one used last while it goes on with its
+    // track, or else a newly chosen one.
     fn used(&self, offers: &[Option<Cell>]) -> Option<u32>
         requires { length offers.now ≡ self.now.children }
         ensures { result ≡ used_by self.now.words self.now.last offers.now }

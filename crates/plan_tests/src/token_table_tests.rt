@@ -2,6 +2,7 @@
 use liq_base::TokenTable;
 use std::test::Fail;
 
+// A table by token indexes gives the value that was put last for each token, and none for the others.
 #[test]
 fn a_table_keeps_the_value_of_each_token(rt: HostRuntime) -> Result<(), Fail> {
     let mut table = TokenTable::new(rt.alloc());

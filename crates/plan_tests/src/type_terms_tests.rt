@@ -7,12 +7,12 @@ use std::process::Abort;
 use std::test::Fail;
 use type_terms::{KindTerm, Subst, Ty, resolved, unify};
 
-// The type of a list of such items.
+// The type of a list whose items have this type.
 fn list(alloc: Global, item: Ty) -> Result<Ty, Memory> {
     Ok(Ty::List(Box::new(alloc, item)?))
 }
 
-// The type of a pair.
+// The type of a tuple of two values of these types.
 fn pair(alloc: Global, first: Ty, second: Ty) -> Result<Ty, Memory> {
     let mut parts = Vec::new(alloc);
     parts.push(first)?;
@@ -20,7 +20,8 @@ fn pair(alloc: Global, first: Ty, second: Ty) -> Result<Ty, Memory> {
     Ok(Ty::Tuple(parts))
 }
 
-// The type of this name, among variables 0 and 1, number variables 2 and 3 and kind variables 0 and 1.
+// The type for a name in the rows of these tests, such as `int`, `mono` or `var-0`: variables 0 and 1 may be any type,
+// 2 and 3 a number, and kind variables 0 and 1 mono or stereo.
 fn named(name: &str) -> Ty {
     match name {
         "int" => Ty::Int,
@@ -41,7 +42,8 @@ fn named(name: &str) -> Ty {
     }
 }
 
-// The type of this text: a name, `list` and the name of its items, or the names of a pair's two parts.
+// The type for a text in the rows of these tests: a name, `list` and the name of its items, or the names of the two
+// parts of a pair.
 fn made(alloc: Global, text: &str) -> Result<Ty, Memory> {
     match text.split_once(' ') {
         Some((first, second)) => made_of(alloc, first, second),
@@ -49,7 +51,8 @@ fn made(alloc: Global, text: &str) -> Result<Ty, Memory> {
     }
 }
 
-// The list of the second name, if the first is `list`, or the pair of the two.
+// The type for two names in the rows of these tests: the list of the second, if the first is `list`, or else the pair
+// of both.
 fn made_of(alloc: Global, first: &str, second: &str) -> Result<Ty, Memory> {
     if first == "list" {
         list(alloc, named(second))
@@ -58,7 +61,8 @@ fn made_of(alloc: Global, first: &str, second: &str) -> Result<Ty, Memory> {
     }
 }
 
-// Type variables 0 and 1, number variables 2 and 3, kind variables 0 and 1.
+// A substitution with the variables of these tests, none bound: type variables 0 and 1, number variables 2 and 3, and
+// kind variables 0 and 1.
 fn six_variables(alloc: Global) -> Result<Subst, Memory> {
     let mut subst = Subst::new(alloc)?;
     for number in [false, false, true, true] {
@@ -70,7 +74,8 @@ fn six_variables(alloc: Global) -> Result<Subst, Memory> {
     Ok(subst)
 }
 
-// `unify` of two types, which must be over variables of the substitution.
+// Unifies two types, that is, binds variables so that they become equal, and tells whether that is possible. Checks
+// first that the substitution has their variables.
 fn unified(
     rt: &impl Abort,
     alloc: Global,
@@ -85,7 +90,7 @@ fn unified(
     unify(alloc, subst, left, right)
 }
 
-// The text of a resolved type.
+// The text of a type once each bound variable in it is replaced by its value.
 fn resolved_text(rt: &impl Abort, alloc: Global, subst: &Subst, ty: &Ty) -> Result<String, Fail> {
     let covered = subst.covers(alloc, ty)?;
     assert!(rt; covered);
@@ -93,7 +98,7 @@ fn resolved_text(rt: &impl Abort, alloc: Global, subst: &Subst, ty: &Ty) -> Resu
     Ok(format!(in alloc; "{ty:?}")?)
 }
 
-// The texts of two types that were made equal, or `clash`.
+// Unifies two types, and gives the text of both with their variables replaced, or `clash` if they cannot be equal.
 fn outcome(
     rt: &impl Abort,
     alloc: Global,
@@ -112,7 +117,8 @@ fn outcome(
     Ok(text)
 }
 
-// Unifies two types over six variables. `want` is the text of both once they are resolved, or `clash`.
+// Checks that two types, over six free variables, unify to the type of the text `want`, or that they cannot where it is
+// `clash`.
 fn check_row(
     rt: &impl Abort,
     alloc: Global,
@@ -126,7 +132,8 @@ fn check_row(
     Ok(())
 }
 
-// Each row: two types, and the text of both once they are made equal.
+// Checks each row of the form `LEFT = RIGHT is WANT`: the first two are types that are unified, and the third is the
+// text of both then, or `clash`.
 fn check_rows(rt: &impl Abort, alloc: Global, rows: &[&str]) -> Result<(), Fail> {
     for row in rows {
         let (left, rest) = row.split_once(" = ").expect(rt, "two types");
@@ -153,12 +160,13 @@ const ROWS: &[&str] = &[
     "int text = list int is clash",
 ];
 
+// Unification makes two types equal where variables allow it, and else tells a clash.
 #[test]
 fn types_that_can_be_made_equal_and_not(rt: HostRuntime) -> Result<(), Fail> {
     check_rows(&rt, rt.alloc(), ROWS)
 }
 
-// The number of a type variable; 0 of another type.
+// The number of a type that is a variable; 0 for any other type.
 fn number_of(ty: &Ty) -> u64 {
     match ty {
         Ty::Var(number) => *number,
@@ -166,7 +174,8 @@ fn number_of(ty: &Ty) -> u64 {
     }
 }
 
-// A new variable that is bound to the list of variable `below`, or to the pair of it and itself (`double`).
+// Makes a new variable that is bound to the list of variable `below`, or, with `double`, to the pair of `below` and
+// `below`.
 fn storey(
     rt: &impl Abort,
     alloc: Global,
@@ -185,7 +194,8 @@ fn storey(
     Ok(top)
 }
 
-// A variable over `height` others, each bound to the list of the one below, or to the pair of it and itself (`double`).
+// Makes a deep type out of bound variables: each of `height` is the list of the one before, or, with `double`, the pair
+// of that one twice. Gives the last.
 fn tower(
     rt: &impl Abort,
     alloc: Global,
@@ -200,7 +210,7 @@ fn tower(
     Ok(top)
 }
 
-// Two types can be made equal, and the first one cannot be built.
+// Checks that two huge types are unified with themselves and each other, though the first is too large to be built.
 fn check_large(
     rt: &impl Abort,
     alloc: Global,
@@ -221,7 +231,7 @@ fn check_large(
     Ok(())
 }
 
-// Two towers can be made equal, and cannot be built.
+// Checks that two deep types made of `height` bound variables each are unified, though they are too large to be built.
 fn check_towers(rt: &impl Abort, alloc: Global, height: u64, double: bool) -> Result<(), Memory> {
     let mut subst = Subst::new(alloc)?;
     let top = tower(rt, alloc, &mut subst, height, double)?;
@@ -229,17 +239,19 @@ fn check_towers(rt: &impl Abort, alloc: Global, height: u64, double: bool) -> Re
     check_large(rt, alloc, &mut subst, &top, &other)
 }
 
+// Lists within lists, 170000 deep, are unified, though they are too deep to be built.
 #[test]
 fn a_chain_of_170000_lists(rt: HostRuntime) -> Result<(), Fail> {
     Ok(check_towers(&rt, rt.alloc(), 170_000, false)?)
 }
 
+// Pairs of pairs, 30 levels deep with 2^30 leaves, are unified, though they are too large to be built.
 #[test]
 fn a_type_that_doubles_thirty_times(rt: HostRuntime) -> Result<(), Fail> {
     Ok(check_towers(&rt, rt.alloc(), 30, true)?)
 }
 
-// Lists within lists, so many levels, of whole numbers.
+// The type of lists within lists, so many levels deep, with ints within.
 fn nested(alloc: Global, height: u64) -> Result<Ty, Memory> {
     let mut deep = Ty::Int;
     for _level in 0..height {
@@ -248,6 +260,7 @@ fn nested(alloc: Global, height: u64) -> Result<Ty, Memory> {
     Ok(deep)
 }
 
+// A variable can be bound to a type of a thousand levels.
 #[test]
 fn a_thousand_levels_are_bound(rt: HostRuntime) -> Result<(), Fail> {
     let deep = nested(rt.alloc(), 999)?;
@@ -257,6 +270,7 @@ fn a_thousand_levels_are_bound(rt: HostRuntime) -> Result<(), Fail> {
     Ok(())
 }
 
+// A variable cannot be bound to a type of more than a thousand levels: memory is refused.
 #[test]
 fn more_than_a_thousand_levels_are_not(rt: HostRuntime) -> Result<(), Fail> {
     let deep = nested(rt.alloc(), 1000)?;

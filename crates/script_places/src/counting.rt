@@ -5,7 +5,7 @@ ghost use Rattle.script_places.specs.Counting.{line, are_utf8, width, characters
 
 use std::str;
 
-/// Which line a place lies in, from 1, by the bytes before it.
+/// The number of the line, from 1, of a place in a text, by the bytes before it: one more for each line feed.
 pub fn line(before: &[u8]) -> usize
     ensures { result ≡ line before.now }
 {
@@ -16,7 +16,7 @@ pub fn line(before: &[u8]) -> usize
     ends + 1
 }
 
-/// The bytes behind the last LF, or all where there is none.
+/// The part of the line that stands before a place, by the bytes before it: those behind the last line feed, or all.
 pub fn in_line(before: &[u8]) -> &[u8]
     ensures { result.now ≡ in_line before.now }
 {
@@ -27,6 +27,7 @@ pub fn in_line(before: &[u8]) -> &[u8]
     &before[start..]
 }
 
+// Whether these bytes are UTF-8.
 fn is_utf8(bytes: &[u8]) -> bool
     ensures { result ≡ is_utf8 bytes.now }
 {
@@ -36,7 +37,7 @@ fn is_utf8(bytes: &[u8]) -> bool
     }
 }
 
-// Whether the first bytes, so many, are there and are UTF-8.
+// Whether there are `count` bytes at the front of these, and they are UTF-8.
 #[tactic(auto, unfolding(crate::specs::Counting::are_utf8))]
 fn are_utf8(count: usize, bytes: &[u8]) -> bool
     ensures same { result ≡ are_utf8 count bytes.now }
@@ -45,7 +46,8 @@ fn are_utf8(count: usize, bytes: &[u8]) -> bool
     count <= bytes.len() && is_utf8(&bytes[..count])
 }
 
-/// How many bytes the first character has. A byte with which none begins counts as one.
+/// How many bytes the first character of a text has: 1 to 4, the shortest front that is UTF-8. A byte with which no
+/// character begins counts as one.
 pub fn width(bytes: &[u8]) -> usize
     requires { 0 < length bytes.now }
     ensures width { result ≡ width bytes.now }
@@ -75,7 +77,7 @@ pub fn first_character(bytes: &[u8]) -> (u8, &[u8])
     (bytes[0], behind)
 }
 
-// How many characters bytes have.
+// How many characters these bytes have; a byte that begins none counts as one.
 fn count(bytes: &[u8]) -> usize
     ensures count { result ≡ length (characters bytes.now) }
     ensures within { result ≤ length bytes.now }
@@ -90,7 +92,8 @@ fn count(bytes: &[u8]) -> usize
     count
 }
 
-/// Which column a place lies in, in characters from 1, by the bytes before it.
+/// The column of a place in a text, in characters from 1, by the bytes before it: one more for each character of its
+/// line.
 pub fn column(before: &[u8]) -> usize
     ensures { result ≡ column before.now }
 {

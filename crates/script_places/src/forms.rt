@@ -37,7 +37,8 @@ pub enum Form {
     Nothing,
 }
 
-/// The form of a line.
+/// How a line of a fault names its place in the script (by a byte, token, statement, source or text), by the words that
+/// it begins with.
 pub fn form_of(line: &[u8]) -> Form
     ensures { result ≡ form_of line.now }
 {
@@ -54,14 +55,14 @@ pub fn form_of(line: &[u8]) -> Form
     }
 }
 
-// Whether a line begins like one that names a byte.
+// Whether a line begins like those faults, E02 to E04, that name a byte of the script.
 fn begins_byte(line: &[u8]) -> bool
     ensures { result ≡ begins_byte line.now }
 {
     begins(line, b"E02 ") || begins(line, b"E03 ") || begins(line, b"E04 ")
 }
 
-// Whether a line begins like one that names a token.
+// Whether a line begins like those faults, E06 to E11 and E14, that name a token of the script.
 fn begins_token(line: &[u8]) -> bool
     ensures { result ≡ begins_token line.now }
 {
@@ -74,14 +75,14 @@ fn begins_token(line: &[u8]) -> bool
         || begins(line, b"E14 ")
 }
 
-// Whether a line begins like one that names a statement.
+// Whether a line begins like those faults, E13 and E15, that name a statement of the script.
 fn begins_statement(line: &[u8]) -> bool
     ensures { result ≡ begins_statement line.now }
 {
     begins(line, b"E13 statement ") || begins(line, b"E15 statement ")
 }
 
-// The form of a line that begins like none that names a byte, a token or a statement.
+// How a line of a fault, or of the week's plan, names a source or a text, by the words that it begins with.
 fn source_form(line: &[u8]) -> Form
     ensures { result ≡ source_form line.now }
 {
@@ -96,7 +97,8 @@ fn source_form(line: &[u8]) -> Form
     }
 }
 
-// The form of a line that names a text of the script, or an output that may be silent, or nothing.
+// How a line of a fault names a text of the script, such as a file's name, or an output that may be silent; `Nothing`
+// where it names none.
 fn text_form(line: &[u8]) -> Form
     ensures { result ≡ text_form line.now }
 {
@@ -132,6 +134,7 @@ fn text_form(line: &[u8]) -> Form
     }
 }
 
+// Whether a line of a fault begins with these bytes.
 fn begins(line: &[u8], words: &[u8]) -> bool
     ensures { result ≡ begins line.now words.now }
 {

@@ -32,10 +32,9 @@ pub enum Named {
     Fallible { start: usize, end: usize },
 }
 
-/// The place that a line of a fault names, by its number: E02 to E04 a byte, E06 to E11 and E14 a token, E13 and E15 a
-/// statement, E12 what fits no types in one, E18, E20, E21, E23 and E29 a text, E25 what may be silent in an output,
-/// E26 and E27 a source; so does a line of `week_program`. `docs/faults.md` and `docs/formats.md` have the forms.
-/// Nothing where the line is none of them.
+/// The place of the script that a line of a fault names, by the number of the fault or the words of a line of
+/// `week_program`: a byte, a token, a statement, a source or a text. `docs/faults.md` and `docs/formats.md` have the
+/// forms. `None` where the line is none of them.
 pub fn named_in(line: &str) -> Option<Named>
     ensures found { IfSome result (IsNamed line.now) }
     ensures only { (named : Named) → IsNamed line.now named → result ≡ Some named }
@@ -44,7 +43,8 @@ pub fn named_in(line: &str) -> Option<Named>
     named_by(form_of(line), line)
 }
 
-// The place that a line of a form names.
+// The place of the script that a line of a fault names, by the form of the line: the number at its end or behind its
+// first words, or the text within it; `None` where it has none.
 fn named_by(form: Form, line: &[u8]) -> Option<Named>
     ensures found { IfSome result (IsNamedBy form line.now) }
     ensures only { (named : Named) → IsNamedBy form line.now named → result ≡ Some named }

@@ -6,7 +6,7 @@ ghost use Rattle.script_places.specs.Naming.{EndsIn, Leads, is_no_blank};
 
 use fixed_text::read_u64;
 
-/// The number behind these words, at the end of a line; `None` where no number below 2^64 stands there.
+/// The number at the end of a line, behind these words; `None` where no number below 2^64 stands there.
 pub fn number_at_end(line: &[u8], words: &[u8]) -> Option<u64>
     requires { get_or words.now (length words.now - 1) 0 ≡ 32 }
     ensures found { IfSome result (EndsIn words.now line.now) }
@@ -19,7 +19,7 @@ pub fn number_at_end(line: &[u8], words: &[u8]) -> Option<u64>
     read_u64(number)
 }
 
-// The byte at which begins what stands behind the last blank.
+// Where the last word of a line begins: the index of the byte behind the last blank, or 0 where there is none.
 fn last_word(line: &[u8]) -> usize
     ensures place { result ≡ length line.now - suffix_len is_no_blank line.now }
     ensures within { result ≤ length line.now }
@@ -41,7 +41,7 @@ pub fn number_in_front(text: &[u8], byte: u8) -> Option<u64>
     read_u64(&text[..at])
 }
 
-// The place at which `byte` stands first in a text, from 0.
+// The index, from 0, at which `byte` first stands in a text; `None` where it does not.
 fn place_of(text: &[u8], byte: u8) -> Option<usize>
     ensures { result ≡ position (λ b. b == byte) text.now }
 {

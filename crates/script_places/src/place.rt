@@ -1,14 +1,14 @@
 // What stands on both sides of a byte of a text.
 ghost use Rattle.std.specs.Prelude.{◌≡◌, take, drop};
 
-/// The bytes before byte `at`, counted from 0; all where there are no more.
+/// The bytes of a text before byte `at`, counted from 0; all where the text is shorter.
 pub fn before(text: &[u8], at: usize) -> &[u8]
     ensures { result.now ≡ take at text.now }
 {
     &text[..at.min(text.len())]
 }
 
-/// The bytes from byte `at` on, counted from 0; none where there are no more.
+/// The bytes of a text from byte `at` on, counted from 0; none where the text is shorter.
 pub fn behind(text: &[u8], at: usize) -> &[u8]
     ensures { result.now ≡ drop at text.now }
 {

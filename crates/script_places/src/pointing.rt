@@ -27,7 +27,7 @@ pub fn pointer(alloc: Global, file: &str, text: &[u8], at: usize) -> Result<Vec<
     Ok(lines)
 }
 
-// `FILE:LINE:COLUMN: ` of the place behind the bytes `before`.
+// The begin of the line that shows a place of a script, `FILE:LINE:COLUMN: `, by the bytes before the place.
 fn head(alloc: Global, file: &str, before: &[u8]) -> Result<String, Memory>
     ensures { IfOk result (λ line. string_bytes line ≡ head file.now before.now) }
 {
@@ -35,8 +35,8 @@ fn head(alloc: Global, file: &str, before: &[u8]) -> Result<String, Memory>
     Ok(format!(in alloc; "{file}:{line}:{column}: ")?)
 }
 
-// Adds the first line of a place: `head`, then `front`, which stands before the place and is as it is shown, and the
-// rest.
+// Appends the first of the two lines that show a place: `head` (`FILE:LINE:COLUMN: `), the part of the line before the
+// place (`front`, ready to be shown), and the rest of the line.
 fn push_line(lines: &mut Vec<u8>, head: &[u8], front: &[u8], rest: &[u8]) -> Result<(), Memory>
     ensures { OnOk result (lines.new.items ≡ lines.old.items ++ head.now ++ front.now ++ shown rest.now ++ codes "\n") }
 {
@@ -47,7 +47,8 @@ fn push_line(lines: &mut Vec<u8>, head: &[u8], front: &[u8], rest: &[u8]) -> Res
     Ok(())
 }
 
-// Adds the second line of a place: blanks for `head` and for `front`, which stands before the place, and the caret.
+// Appends the second of the two lines that show a place: blanks below `head` and below the part of the line before the
+// place (`front`), and the caret.
 fn push_caret(lines: &mut Vec<u8>, head: &[u8], front: &[u8], caret: &[u8]) -> Result<(), Memory>
     ensures { OnOk result (lines.new.items ≡ lines.old.items ++ blanks_for head.now ++ blanks_for front.now
         ++ caret.now) }
@@ -58,7 +59,8 @@ fn push_caret(lines: &mut Vec<u8>, head: &[u8], front: &[u8], caret: &[u8]) -> R
     Ok(())
 }
 
-// The caret below byte `at`; below a byte order mark with a word.
+// The end of the second line that shows byte `at`: a caret below it, and a word of advice where it is a byte order
+// mark.
 fn caret(text: &[u8], at: usize) -> &'static [u8]
     ensures { result.now ≡ caret text.now at }
 {
@@ -69,7 +71,7 @@ fn caret(text: &[u8], at: usize) -> &'static [u8]
     }
 }
 
-// A line without the CR at its end.
+// A line without the carriage return at its end, if it has one.
 fn cut_cr(line: &[u8]) -> &[u8]
     ensures { result.now ≡ without_cr line.now }
 {
@@ -79,7 +81,7 @@ fn cut_cr(line: &[u8]) -> &[u8]
     }
 }
 
-// The bytes without their leading blanks.
+// The bytes of a line without the spaces and TABs at its begin.
 fn trimmed(bytes: &[u8]) -> &[u8]
     ensures { result.now ≡ trimmed bytes.now }
 {
@@ -90,7 +92,7 @@ fn trimmed(bytes: &[u8]) -> &[u8]
     &bytes[start..]
 }
 
-// The bytes before the first LF.
+// The rest of the line at the front of these bytes: those before the first line feed, or all.
 fn up_to_lf(bytes: &[u8]) -> &[u8]
     ensures { result.now ≡ up_to_lf bytes.now }
 {
@@ -101,14 +103,16 @@ fn up_to_lf(bytes: &[u8]) -> &[u8]
     &bytes[..end]
 }
 
-// A blank as wide as a character that begins with this byte.
+// The blank that stands below a character that begins with this byte: a TAB below a TAB, so that the columns agree,
+// else a space.
 fn blank_for(first: u8) -> u8
     ensures { result ≡ blank_for first }
 {
     if first == b'\t' { b'\t' } else { b' ' }
 }
 
-// Adds a blank for each character of these bytes, as wide as it.
+// Appends the blanks that stand below these bytes, one for each character, so that what follows is below the place
+// behind them.
 fn push_blanks(out: &mut Vec<u8>, bytes: &[u8]) -> Result<(), Memory>
     ensures { OnOk result (out.new.items ≡ out.old.items ++ blanks_for bytes.now) }
 {

@@ -9,14 +9,15 @@ use liq_base::Memory;
 /// The bytes of the byte order mark.
 const MARK: [u8; 3] = [0xEF, 0xBB, 0xBF];
 
-// A control byte other than a TAB.
+// Whether a byte is that of a control character other than a TAB, as it would drive a terminal: below 32, or from 127
+// to 159.
 fn is_control(byte: u8) -> bool
     ensures { result ≡ is_control byte }
 {
     (byte < 32 && byte != b'\t') || (127 <= byte && byte < 160)
 }
 
-// Whether the second byte is a control byte other than a TAB.
+// Whether the second of these bytes is there and is a control byte other than a TAB.
 fn has_control_next(bytes: &[u8]) -> bool
     ensures { result ≡ has_control_next bytes.now }
 {
@@ -34,7 +35,8 @@ pub fn is_marked(bytes: &[u8]) -> bool
     bytes.starts_with(MARK.as_slice())
 }
 
-// Whether bytes begin with a character that is not shown as it is.
+// Whether these bytes begin with a character that is shown by its numbers: a control character other than a TAB, or the
+// byte order mark.
 #[tactic(auto, unfolding(crate::specs::Showing::is_hidden))]
 fn is_hidden(bytes: &[u8]) -> bool
     ensures { result ≡ is_hidden bytes.now }
@@ -47,7 +49,7 @@ fn is_hidden(bytes: &[u8]) -> bool
     }
 }
 
-// The hexadecimal digit of a number below 16.
+// The hexadecimal digit, `0` to `9` or `a` to `f`, of a number below 16, as a byte.
 fn digit(number: u8) -> u8
     requires { number < 16 }
     ensures { result ≡ digit number }
@@ -59,7 +61,7 @@ fn digit(number: u8) -> u8
     }
 }
 
-// Adds a byte by its number: `\x` and two digits.
+// Appends a byte by its number: `\x` and two hexadecimal digits.
 fn push_escape(out: &mut Vec<u8>, byte: u8) -> Result<(), Memory>
     ensures { OnOk result (out.new.items ≡ out.old.items ++ escape byte) }
 {
@@ -67,7 +69,8 @@ fn push_escape(out: &mut Vec<u8>, byte: u8) -> Result<(), Memory>
     Ok(())
 }
 
-// Adds a byte of a character: by its number if the character is hidden.
+// Appends a byte of a character, as a terminal may show it: by its number if the character is hidden, and else as it
+// is.
 fn push_byte(out: &mut Vec<u8>, byte: u8, hidden: bool) -> Result<(), Memory>
     ensures { OnOk result (out.new.items ≡ out.old.items ++ byte_shown hidden byte) }
 {
@@ -79,7 +82,8 @@ fn push_byte(out: &mut Vec<u8>, byte: u8, hidden: bool) -> Result<(), Memory>
     Ok(())
 }
 
-// Adds the bytes of a character: by their numbers if it is hidden.
+// Appends the bytes of one character, as a terminal may show it: by their numbers if it is hidden, and else as they
+// are.
 fn push_character(out: &mut Vec<u8>, character: &[u8], hidden: bool) -> Result<(), Memory>
     ensures { OnOk result (out.new.items ≡ out.old.items ++ character_shown hidden character.now) }
 {
@@ -89,7 +93,7 @@ fn push_character(out: &mut Vec<u8>, character: &[u8], hidden: bool) -> Result<(
     Ok(())
 }
 
-// Adds the first character as it is shown, and answers the bytes behind it.
+// Appends the first character of these bytes, as a terminal may show it, and answers the bytes behind it.
 fn push_first<'a>(out: &mut Vec<u8>, bytes: &'a [u8]) -> Result<&'a [u8], Memory>
     requires { 0 < length bytes.now }
     ensures shown { IfOk result (λ behind. out.new.items ++ shown behind.now ≡ out.old.items ++ shown bytes.now) }
@@ -100,8 +104,8 @@ fn push_first<'a>(out: &mut Vec<u8>, bytes: &'a [u8]) -> Result<&'a [u8], Memory
     Ok(behind)
 }
 
-/// Adds a text as it is shown: the bytes of a control character but for a TAB, and of the byte order mark, as `\x` and
-/// two digits each.
+/// Appends a text as a terminal may show it: the bytes of control characters, but for a TAB, and of the byte order mark
+/// as `\x` and two digits each.
 pub fn push_shown(out: &mut Vec<u8>, bytes: &[u8]) -> Result<(), Memory>
     ensures { OnOk result (out.new.items ≡ out.old.items ++ shown bytes.now) }
 {

@@ -7,8 +7,8 @@ ghost use Rattle.script_places.specs.Starts.{start, first_token, first_at};
 use script_grammar::tree::{Script, StmtPart};
 use script_lex::Token;
 
-/// The byte at which a token begins, from 0. Tokens count from 0; one past the end begins at the end of the text, which
-/// has `total` bytes.
+/// The byte of a script at which a token begins, both counted from 0. A token past the end begins at the end of the
+/// script, which has `total` bytes.
 pub fn start(total: usize, tokens: &[Token], token: u64) -> usize
     ensures { result ≡ start total tokens.now token }
 {
@@ -34,7 +34,8 @@ pub fn first_token(script: &Script, statement: u64) -> Option<u64>
     Some(first_at(&script.statements[index].part))
 }
 
-// The index of the first token of a statement, by its fields `at`.
+// The index of the first token of a statement, from the token indexes that its tree has: its name's, or for a `def`,
+// whose name is its second token, one less.
 fn first_at(part: &StmtPart) -> u64
     ensures { result ≡ first_at (view_part part.now) }
 {

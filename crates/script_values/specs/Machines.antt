@@ -6,11 +6,12 @@ use Rattle.script_values.specs.declared.machine.Machine.{Machine}
 use Rattle.script_values.specs.declared.fault.Stop.{Stop}
 use Rattle.script_values.specs.declared.fault.Stop.TheVariants.{TooMuchWork}
 
--- the decimal of m millionths, which are at most 10^15
+-- The decimal number of m millionths, where m is at most 10^15, the bound of decimals.
 abbrev pub some_millionths : (m : ℕ) → T (nat_le m 1000000000000000) → Decimal
 some_millionths m few = record { millionths = pos m; low = record { le = tt }; high = record { le = few } }
 
--- the state before the first statement: 44100 samples a second, and 0.04 seconds a tick, which are 1764 samples
+-- The state of evaluation before the first statement: an empty plan of 44100 samples a second and ticks of 0.04 seconds
+-- (1764 samples), no work done, and settings still allowed.
 abbrev pub first_machine : Machine
 first_machine = record {
   plan = record { rate = 44100; frame = 1764; nodes = []; sinks = []; buffers = [] };
@@ -19,7 +20,7 @@ first_machine = record {
   calls = [];
 }
 
--- adds `steps` to the work; past the bound there is too much work
+-- Counts `steps` more steps of evaluation in the state. Past the bound on the work of a script it is a fault.
 unfoldable pub count_work : ℕ → Machine → Result Machine Stop
 count_work steps m =
     elim (nat_le (m.work + steps) MAX_WORK) [
@@ -27,11 +28,12 @@ count_work steps m =
       | false ↦ Err TooMuchWork
     ]
 
--- the calls of the first sources, and behind them the call at this token for each further source, up to number
--- `sources`
+-- For each source the token of the call that made it: those known so far (`calls`), and the call at token `at` for each
+-- further source, up to `sources` in all.
 abbrev pub filled : (at : ℕ) → (sources : ℕ) → List ℕ → List ℕ
 filled at sources calls = calls ++ replicate (sources - length calls) at
 
--- the state behind a call at token `at`, before which there were `before` sources: those that it made are its own
+-- Notes in the state which call made which source: all sources from number `before` on were made by the call at token
+-- `at`, also those that calls within it made.
 abbrev pub noted_by : (at before : ℕ) → Machine → Machine
 noted_by at before m = record m { calls = filled at (length m.plan.nodes) (take before m.calls) }

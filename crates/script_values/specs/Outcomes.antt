@@ -11,10 +11,11 @@ abbrev pub ◌>>=◌ : {A B : Type 0} → Result A Stop → (A → Result B Stop
 (Ok x) >>= f = f x
 (Err e) >>= f = Err e
 
--- a value and the state behind it, or why evaluation stops
+-- What the evaluation of an expression comes to: its value and the state after it, or why evaluation stops.
 abbrev pub Outcome : Type 0
 Outcome = Result (Value × Machine) Stop
 
--- what a call at this token makes of the state m, where the sources that it made are noted as its own
+-- What a call at token `at` comes to, begun in the state m: as `made` says, but the sources that were made since are
+-- noted as made by this call.
 abbrev pub ascribed : ℕ → Machine → Outcome → Outcome
 ascribed at m made = made >>= λ x. Ok (x.0, noted_by at (length m.plan.nodes) x.1)

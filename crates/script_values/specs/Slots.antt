@@ -3,11 +3,12 @@ use Rattle.std.specs.Prelude.{ℕ, List, [], ◌∷◌, Option, Some, None, cond
 use Rattle.typing_rules.specs.Arguments as arguments
 use Rattle.script_values.specs.Values.{Value}
 
--- a binding by the token of its name, with its value
+-- What a name stands for: the token of the name that was bound, as its index, and the value.
 abbrev pub SlotValue : Type 0
 SlotValue = ℕ × Value
 
--- the value of the first binding whose name stands at this token
+-- The value that was bound to the name at token `at`: that of the first such binding in the list; `None` if there is
+-- none.
 abbrev pub value_at_token : ℕ → List SlotValue → Option Value
 value_at_token at [] = None
 value_at_token at (s ∷ ss) = cond (nat_eq s.0 at) (Some s.1) (value_at_token at ss)

@@ -3,12 +3,13 @@ use Rattle.std.specs.Prelude.{ℕ, ◌+◌, ℤ, List, [], ◌∷◌, Bool}
 use Rattle.fixed_text.specs.declared.decimal.Decimal.{Decimal}
 use Rattle.time_pred.specs.Predicates.{Predicate}
 
--- the sort of a tree of values: one value, or a list of them
+-- The two sorts of trees below: one value of a script, or a list of such values.
 pub data ValueSort : Type 0 where
   OneValue : ValueSort
   ManyValues : ValueSort
 
--- the values of a script, and lists of them, as trees
+-- The values of a script (numbers, texts, bools, unit, formats, predicates, sources, lists and tuples) and lists of
+-- values, as one family of trees.
 pub data ValueTree : ValueSort → Type 0 where
   no_values : ValueTree ManyValues
   more_values : ValueTree OneValue → ValueTree ManyValues → ValueTree ManyValues
@@ -25,21 +26,21 @@ pub data ValueTree : ValueSort → Type 0 where
   ListValue : ValueTree ManyValues → ValueTree OneValue
   TupleValue : ValueTree ManyValues → ValueTree OneValue
 
--- one value
+-- A value of a script: a number, text, bool, unit, format, predicate or source, or a list or tuple of values.
 abbrev pub Value : Type 0
 Value = ValueTree OneValue
 
--- a list of values as one tree
+-- A list of values as one tree, as it stands within a list or tuple of the script.
 abbrev pub many : List Value → ValueTree ManyValues
 many [] = no_values
 many (v ∷ vs) = more_values v (many vs)
 
--- the values of a tree, as a list
+-- The values of a list or tuple of the script, from its tree, as a list.
 abbrev pub items : ValueTree ManyValues → List Value
 items no_values = []
 items (more_values v vs) = v ∷ items vs
 
--- the size of a list or tuple is 1 and the sizes of its parts, of any other value 1
+-- The size of a value, which naming it costs as work: 1, and for a list or tuple the sizes of its parts besides.
 abbrev pub size : {s : ValueSort} → ValueTree s → ℕ
 size no_values = 0
 size (more_values v vs) = size v + size vs

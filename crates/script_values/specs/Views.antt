@@ -4,10 +4,10 @@ use Rattle.script_values.specs.declared.slots.Given as given
 use Rattle.script_values.specs.View.{view_value}
 use Rattle.script_values.specs.Slots.{SlotValue, Argument}
 
--- a binding of the program by its token, with the value that it stands for
+-- A binding of a name, from the program's data to plain data: the token of the name, and its value.
 abbrev pub view_slot : slot.Slot → SlotValue
 view_slot s = (s.at, view_value s.value)
 
--- an argument of the program by its label, with the value that it stands for
+-- An argument of a call, from the program's data to plain data: its label, if it has one, and its value.
 abbrev pub view_given : given.Given → Argument
 view_given g = (g.label, view_value g.value)

@@ -106,6 +106,7 @@ pub enum Stop {
 impl From<Memory> for Stop {
     ghost from_gives = { λ _ e. e ≡ faults.Memory };
 
+    // Makes want of memory a reason to stop evaluation.
     fn from(_refused: Memory) -> Stop {
         Stop::Memory
     }
@@ -114,6 +115,7 @@ impl From<Memory> for Stop {
 impl From<AllocError> for Stop {
     ghost from_gives = { λ _ e. e ≡ faults.Memory };
 
+    // Makes an allocation that was refused a reason to stop evaluation.
     fn from(_refused: AllocError) -> Stop {
         Stop::Memory
     }
@@ -122,6 +124,7 @@ impl From<AllocError> for Stop {
 impl<T: Drop> From<AllocFailed<T>> for Stop {
     ghost from_gives = { λ _ e. e ≡ faults.Memory };
 
+    // Makes an allocation that was refused a reason to stop evaluation; the value that it hands back is dropped.
     fn from(_refused: AllocFailed<T>) -> Stop {
         Stop::Memory
     }

@@ -44,7 +44,8 @@ pub struct Settings {
 }
 
 impl Machine {
-    /// The state before the first statement: 44100 samples a second, and 0.04 seconds a tick. It takes no memory.
+    /// The state of evaluation before the first statement: an empty plan of 44100 samples a second and ticks of 0.04
+    /// seconds. It takes no memory.
     pub fn new(alloc: Global) -> Machine
         ensures first { result ≡ first_machine }
     {
@@ -63,7 +64,7 @@ impl Machine {
     }
 }
 
-/// Counts `steps` more of work; too much where the work passes 999999.
+/// Counts `steps` more steps of evaluation as work of the script; past 999999 it is a fault.
 pub fn count(machine: &mut Machine, steps: u64) -> Result<(), Stop>
     ensures { Gives (λ _. machine.new) result (count_work steps machine.old) }
 {
@@ -75,22 +76,22 @@ pub fn count(machine: &mut Machine, steps: u64) -> Result<(), Stop>
     Ok(())
 }
 
-/// Counts the size of a value as work.
+/// Counts the size of a value as work of the script, as a name for the value costs it.
 pub fn count_value(machine: &mut Machine, value: &Value) -> Result<(), Stop>
     ensures { Gives (λ _. machine.new) result (count_work (size (view_value value.now)) machine.old) }
 {
     count(machine, size(value))
 }
 
-/// How many sources the plan has.
+/// How many sources the script has made so far: as many as its plan has nodes.
 pub fn sources_made(plan: &Draft) -> usize
     ensures { result ≡ length plan.now.nodes }
 {
     plan.plan().nodes.len()
 }
 
-/// Notes the call at token `at` for the sources that it made: those from number `before` on. Where memory is refused,
-/// some of them may be noted.
+/// Notes which call made which sources: those from number `before` on, by the call at token `at`. Where memory is
+/// refused, some of them may be noted.
 pub fn note(machine: &mut Machine, at: u32, before: usize) -> Result<(), Memory>
     ensures { OnOk result (machine.new ≡ noted_by at before machine.old) }
 {
@@ -99,7 +100,8 @@ pub fn note(machine: &mut Machine, at: u32, before: usize) -> Result<(), Memory>
     fill(&mut machine.calls, at, sources)
 }
 
-// Adds the call at token `at` until there are `sources` calls.
+// Notes the call at token `at` as the maker of each further source, until there is one call for each of `sources`
+// sources.
 fn fill(calls: &mut Items<u32>, at: u32, sources: usize) -> Result<(), Memory>
     ensures { OnOk result (calls.new ≡ filled at sources calls.old) }
 {

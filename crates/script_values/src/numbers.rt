@@ -10,7 +10,7 @@ use crate::{Stop, Value};
 use fixed_text::Decimal;
 use script_grammar::tree::{CompareOp, Literal};
 
-/// The value of a number as its token holds it.
+/// The value of a number that stands in the text of a script: an int or a decimal.
 pub fn literal(number: Literal) -> Value
     ensures { view_value result ≡ literal_value number }
 {
@@ -20,7 +20,7 @@ pub fn literal(number: Literal) -> Value
     }
 }
 
-/// The value of a number behind the minus at token `at`; a bad value out of range.
+/// The value of a number behind the minus at token `at`: an int or a decimal, or a bad value out of range.
 #[tactic(auto, unfolding(crate::specs::Numbers::negative))]
 pub fn negative(at: u32, number: Literal) -> Result<Value, Stop>
     ensures { Gives (λ v. view_value v) result (negative at number) }
@@ -31,7 +31,8 @@ pub fn negative(at: u32, number: Literal) -> Result<Value, Stop>
     }
 }
 
-/// The sum of two numbers, or with `minus` their difference. The operator stands at token `at`.
+/// The value of `+`, or of `-` with `minus`, over two ints or two decimals; a bad value at the operator's token `at`
+/// out of range. Other values are stuck, for typing refuses them.
 #[tactic(auto, unfolding(crate::specs::Numbers::added))]
 pub fn added(minus: bool, at: u32, left: &Value, right: &Value) -> Result<Value, Stop>
     ensures { Gives (λ v. view_value v) result (added minus at (view_value left.now) (view_value right.now)) }
@@ -43,7 +44,7 @@ pub fn added(minus: bool, at: u32, left: &Value, right: &Value) -> Result<Value,
     }
 }
 
-/// `or` of two truth values.
+/// The value of `or` over two truth values. Other values are stuck, for typing refuses them.
 #[tactic(auto, unfolding(crate::specs::Numbers::either))]
 pub fn either(left: &Value, right: &Value) -> Result<Value, Stop>
     ensures { Gives (λ v. view_value v) result (either (view_value left.now) (view_value right.now)) }
@@ -54,7 +55,7 @@ pub fn either(left: &Value, right: &Value) -> Result<Value, Stop>
     }
 }
 
-/// `and` of two truth values.
+/// The value of `and` over two truth values. Other values are stuck, for typing refuses them.
 #[tactic(auto, unfolding(crate::specs::Numbers::both))]
 pub fn both(left: &Value, right: &Value) -> Result<Value, Stop>
     ensures { Gives (λ v. view_value v) result (both (view_value left.now) (view_value right.now)) }
@@ -65,7 +66,7 @@ pub fn both(left: &Value, right: &Value) -> Result<Value, Stop>
     }
 }
 
-/// `not` of a truth value.
+/// The value of `not` over a truth value. Another value is stuck, for typing refuses it.
 #[tactic(auto, unfolding(crate::specs::Numbers::opposite))]
 pub fn opposite(value: &Value) -> Result<Value, Stop>
     ensures { Gives (λ v. view_value v) result (opposite (view_value value.now)) }
@@ -76,7 +77,8 @@ pub fn opposite(value: &Value) -> Result<Value, Stop>
     }
 }
 
-/// The truth of a condition.
+/// The truth of the value of a condition, by which `if` goes on. A value of another type is stuck, for typing refuses
+/// it.
 #[tactic(auto, unfolding(crate::specs::Numbers::truth_of))]
 pub fn truth_of(value: &Value) -> Result<bool, Stop>
     ensures { Gives (λ b. b) result (truth_of (view_value value.now)) }
@@ -87,7 +89,8 @@ pub fn truth_of(value: &Value) -> Result<bool, Stop>
     }
 }
 
-/// The product of two numbers, or with `divide` their quotient. The operator stands at token `at`.
+/// The value of `*`, or of `/` with `divide`, over two ints or two decimals, rounded toward zero (decimals to a
+/// millionth). By 0 and out of range it is a bad value at the operator's token `at`.
 #[tactic(auto, unfolding(crate::specs::Numbers::multiplied))]
 pub fn multiplied(divide: bool, at: u32, left: &Value, right: &Value) -> Result<Value, Stop>
     ensures { Gives (λ v. view_value v) result (multiplied divide at (view_value left.now) (view_value right.now)) }
@@ -111,7 +114,8 @@ pub fn multiplied(divide: bool, at: u32, left: &Value, right: &Value) -> Result<
     }
 }
 
-/// The truth of a comparison of two ints or of two decimals.
+/// The value of a comparison of two ints or of two decimals: whether the relation of the operator holds. Other values
+/// are stuck, for typing refuses them.
 #[tactic(auto, unfolding(crate::specs::Numbers::compared))]
 pub fn compared(op: CompareOp, left: &Value, right: &Value) -> Result<Value, Stop>
     ensures { Gives (λ v. view_value v) result (compared op (view_value left.now) (view_value right.now)) }
@@ -125,7 +129,7 @@ pub fn compared(op: CompareOp, left: &Value, right: &Value) -> Result<Value, Sto
     }
 }
 
-// An int, or a bad value at token `at` if it has more than 64 bits.
+// An int as a value of a script, or a bad value at token `at`, that of the operator, if it has more than 64 bits.
 fn int(at: u32, number: i128) -> Result<Value, Stop>
     ensures { Gives (λ v. view_value v) result (int_at at number) }
 {
@@ -138,7 +142,8 @@ fn int(at: u32, number: i128) -> Result<Value, Stop>
     Ok(Value::Int(number as i64))
 }
 
-// The decimal of this number of millionths, or a bad value at token `at` beyond 10^15.
+// The decimal of this number of millionths as a value, or a bad value at token `at`, that of the operator, beyond 10^15
+// either way.
 fn decimal(at: u32, millionths: i128) -> Result<Value, Stop>
     ensures { Gives (λ v. view_value v) result (decimal_at at millionths) }
 {
@@ -153,7 +158,7 @@ fn decimal(at: u32, millionths: i128) -> Result<Value, Stop>
     }))
 }
 
-// The sum of two ints, or with `minus` their difference.
+// The sum of two ints, or with `minus` their difference; a bad value at the operator's token `at` beyond 64 bits.
 fn int_sum(minus: bool, at: u32, a: i64, b: i64) -> Result<Value, Stop>
     ensures { Gives (λ v. view_value v) result (int_at at (plus_or_minus minus a b)) }
 {
@@ -164,7 +169,7 @@ fn int_sum(minus: bool, at: u32, a: i64, b: i64) -> Result<Value, Stop>
     }
 }
 
-// The sum of two decimals, or with `minus` their difference.
+// The sum of two decimals, or with `minus` their difference; a bad value at the operator's token `at` out of range.
 fn decimal_sum(minus: bool, at: u32, a: Decimal, b: Decimal) -> Result<Value, Stop>
     ensures { Gives (λ v. view_value v) result (decimal_at at (plus_or_minus minus a.millionths b.millionths)) }
 {
@@ -175,8 +180,8 @@ fn decimal_sum(minus: bool, at: u32, a: Decimal, b: Decimal) -> Result<Value, St
     }
 }
 
-// The quotient of `a` and `b`, rounded toward zero; `None` if `b` is 0. `a` may be as large as a number of 64 bits
-// times a million.
+// The quotient of `a` and `b`, rounded toward zero; `None` if `b` is 0. For decimals `a` is a number of 64 bits times a
+// million.
 #[tactic(auto, unfolding(crate::specs::Numbers::quotient))]
 fn divided(a: i128, b: i64) -> Option<i128>
     requires low { negsuc 9223372036854775807999999 ≤ℤ a }
@@ -189,7 +194,7 @@ fn divided(a: i128, b: i64) -> Option<i128>
     Some(a / i128::from(b))
 }
 
-/// The quotient of two ints, rounded toward zero.
+/// The quotient of two ints, rounded toward zero; a bad value at the operator's token `at` by 0 or beyond 64 bits.
 fn int_quotient(at: u32, a: i64, b: i64) -> Result<Value, Stop>
     ensures { Gives (λ v. view_value v) result (quotient_at at (int_at at) (quotient a b)) }
 {
@@ -199,7 +204,8 @@ fn int_quotient(at: u32, a: i64, b: i64) -> Result<Value, Stop>
     }
 }
 
-/// The quotient of two decimals, rounded toward zero to a millionth.
+/// The quotient of two decimals, rounded toward zero to a millionth; a bad value at the operator's token `at` by 0 or
+/// out of range.
 fn decimal_quotient(at: u32, a: Decimal, b: Decimal) -> Result<Value, Stop>
     ensures { Gives (λ v. view_value v) result
         (quotient_at at (decimal_at at) (quotient (a.millionths *ℤ pos 1000000) b.millionths)) }
@@ -210,7 +216,7 @@ fn decimal_quotient(at: u32, a: Decimal, b: Decimal) -> Result<Value, Stop>
     }
 }
 
-/// The product of two ints.
+/// The product of two ints; a bad value at the operator's token `at` beyond 64 bits.
 fn int_product(at: u32, a: i64, b: i64) -> Result<Value, Stop>
     ensures { Gives (λ v. view_value v) result (int_at at (a *ℤ b)) }
 {
@@ -224,21 +230,22 @@ fn product(a: i64, b: i64) -> i128
     i128::from(a) * i128::from(b)
 }
 
-/// Millionths of a millionth as millionths, rounded toward zero.
+/// The product of two numbers of millionths, in millionths again: rounded toward zero.
 fn in_units(millionths: i128) -> i128
     ensures { result ≡ int_div millionths (pos 1000000) }
 {
     millionths / 1_000_000
 }
 
-/// The product of two decimals, rounded toward zero to a millionth.
+/// The product of two decimals, rounded toward zero to a millionth; a bad value at the operator's token `at` out of
+/// range.
 fn decimal_product(at: u32, a: Decimal, b: Decimal) -> Result<Value, Stop>
     ensures { Gives (λ v. view_value v) result (decimal_at at (int_div (a.millionths *ℤ b.millionths) (pos 1000000))) }
 {
     decimal(at, in_units(product(a.millionths, b.millionths)))
 }
 
-/// Whether two numbers compare as the operator says.
+/// Whether two whole numbers are in the relation of a comparison operator, such as `<`.
 fn holds(op: CompareOp, a: i64, b: i64) -> bool
     ensures { result ≡ is_so op a b }
 {

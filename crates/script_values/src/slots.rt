@@ -24,7 +24,7 @@ pub struct Given {
     pub value: Value,
 }
 
-/// The value of the first binding whose name stands at token `at`; `None` if there is none.
+/// The value that was bound to the name at token `at`: that of the first such binding; `None` if there is none.
 pub fn slot_at(slots: &[Slot], at: u32) -> Option<&Value>
     ensures { option_map (λ v. view_value v.now) result ≡ value_at_token at (map view_slot slots.now) }
 {
@@ -36,7 +36,8 @@ pub fn slot_at(slots: &[Slot], at: u32) -> Option<&Value>
     None
 }
 
-/// Takes the first argument with this label, or the first without one; `None` if there is none.
+/// Takes the first argument with this label out of a call's arguments, or the first without a label (`None`), and gives
+/// its value; `None` if there is none.
 pub fn argument(given: &mut Vec<Given>, label: Option<&str>) -> Option<Value>
     ensures taken { option_map (λ v. (view_value v, map view_given given.new.items)) result
         ≡ argument (option_map (λ t. t.now) label.entry) (map view_given given.old.items) }
@@ -48,7 +49,7 @@ pub fn argument(given: &mut Vec<Given>, label: Option<&str>) -> Option<Value>
     }
 }
 
-/// A copy of an argument's label.
+/// A copy of the label of an argument; `None` for an argument without one.
 pub fn copy_label(alloc: Global, label: &Option<Text>) -> Result<Option<Text>, Memory>
     ensures { IfOk result (λ copied. copied ≡ label.now) }
 {
@@ -69,7 +70,8 @@ fn is_label(wanted: Option<&str>, label: &Option<Text>) -> bool
     }
 }
 
-// The index of the first argument with this label, or of the first without one; `None` if there is none.
+// The index of the first argument of a call with this label, or of the first without a label (`None`); `None` if there
+// is none.
 fn place_of(given: &[Given], label: Option<&str>) -> Option<usize>
     ensures found { IfSome result (λ i. IsPlace (option_map (λ t. t.now) label.entry) given.now i) }
     ensures none { IfNone result (None ≡ argument (option_map (λ t. t.now) label.entry) (map view_given given.now)) }

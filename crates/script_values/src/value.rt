@@ -59,7 +59,7 @@ pub fn size(value: &Value) -> u64
     }
 }
 
-/// A copy of a value.
+/// A copy of a value of a script. A text and a predicate are shared with it; the parts of lists and tuples are copied.
 #[cycle(copy)]
 pub fn copy(alloc: Global, value: &Value) -> Result<Value, Memory>
     ensures { IfOk result (λ copy. view_value copy ≡ view_value value.now) }
@@ -78,21 +78,21 @@ pub fn copy(alloc: Global, value: &Value) -> Result<Value, Memory>
     }
 }
 
-/// The list of these values as a value.
+/// A list of a script, as a value, with these parts.
 pub fn listed(parts: Vec<Value>) -> Value
     ensures { view_value result ≡ a_list (many (map view_value parts.items)) }
 {
     Value::Listed(parts)
 }
 
-/// The tuple of these values as a value.
+/// A tuple of a script, as a value, with these parts.
 pub fn tuple(parts: Vec<Value>) -> Value
     ensures { view_value result ≡ a_tuple (many (map view_value parts.items)) }
 {
     Value::Tuple(parts)
 }
 
-/// The sum of the sizes of these values, or `u64::MAX` where it is more.
+/// The sum of the sizes of the parts of a list or tuple, or `u64::MAX` where it is more.
 #[cycle(size)]
 fn sizes(parts: &[Value]) -> u64
     ensures { result ≡ min (size (many (map view_value parts.now))) u64.MAX }
@@ -104,7 +104,7 @@ fn sizes(parts: &[Value]) -> u64
     sum
 }
 
-/// Copies of these values, in order.
+/// Copies of the parts of a list or tuple, in order.
 #[cycle(copy)]
 fn copies(alloc: Global, parts: &[Value]) -> Result<Vec<Value>, Memory>
     ensures { IfOk result (λ copies. map view_value copies.items ≡ map view_value parts.now) }

@@ -1,4 +1,4 @@
--- What is done for a verdict.
+-- What a call does to the shelf of files for its verdict, and what it reports.
 use Rattle.std.specs.Prelude.{◌≡◌, ◌⊎◌, ℕ, List, Bool, false, Some, map}
 use Rattle.liq_base.specs.Files.{Files}
 use Rattle.liq_base.specs.Shelves.{OnlyRead, ShelfTold}
@@ -17,23 +17,22 @@ use Rattle.stations.specs.Reports.{report_of, check_report_of}
 use Rattle.station_jobs.specs.Summary.{SumsAsOneThread, summary_of}
 use Rattle.station_jobs.specs.Verdicts.{Verdict, Usage, Checked, Accepted, Made}
 
--- where the main clocks can be listed so that each buffer that joins two of them leads to a later one, the ticks of a
--- run by threads can be put in one order in which each chunk is accepted in an earlier tick than the one that gets it
+-- The ticks of a run have one order in which each chunk is accepted by a buffer in an earlier tick than the one that
+-- gets it. It is said where the main clocks can be listed so that each buffer that joins two of them leads to a later
+-- one.
 abbrev pub IsOrderedOnward : Station → Run → Type 0
 IsOrderedOnward station run = (window : ℕ)
     (lawful : AreWindows (bare station) station.clocks.running window station.ticks run) (listing : List ℕ)
     → LeadOnward (bare station) station.clocks.running listing
     → IsOrdered (setting_of_run station run) station.clocks.running lawful.accepted station.ticks
 
--- the names of the files of a run, in their order; they rest on the station alone
+-- The names of the files that a run writes, in the order in which it creates them. They follow from the station alone.
 abbrev pub names_of : Station → Run → List (List ℕ)
 names_of station run = map (λ file. file.name) (files_of station run)
 
--- A run wrote all outputs, then their cue files, where these are wanted, and then its trace, if one is wanted; the
--- shelf made and closed these files in this order, and no other, each with room for just its bytes; and this is the
--- report. A replay's run is the record of its trace. On one thread and in a replay there is no other run, so it always
--- writes and tells the same. Where no buffer joins two clocks, one thread writes the same outputs and cue files and
--- tells the same.
+-- A run wrote all outputs, then the wanted cue files and trace. The shelf made and closed just these files, in this
+-- order, each with room for its bytes, and this is the report. On one thread and in a replay there is no other run.
+-- Where no buffer joins two clocks, one thread writes the same outputs and cue files and tells the same.
 pub record Wrote (station : Station) (files : Files) (old new : ShelfTold) (report : List ℕ) : Type 0 where
   pub run : Run
   pub lawful : IsLawful station run
@@ -46,15 +45,16 @@ pub record Wrote (station : Station) (files : Files) (old new : ShelfTold) (repo
   pub ordered : IsOrderedOnward station run
   pub as_one_thread : HasNoJoin (bare station) station.clocks.running → RendersAsOneThread station run
 
--- the shelf was only read, and the report tells the clock of each output, and whether its node is infallible
+-- What `check` did: the shelf of files was only read, and the report tells the clock of each output, and by `mark`
+-- whether its node is infallible.
 pub record Told (station : Station) (old new : ShelfTold) (report : List ℕ) : Type 0 where
   pub kept : OnlyRead old new
   pub mark : ℕ → Bool
   pub marking : IsMarking station.plan.nodes mark
   pub report_is : report ≡ check_report_of station mark
 
--- The shelf is as it was, and the report is the summary of a run over the files of a workload. Rounds on one thread
--- have one record, and the same summary, so this rests on the station and its files alone.
+-- What `make` did: the shelf was only read, and the report is the summary of a run over the files of a workload. Rounds
+-- on one thread have the same summary, so it rests on the station and its files alone.
 pub record Summed (made : Files) (station : Station) (old new : ShelfTold) (report : List ℕ) : Type 0 where
   pub kept : OnlyRead old new
   pub run : Run
@@ -63,8 +63,8 @@ pub record Summed (made : Files) (station : Station) (old new : ShelfTold) (repo
   pub no_gaps : HasNoGaps station run
   pub as_one_thread : SumsAsOneThread made station report
 
--- what was done for a verdict that is no refusal, and its report: a station was rendered, checked, or that of a
--- workload was told
+-- What was done for a verdict that is no refusal, with its report: a station was rendered to files, or checked, or the
+-- rendering of a made workload was summed up.
 abbrev pub IsDone : Verdict → Files → (old new : ShelfTold) → (report : List ℕ) → Type 0
 IsDone verdict files old new report =
     ((station : Station) × (verdict ≡ Accepted station) × Wrote station files old new report)
@@ -82,11 +82,13 @@ pub record BrokeOff (station : Station) (device : Bool) (files : Files) (old new
       × (HasNoJoin (bare station) station.clocks.running → RendersAsOneThread station stopped.run))
   pub front : (run : Run) → CreatedFront (names_of station run) old new
 
--- the verdict is a station, and its rendering broke off
+-- The words ask for a rendering of an accepted station, and it broke off: by a failed `device`, or else for want of
+-- memory. `old` and `new` tell the shelf of files before and after.
 abbrev pub IsBroken : Verdict → (device : Bool) → Files → (old new : ShelfTold) → Type 0
 IsBroken verdict device files old new = (station : Station) × (verdict ≡ Accepted station)
     × BrokeOff station device files old new
 
--- memory was refused: the shelf was only read, or a rendering broke off
+-- Memory was refused to a job, which is possible for any words with a form: the shelf of files was only read, or a
+-- rendering broke off.
 abbrev pub IsStarved : Verdict → Files → (old new : ShelfTold) → Type 0
 IsStarved verdict files old new = (verdict ≡ Usage → ⊥) × (OnlyRead old new ⊎ IsBroken verdict false files old new)

@@ -28,74 +28,82 @@ use Rattle.station_jobs.specs.Jobs.{IsBroken, IsDone, IsStarved}
 use Rattle.station_jobs.specs.declared.halt.CallEnd.{CallEnd}
 use Rattle.station_jobs.specs.declared.halt.CallEnd.TheVariants.{Read, Write, Memory, Refused as refused_for}
 
--- a script has a plan with its audio files and clocks, or a fault
+-- What reading a script comes to: its plan with the audio files and the clocks of the plan, or the fault for which it
+-- is refused.
 pub data Outcome : Type 0 where
   Found : Plan → Sounds → ClockMap → Outcome
   Lost : Fault → Outcome
 
--- what is found of the script of a rendering: that it is accepted, with these parts, or its first fault
+-- What reading the script of a rendering comes to over these files: it is accepted with this plan, these audio files
+-- and clocks, or this is its first fault.
 abbrev pub IsOutcome : Files → Rendering → Outcome → Type 0
 IsOutcome files rendering (Found plan library clocks) = IsPrepared files rendering plan library clocks
 IsOutcome files rendering (Lost fault) = IsScriptFault files rendering fault
 
--- what is asked for is granted, with a plan, its audio files and clocks, and the way in which it is rendered; or it is
--- denied for a fault
+-- The decision on what a call asks for: granted, with a plan, its audio files and clocks, and the way to render it (by
+-- threads, in rounds on one thread, or as a trace tells); or denied for a fault.
 pub data Ruling : Type 0 where
   Granted : Plan → Sounds → ClockMap → Way → Ruling
   Denied : Fault → Ruling
 
--- the script that is asked for is accepted, with this plan, these audio files and clocks, and is rendered in this way
+-- What a call asks for is granted: its script is accepted with this plan, these audio files and clocks, and it is
+-- rendered in this way (by threads, in rounds, or as a trace tells).
 pub record IsGranted (asked : Asked) (files : Files) (plan : Plan) (library : Sounds) (clocks : ClockMap)
     (way : Way) : Type 0 where
   pub prepared : IsPrepared files (rendering_of asked) plan library clocks
   pub is_way : IsWayFor asked files plan library clocks way
 
--- what is asked for is granted in this way, or denied for its first fault
+-- This is the decision on what a call asks for, over these files: it is granted with these parts, or denied for its
+-- first fault.
 abbrev pub IsRuling : Asked → Files → Ruling → Type 0
 IsRuling asked files (Granted plan library clocks way) = IsGranted asked (files_for asked files) plan library clocks way
 IsRuling asked files (Denied fault) = IsRefusal asked files fault
 
--- the ruling on what is asked for is this one, and there is no other
+-- This is the decision on what a call asks for, and there is no other.
 pub record IsOneRuling (asked : Asked) (files : Files) (ruling : Ruling) : Type 0 where
   pub holds : IsRuling asked files ruling
   pub only : (other : Ruling) → IsRuling asked files other → other ≡ ruling
 
--- the verdict of a ruling
+-- The verdict of a decision: a refusal for its fault, or the station that is made of its plan, audio files, clocks and
+-- way.
 abbrev pub verdict_of : Asked → Ruling → Verdict
 verdict_of asked (Denied fault) = Refused fault
 verdict_of asked (Granted plan library clocks way) = verdict_for asked
     (station_for (rendering_of asked) plan library clocks way)
 
--- what is found of the script of a rendering is this outcome, and no other
+-- Reading the script of a rendering comes to this outcome, and to no other: the plan with its parts, or the first
+-- fault.
 pub record IsOneOutcome (files : Files) (rendering : Rendering) (outcome : Outcome) : Type 0 where
   pub holds : IsOutcome files rendering outcome
   pub only : (other : Outcome) → IsOutcome files rendering other → other ≡ outcome
 
--- the outcome from which a job was made
+-- What reading its script came to, for a job that is ready to run: its plan, with its audio files and clocks.
 abbrev pub outcome_of : Job → Outcome
 outcome_of job = Found job.plan job.ready.library job.ready.clocks
 
--- for no tick the outcome is this plan with these clocks and some audio files, and there is no other
+-- The script in `file` is accepted by a check, which renders no tick: it comes to this plan and these clocks, with some
+-- audio files, and to nothing else.
 pub record IsChecked (files : Files) (file : List ℕ) (plan : Plan) (clocks : ClockMap) : Type 0 where
   pub library : Sounds
   pub one : IsOneOutcome files (rendering_by file 0 0 None false) (Found plan library clocks)
 
--- why a step ended that only reads: for a fault only if it is the outcome, and for a read only if the count of failed
--- reads rose
+-- What the error of a step says that only reads the script of a rendering: a fault is the one to which the script
+-- comes; a failed read rose the count of failed reads; and no write failed.
 pub record EndsFor {T : Type 0} (rendering : Rendering) (old new : ShelfTold) (result : Result T CallEnd) : Type 0 where
   pub fault : (fault : Fault) → result ≡ Err (refused_for fault)
       → ForSome old.files (λ files. IsOneOutcome files rendering (Lost fault))
   pub read : IsErrOf result Read → Rose old.reads new.reads
   pub no_write : IsErrOf result Write → ⊥
 
--- a fault is one of the trace in the file of this name, over N ticks of so many clocks
+-- The trace in the file of this name cannot be replayed over N ticks of so many clocks, for this fault. `base` is the
+-- plan with its audio files, clocks and start.
 pub record HasFaultOf (files : Files) (name : List ℕ) (base : Setting) (clocks N : ℕ) (fault : Fault) : Type 0 where
   pub untold : ReplayFault
   pub fault_is : fault ≡ Fault.Replay untold
   pub is_fault : IsReplayFault files name base clocks N untold
 
--- why the reading of the trace of this name ended: for a fault only if the trace has it, and for a read only if the
--- count of failed reads rose; N is how many ticks are rendered
+-- What the error of reading the trace of this name says: a fault is one that the trace has over N ticks; a failed read
+-- rose the count of failed reads; and no write failed.
 pub record TraceEnds {T : Type 0} (name : List ℕ) (base : Setting) (clocks N : ℕ) (old new : ShelfTold)
     (result : Result T CallEnd) : Type 0 where
   pub fault : (fault : Fault) → result ≡ Err (refused_for fault)
@@ -103,35 +111,36 @@ pub record TraceEnds {T : Type 0} (name : List ℕ) (base : Setting) (clocks N :
   pub read : IsErrOf result Read → Rose old.reads new.reads
   pub no_write : IsErrOf result Write → ⊥
 
--- a replay ended for this fault of its trace, or memory was refused for it
+-- Why a replay ended whose trace has this fault: for the fault itself, or because memory was refused to tell it.
 abbrev pub IsUntold : ReplayFault → CallEnd → Type 0
 IsUntold fault halt = (halt ≡ refused_for (Fault.Replay fault)) ⊎ (halt ≡ Memory)
 
--- why a test of the names of files ended: for a fault only if it names the first name that two files have
+-- What the error of a test of file names says, where `clash` is the first name that two files would have: a fault names
+-- it, and no read or write failed.
 pub record ClashEnds {T : Type 0} (clash : Option (List ℕ)) (result : Result T CallEnd) : Type 0 where
   pub fault : (fault : Fault) → result ≡ Err (refused_for fault)
       → (name : List ℕ) × (fault ≡ SameFile name) × (clash ≡ Some name)
   pub no_read : IsErrOf result Read → ⊥
   pub no_write : IsErrOf result Write → ⊥
 
--- what is asked for has one verdict and no other, and P holds of it
+-- What is asked for has one verdict over these files and no other, and P holds of this verdict.
 pub record ForOne (asked : Asked) (files : Files) (P : Verdict → Type 0) : Type 0 where
   pub verdict : Verdict
   pub is_verdict : IsVerdictOn asked files verdict
   pub only : (other : Verdict) → IsVerdictOn asked files other → other ≡ verdict
   pub holds : P verdict
 
--- P holds of each verdict on what is asked for
+-- P holds of each verdict that what is asked for may have over these files.
 abbrev pub ForEach : Asked → Files → (Verdict → Type 0) → Type 0
 ForEach asked files P = (verdict : Verdict) → IsVerdictOn asked files verdict → P verdict
 
--- where the shelf tells its files, P holds of them and of the one verdict on what is asked for
+-- Where the shelf tells which files it has: what is asked for has one verdict over them, and P holds of the files and
+-- the verdict.
 abbrev pub ForOneOf : Asked → ShelfTold → (Files → Verdict → Type 0) → Type 0
 ForOneOf asked shelf P = ForSome shelf.files (λ files. ForOne asked files (P files))
 
--- How a job may end, by what the shelf tells before and after it: with the report of what was done; with the fault that
--- is the verdict, or since a read failed, where the shelf was only read; since a write failed; or since memory was
--- refused.
+-- How a job may end, by what the shelf tells before and after it: with the report of what was done, or with the fault
+-- that is the verdict. Or a read failed, and the shelf was only read; or a write failed; or memory was refused.
 abbrev pub Ended : (asked : Asked) (old new : ShelfTold) → Result (String Global) CallEnd → Type 0
 Ended asked old new (Ok report) = ForOneOf asked old
     (λ files verdict. IsDone verdict files old new (string_bytes report))
@@ -143,22 +152,26 @@ Ended asked old new (Err Write) = Rose old.writes new.writes
 Ended asked old new (Err Memory) = ForSome old.files
     (λ files. ForEach asked files (λ verdict. IsStarved verdict files old new))
 
--- a job is for this rendering: it begins at its second and makes its ticks, with its trace and its cue files
+-- The job, ready to run, is the one for this rendering: it has its start, its number of ticks, and its wishes for a
+-- trace and cue files.
 pub record IsJobFor (rendering : Rendering) (job : Job) : Type 0 where
   pub start_is : rendering.start ≡ job.start.second
   pub ticks_are : rendering.ticks ≡ job.ticks
   pub trace_is : rendering.trace ≡ name_in job
   pub cues_are : rendering.cues ≡ job.cues
 
--- what is asked for is a rendering: once it is granted, its station is accepted
+-- What a call asks for writes outputs to the shelf, as a rendering and a replay do: any station that is granted for it
+-- is accepted to be rendered.
 abbrev pub IsToRender : Asked → Type 0
 IsToRender asked = (station : Station) → verdict_for asked station ≡ Accepted station
 
--- the plan of a job, with its audio files and clocks, is granted to be rendered in this way
+-- The decision to render the plan of a job, with its audio files and clocks, in this way (by threads, in rounds, or as
+-- a trace tells).
 abbrev pub granted : Job → Way → Ruling
 granted job way = Granted job.plan job.ready.library job.ready.clocks way
 
--- the end of a call whose script has this fault
+-- Why a call ends whose script has no plan: a refusal for the fault of its text, types or evaluation; or want of
+-- memory.
 abbrev pub halt_of_script : ScriptFault → CallEnd
 halt_of_script (script_fault.Lex fault) = refused_for (Script (script_fault.Lex fault))
 halt_of_script (script_fault.Parse fault) = refused_for (Script (script_fault.Parse fault))
@@ -166,13 +179,14 @@ halt_of_script (script_fault.Type fault) = refused_for (Script (script_fault.Typ
 halt_of_script (script_fault.Eval fault) = refused_for (Script (script_fault.Eval fault))
 halt_of_script script_fault.Memory = Memory
 
--- the end of a call, by the end of its check
+-- Why a call ends whose plan failed its check: a refusal for the fault of the plan, a failed read of an audio file, or
+-- want of memory.
 abbrev pub halt_of_check : CheckEnd → CallEnd
 halt_of_check (check_refused fault) = refused_for (Fault.Station fault)
 halt_of_check check_read = Read
 halt_of_check check_memory = Memory
 
--- the end of a call whose rendering broke off so
+-- Why a call ends whose rendering broke off: a failed write, or want of memory.
 abbrev pub halt_of_render : RenderFault → CallEnd
 halt_of_render render_write = Write
 halt_of_render render_memory = Memory

@@ -7,11 +7,11 @@ use Rattle.station_jobs.specs.declared.form.Form.TheVariants.{Check as checks, A
 use Rattle.station_jobs.specs.declared.form.Rendering.{Rendering as ReadRendering}
 use Rattle.station_jobs.specs.declared.options.Options.{Options as ReadOptions}
 
--- the bytes of a name, if one is said
+-- The bytes of a file name that a word may have said; `None` where no word said one.
 abbrev pub named : Option (Bor (List ℕ)) → Option (List ℕ)
 named name = option_map (λ name. name.now) name
 
--- the options that were read, as the forms have them
+-- The options that the program read from the words of a call, as plain data for the specification.
 abbrev pub options_of : ReadOptions → Options
 options_of options = record {
   one_thread = options.one_thread;
@@ -21,12 +21,14 @@ options_of options = record {
   cues = options.cues;
 }
 
--- the rendering that was read from words
+-- The rendering that the program read from the words of a call, as plain data: its script, start, ticks, trace and cue
+-- files.
 abbrev pub rendering_read : ReadRendering → Rendering
 rendering_read asked =
     rendering_by asked.file.now asked.start.second asked.ticks.count (named asked.trace) asked.cues
 
--- what a form asks for
+-- What a call asks for, as plain data, from the form that the program read its words as: a check, a rendering on one
+-- thread or by threads, a workload or a replay.
 abbrev pub asked_of : Form → Asked
 asked_of (checks file) = Check file.now
 asked_of (alone asked) = Render (rendering_read asked) None

@@ -10,54 +10,57 @@ use Rattle.stations.specs.Stations.{Way, Again}
 use Rattle.refusal_lines.specs.declared.replay_lines.ReplayFault.{ReplayFault}
 use Rattle.refusal_lines.specs.declared.replay_lines.ReplayFault.TheVariants.{NoTrace, TraceTooLarge, NotATrace, DoesNotFit}
 
--- how many bytes a trace has at most
+-- The size of the largest trace that is read: 2^28 bytes.
 abbrev pub most_bytes : ℕ
 most_bytes = 2 ^ 28
 
--- the file of this name has these bytes, and no more than a trace may
+-- The file of this name is there and holds these bytes, which are no more than a trace may have.
 pub record HasText (files : Files) (name text : List ℕ) : Type 0 where
   pub there : file_at files name ≡ Some text
   pub few : length text ≤ most_bytes
 
--- the file of this name has more bytes than a trace may
+-- The file of this name is there, and has more bytes than a trace may have.
 pub record HasMore (files : Files) (name : List ℕ) : Type 0 where
   pub text : List ℕ
   pub there : file_at files name ≡ Some text
   pub many : most_bytes < length text
 
--- the file of this name is the text of this trace
+-- The file of this name is the text of this trace, a record of what the buffers between clocks answered in a run.
 pub record HasTrace (files : Files) (name : List ℕ) (trace : TraceValue) : Type 0 where
   pub text : List ℕ
   pub has : HasText files name text
   pub is_trace : IsTrace trace
   pub text_is : text ≡ trace_text trace
 
--- the file of this name is no text of a trace: this line is the first that is outside the form
+-- The file of this name is no trace: line number `line` is the first that has not the form of one.
 pub record HasNoTrace (files : Files) (name : List ℕ) (line : ℕ) : Type 0 where
   pub text : List ℕ
   pub has : HasText files name text
   pub stops : StopsAt text line
 
--- the file of this name is a trace that fits: that of a lawful record of N ticks of these clocks whose ticks can be
--- ordered
+-- The file of this name is a trace that can be replayed for N ticks of these clocks: it is of a lawful run of them,
+-- whose ticks can be put in one order. `base` is the plan with its audio files and start.
 pub record HasFitting (files : Files) (name : List ℕ) (base : Setting) (clocks N : ℕ) (trace : TraceValue) : Type 0
   where
     pub has : HasTrace files name trace
     pub fits : IsAccepted base clocks N trace
 
--- the file of this name is a trace that does not fit: it is of no such record of N ticks of these clocks
+-- The file of this name is a trace that cannot be replayed here: no lawful run of N ticks of these clocks, whose ticks
+-- can be put in one order, has it. `base` is the plan with its audio files and start.
 pub record HasUnfitting (files : Files) (name : List ℕ) (base : Setting) (clocks N : ℕ) : Type 0 where
   pub trace : TraceValue
   pub has : HasTrace files name trace
   pub unfit : IsAccepted base clocks N trace → ⊥
 
--- a script is rendered again by the trace in the file of this name
+-- The way of a replay: the file of this name is a trace that fits N ticks of these clocks, and the script is rendered
+-- again as it tells.
 pub record IsWayOf (files : Files) (name : List ℕ) (base : Setting) (clocks N : ℕ) (way : Way) : Type 0 where
   pub trace : TraceValue
   pub fitting : HasFitting files name base clocks N trace
   pub way_is : way ≡ Again trace
 
--- a script is not rendered again, for this fault of the trace in the file of this name
+-- Why a script is not replayed by the trace of this name: there is no such file, it is too large, a line is not in the
+-- form of a trace, or the trace is not of N ticks of these clocks.
 abbrev pub IsReplayFault : Files → (name : List ℕ) (base : Setting) (clocks N : ℕ) → ReplayFault → Type 0
 IsReplayFault files name base clocks N (NoTrace told) = (told ≡ name) × (file_at files name ≡ None)
 IsReplayFault files name base clocks N (TraceTooLarge told) = (told ≡ name) × HasMore files name

@@ -1,4 +1,4 @@
--- What is told of a workload.
+-- The summary that is printed of a rendered workload.
 use Rattle.std.specs.Prelude.{◌≡◌, ℕ, ℤ, pos, ◌+ℤ◌, ◌*◌, List, [], ◌∷◌, ◌++◌, codes, drop, fold, unwrap_or}
 use Rattle.std.specs.Fmt.{signed_decimal}
 use Rattle.liq_base.specs.Files.{Files, file_at}
@@ -11,23 +11,25 @@ use Rattle.stations.specs.Reports.{counted_part}
 use Rattle.stations.specs.Stations.{Station, bare}
 use Rattle.stations.specs.Streams.{gaps_of, output_files}
 
--- the sum of all samples of a WAV file of 16 bits, on both sides: those after the 44 bytes of its header
+-- The sum of all samples of a WAV file of 16 bits, left and right. They stand after the 44 bytes of its header.
 abbrev pub sum_of : List ℕ → ℤ
 sum_of bytes = fold ◌+ℤ◌ (pos 0) (samples_from (drop 44 bytes))
 
--- the sum of the samples in the file of this name
+-- The sum of all samples in the WAV file of this name; 0 where there is no such file.
 abbrev pub sum_at : Files → (name : List ℕ) → ℤ
 sum_at files name = sum_of (unwrap_or (file_at files name) [])
 
--- the end of the line of an output in a summary: the sum of its samples
+-- The last part of an output's line in the summary of a workload: ` sum `, the sum of its samples, and a line feed.
 abbrev pub sum_part : (sum : ℤ) → List ℕ
 sum_part sum = codes " sum " ++ signed_decimal sum ++ codes "\n"
 
--- the line of an output in a summary: its samples on each side, its gaps, and the sum of its samples
+-- The line of one output in the summary of a workload: its name, the samples on each side, the gaps, and the sum of its
+-- samples.
 abbrev pub summed_line : (name : List ℕ) (samples gaps : ℕ) (sum : ℤ) → List ℕ
 summed_line name samples gaps sum = counted_part name samples gaps ++ sum_part sum
 
--- the lines of a summary for the outputs among these sinks; `files` has what was written of them
+-- The lines of the summary of a workload for these sinks of the plan: one for each output, in order, from what the run
+-- wrote to `files`. A feed of a buffer has none.
 abbrev pub summed_lines : Station → Run → Files → List SinkPlan → List ℕ
 summed_lines station run files [] = []
 summed_lines station run files (Output name node fallible wide ∷ sinks) =
@@ -35,12 +37,13 @@ summed_lines station run files (Output name node fallible wide ∷ sinks) =
     ++ summed_lines station run files sinks
 summed_lines station run files (Feed buffer node ∷ sinks) = summed_lines station run files sinks
 
--- the summary of a run that wrote its outputs among these files
+-- The summary that is printed of a workload: a line for each output of the run, by what it wrote among these files.
 abbrev pub summary_of : Files → Station → Run → List ℕ
 summary_of files station run = summed_lines station run (with_outputs files (output_files station run))
     station.plan.sinks
 
--- rounds on one thread have one record, and this summary
+-- This is the summary that one thread has: rounds on one thread have exactly one record, and the summary of that record
+-- is this one.
 pub record SumsAsOneThread (files : Files) (station : Station) (summary : List ℕ) : Type 0 where
   pub alone : Run
   pub rounds : IsRounds (bare station) station.clocks.running station.ticks alone

@@ -24,8 +24,8 @@ use Rattle.workload_gen.specs.Files.{workload}
 use Rattle.station_jobs.specs.Replays.{IsReplayFault, IsWayOf}
 use Rattle.station_jobs.specs.Words.{Asked, Check, Make, Render, Rendering, Replay, IsAsked, HasNoForm, rendering_by, rendering_of}
 
--- the usage line, the first fault of the script, a station that is checked, one that is rendered, or that of a
--- workload, with its files
+-- What a call comes to, before anything is rendered: the usage line, a refusal for the first fault, or an accepted
+-- script as a station, which is to be checked, rendered, or rendered and summed up over the files of a workload.
 pub data Verdict : Type 0 where
   Usage : Verdict
   Refused : Fault → Verdict
@@ -33,72 +33,77 @@ pub data Verdict : Type 0 where
   Accepted : Station → Verdict
   Made : Files → Station → Verdict
 
--- the line that a call prints if its words have no form
+-- The line that a call prints if its words have no form: it shows the four forms.
 abbrev pub usage_line : List ℕ
 usage_line = codes "usage: check FILE | render FILE N [--one-thread] [--window=W] [--start=D:HH:MM:SS] [--trace=NAME] [--cues] | make SEED SIZE | replay FILE N TRACE [--start=D:HH:MM:SS]\n"
 
--- the script is there, and this is its plan
+-- The script in `file` is among these files, and evaluates to this plan.
 pub record HasPlan (files : Files) (file : List ℕ) (plan : Plan) : Type 0 where
   pub script : List ℕ
   pub there : file_at files file ≡ Some script
   pub is_plan : IsPlan script plan
 
--- the script is there, and has this fault, and no plan
+-- The script in `file` is among these files, and has no plan, for this fault in its text, types or evaluation.
 pub record HasPlanFault (files : Files) (file : List ℕ) (fault : ScriptFault) : Type 0 where
   pub script : List ℕ
   pub there : file_at files file ≡ Some script
   pub is_fault : IsPlanFault script fault
 
--- a sink is the output of this name
+-- Whether a sink of the plan is an output to the file of this name. A feed of a buffer writes no file.
 abbrev pub has_name : (name : List ℕ) → SinkPlan → Bool
 has_name name (Output own node fallible wide) = bytes_eq own name
 has_name name (Feed buffer node) = false
 
--- the name of the cue file of an output, if an output among all sinks has it
+-- Whether the cue file of this sink would overwrite an output: gives its name where an output among `all` sinks has the
+-- same.
 abbrev pub cue_clash_at : (all : List SinkPlan) → SinkPlan → Option (List ℕ)
 cue_clash_at all (Output name node fallible wide) = if list_any (has_name (cue_name name)) all then Some (cue_name name)
     else None
 cue_clash_at all (Feed buffer node) = None
 
--- the first name of a cue file of these sinks that an output among all sinks has
+-- The name of the first cue file of these sinks that would overwrite an output among `all` sinks, if there is one.
 abbrev pub first_cue_clash : (all : List SinkPlan) → List SinkPlan → Option (List ℕ)
 first_cue_clash all [] = None
 first_cue_clash all (sink ∷ sinks) = option_or (cue_clash_at all sink) (first_cue_clash all sinks)
 
--- the first name of a cue file that is an output's too, if cue files are wanted
+-- The name of the first cue file of a plan that would overwrite an output; none where no cue files are wanted.
 abbrev pub cue_clash : Plan → (cues : Bool) → Option (List ℕ)
 cue_clash plan false = None
 cue_clash plan true = first_cue_clash plan.sinks plan.sinks
 
--- a sink is the output of this name, or, where cue files are wanted, one whose cue file has it
+-- Whether this sink makes a file of this name: it is an output to it, or, where cue files are wanted, its cue file has
+-- this name.
 abbrev pub writes_to : (name : List ℕ) (cues : Bool) → SinkPlan → Bool
 writes_to name cues (Output own node fallible wide) = bytes_eq own name || (cues && bytes_eq name (cue_name own))
 writes_to name cues (Feed buffer node) = false
 
--- the name of the trace, if one is wanted and an output or a cue file has it
+-- The name of the trace file, where one is wanted and an output or a cue file of the plan would have the same name.
 abbrev pub trace_clash : Plan → (trace : Option (List ℕ)) (cues : Bool) → Option (List ℕ)
 trace_clash plan None cues = None
 trace_clash plan (Some name) cues = if list_any (writes_to name cues) plan.sinks then Some name else None
 
--- the first name that two files of a rendering would have: that of a cue file and an output, in sink order; then that
--- of the trace and an output or a cue file
+-- The first file name that a rendering of the plan would write twice: that of a cue file and an output, in the order of
+-- the sinks; then that of the trace and another file.
 abbrev pub clash_of : Plan → (trace : Option (List ℕ)) (cues : Bool) → Option (List ℕ)
 clash_of plan trace cues = option_or (cue_clash plan cues) (trace_clash plan trace cues)
 
--- the script has a plan, and this is the first name that two files of its rendering would have
+-- A rendering is refused, as it would write two files of this name: its script has a plan, and this is the first such
+-- name.
 pub record HasClash (files : Files) (rendering : Rendering) (name : List ℕ) : Type 0 where
   pub plan : Plan
   pub has_plan : HasPlan files rendering.file plan
   pub clash : clash_of plan rendering.trace rendering.cues ≡ Some name
 
--- the script has a plan, whose rendering writes no name twice, and which for so many ticks has this fault
+-- A rendering is refused for a fault of its plan, such as missing audio or clashing clocks: the script has a plan,
+-- which writes no name twice and has this fault for so many ticks.
 pub record HasUnfitPlan (files : Files) (rendering : Rendering) (fault : StationFault) : Type 0 where
   pub plan : Plan
   pub has_plan : HasPlan files rendering.file plan
   pub apart : clash_of plan rendering.trace rendering.cues ≡ None
   pub is_fault : IsStationFault files plan rendering.ticks fault
 
--- the first fault of the script of a rendering; it is none of a trace
+-- The first fault of the script of a rendering: the file is not there, it has no plan, it would write a name twice, or
+-- the plan does not fit its files and clocks. Faults of a trace are not among these.
 abbrev pub IsScriptFault : Files → Rendering → Fault → Type 0
 IsScriptFault files rendering NoScript = file_at files rendering.file ≡ None
 IsScriptFault files rendering (Script fault) = HasPlanFault files rendering.file fault
@@ -106,14 +111,16 @@ IsScriptFault files rendering (SameFile name) = HasClash files rendering name
 IsScriptFault files rendering (Fault.Station fault) = HasUnfitPlan files rendering fault
 IsScriptFault files rendering (Fault.Replay fault) = ⊥
 
--- the script is accepted, and these are its plan, with its audio files and clocks
+-- The script of a rendering is accepted: it has this plan, no two of its files would have one name, and these are its
+-- audio files and clocks.
 pub record IsPrepared (files : Files) (rendering : Rendering) (plan : Plan) (library : Sounds) (clocks : ClockMap) : Type
     0 where
   pub has_plan : HasPlan files rendering.file plan
   pub apart : clash_of plan rendering.trace rendering.cues ≡ None
   pub renderable : IsRenderable files plan rendering.ticks library clocks
 
--- the script is accepted, and is not rendered again by the trace in the file of this name, for this fault
+-- A replay is refused: its script is accepted, but it cannot be rendered again by the trace in the file of this name,
+-- for this fault.
 pub record HasUntold (files : Files) (rendering : Rendering) (trace : List ℕ) (fault : Fault) : Type 0 where
   pub plan : Plan
   pub library : Sounds
@@ -124,7 +131,7 @@ pub record HasUntold (files : Files) (rendering : Rendering) (trace : List ℕ) 
   pub is_fault : IsReplayFault files trace (base_of plan library clocks rendering.start) clocks.running rendering.ticks
       untold
 
--- a fault of the trace of a replay; what asks for no replay has none
+-- The fault of the trace of a replay, whose script is accepted. A call that asks for no replay has no such fault.
 abbrev pub IsTraceFault : Asked → Files → Fault → Type 0
 IsTraceFault (Check file) files fault = ⊥
 IsTraceFault (Render rendering window) files fault = ⊥
@@ -132,13 +139,14 @@ IsTraceFault (Make seed size) files fault = ⊥
 IsTraceFault (Replay file start ticks trace) files fault = HasUntold files
     (rendering_by file start ticks None false) trace fault
 
--- the way of a rendering: by threads in windows of so many ticks, or in rounds on one thread if no window is given
+-- How a rendering makes its ticks: by threads, in windows of so many ticks; where no window is given, in rounds of all
+-- clocks on one thread.
 abbrev pub way_in : (window : Option ℕ) → Way
 way_in None = InRounds
 way_in (Some window) = InWindows window
 
--- an accepted script is rendered in this way: a check, of no tick, in rounds; a workload by threads in windows of 16
--- ticks; a replay as its trace tells
+-- How an accepted script makes its ticks, by what is asked: a check (of no tick) in rounds on one thread, a rendering
+-- as its options say, a workload by threads in windows of 16 ticks, a replay as its trace tells.
 abbrev pub IsWayFor : Asked → Files → Plan → Sounds → ClockMap → Way → Type 0
 IsWayFor (Check file) files plan library clocks way = way ≡ InRounds
 IsWayFor (Render rendering window) files plan library clocks way = way ≡ way_in window
@@ -146,7 +154,8 @@ IsWayFor (Make seed size) files plan library clocks way = way ≡ InWindows 16
 IsWayFor (Replay file start ticks trace) files plan library clocks way = IsWayOf files trace
     (base_of plan library clocks start) clocks.running ticks way
 
--- the station of a plan with its audio files and clocks, which is rendered in this way
+-- The station of a rendering, which is all that its run rests on: the plan, its audio files and clocks, the start, the
+-- number of ticks, how they are made, and whether a trace and cue files are wanted.
 abbrev pub station_for : Rendering → Plan → Sounds → ClockMap → Way → Station
 station_for rendering plan library clocks way = record {
   plan = plan;
@@ -159,60 +168,66 @@ station_for rendering plan library clocks way = record {
   cues = rendering.cues;
 }
 
--- the script is accepted, and this is its station: its plan, with its audio files and clocks, its way, and what else is
--- asked for
+-- The script of a call is accepted, and this is its station: its plan with its audio files and clocks, how its ticks
+-- are made, and the start, ticks, trace and cue files that are asked for.
 pub record IsStation (asked : Asked) (files : Files) (station : Station) : Type 0 where
   pub prepared : IsPrepared files (rendering_of asked) station.plan station.library station.clocks
   pub is_way : IsWayFor asked files station.plan station.library station.clocks station.way
   pub rest_is : station ≡ station_for (rendering_of asked) station.plan station.library station.clocks station.way
 
--- the files of the workload of this seed, with so many audio files
+-- The files of the workload that a seed makes: a script and `size` audio files. The same seed and size make the same
+-- files.
 unfoldable pub files_made : (seed size : ℕ) → Files
 files_made seed size = from_entries (workload seed (size - 1))
 
--- the files over which what is asked for is judged: a workload brings its own
+-- The files over which a call is judged: those of the shelf that it is given, but for a workload those that it makes
+-- itself.
 abbrev pub files_for : Asked → Files → Files
 files_for (Check file) files = files
 files_for (Render rendering window) files = files
 files_for (Make seed size) files = files_made seed size
 files_for (Replay file start ticks trace) files = files
 
--- the verdict on what is asked for, if this is its station: it is checked, rendered, or that of a workload with its
--- files
+-- The verdict on a call whose script is accepted as this station: it is checked, rendered, or rendered and summed up
+-- over the files of a workload.
 abbrev pub verdict_for : Asked → Station → Verdict
 verdict_for (Check file) station = Checked station
 verdict_for (Render rendering window) station = Accepted station
 verdict_for (Make seed size) station = Made (files_made seed size) station
 verdict_for (Replay file start ticks trace) station = Accepted station
 
--- the first fault of what is asked for: of its script, and if that has none, of the trace of a replay
+-- The first fault for which a call is refused: one of its script, or, if that is accepted, one of the trace of a
+-- replay.
 abbrev pub IsRefusal : Asked → Files → Fault → Type 0
 IsRefusal asked files fault =
     IsScriptFault (files_for asked files) (rendering_of asked) fault ⊎ IsTraceFault asked files fault
 
--- the verdict on what is asked for: its first fault, or its station
+-- This is the verdict on what a call asks for, over these files: a refusal for its first fault, or the station of its
+-- accepted script.
 abbrev pub IsVerdictOn : Asked → Files → Verdict → Type 0
 IsVerdictOn asked files verdict =
     ((fault : Fault) × (verdict ≡ Refused fault) × IsRefusal asked files fault)
     ⊎ ((station : Station) × (verdict ≡ verdict_for asked station) × IsStation asked (files_for asked files) station)
 
--- the words have a form, and this is the verdict on what they ask for
+-- The words of a call have one of the forms of the usage line, and this is the verdict on what they ask for over these
+-- files.
 pub record IsFormed (words : List (List ℕ)) (files : Files) (verdict : Verdict) : Type 0 where
   pub asked : Asked
   pub is_asked : IsAsked words asked
   pub is_verdict : IsVerdictOn asked files verdict
 
--- the verdict on these words over these files: words of no form have the usage line
+-- This is the verdict on the words of a call over these files: the usage line if the words have no form, and else that
+-- on what they ask for.
 abbrev pub IsVerdict : List (List ℕ) → Files → Verdict → Type 0
 IsVerdict words files verdict = ((verdict ≡ Usage) × HasNoForm words) ⊎ IsFormed words files verdict
 
--- words and files have one verdict and no other, and P holds of it
+-- The words of a call over these files have one verdict and no other, and P holds of this verdict.
 pub record ForVerdict (words : List (List ℕ)) (files : Files) (P : Verdict → Type 0) : Type 0 where
   pub verdict : Verdict
   pub is_verdict : IsVerdict words files verdict
   pub only : (other : Verdict) → IsVerdict words files other → other ≡ verdict
   pub holds : P verdict
 
--- P holds of each verdict on these words over these files
+-- P holds of each verdict that the words of a call may have over these files.
 abbrev pub ForEachVerdict : List (List ℕ) → Files → (Verdict → Type 0) → Type 0
 ForEachVerdict words files P = (verdict : Verdict) → IsVerdict words files verdict → P verdict

@@ -14,8 +14,8 @@ use refusal_lines::Fault;
 use station_render::cue_file_name;
 use std::alloc::Global;
 
-/// Refuses two files of one name: where cue files are wanted, one that has the name of an output; then a trace that has
-/// the name of an output or of a cue file.
+/// Refuses a rendering that would write two files of one name: a cue file (where they are wanted) and an output, or the
+/// trace and an output or a cue file.
 pub fn keep_apart(
     alloc: Global,
     plan: &Plan,
@@ -47,7 +47,7 @@ fn find_clash(
     find_trace_clash(alloc, plan, trace, cues)
 }
 
-// If cue files are wanted, the name of the first one that an output has too.
+// If cue files are wanted, the name of the first one that would overwrite an output; else `None`.
 fn find_cue_clash(alloc: Global, plan: &Plan, cues: bool) -> Result<Option<Text>, Memory>
     ensures { IfOk result (λ name. name ≡ cue_clash plan.now cues) }
 {
@@ -62,7 +62,7 @@ fn find_cue_clash(alloc: Global, plan: &Plan, cues: bool) -> Result<Option<Text>
     Ok(None)
 }
 
-// The name of the cue file of an output, if an output of the plan has it.
+// The name of the cue file of this sink, if it is an output, and if an output of the plan has the same name.
 fn cue_clash_of(alloc: Global, plan: &Plan, sink: &SinkPlan) -> Result<Option<Text>, Memory>
     ensures { IfOk result (λ name. name ≡ cue_clash_at plan.now.sinks sink.now) }
 {
@@ -77,7 +77,7 @@ fn cue_clash_of(alloc: Global, plan: &Plan, sink: &SinkPlan) -> Result<Option<Te
     Ok(Some(file))
 }
 
-// The name of the trace, if an output has it, or, where they are wanted, a cue file.
+// The name of the trace, if one is wanted and an output, or a wanted cue file, has the same name.
 fn find_trace_clash(
     alloc: Global,
     plan: &Plan,
@@ -95,7 +95,8 @@ fn find_trace_clash(
     Ok(Some(Text::from_str(alloc, name)?))
 }
 
-// Whether an output has this name, or, where cue files are wanted, one of them.
+// Whether another file of a rendering has this name: an output of the plan, or, where cue files are wanted, the cue
+// file of one.
 fn is_taken(plan: &Plan, name: &str, cues: bool) -> bool
     ensures { result ≡ list_any (writes_to name.now cues) plan.now.sinks }
 {
@@ -107,7 +108,8 @@ fn is_taken(plan: &Plan, name: &str, cues: bool) -> bool
     false
 }
 
-// Whether a sink is the output of this name, or, where cue files are wanted, one whose cue file has it.
+// Whether a sink of the plan makes a file of this name: it is an output to it, or, where cue files are wanted, its cue
+// file has this name.
 fn writes_to(name: &str, cues: bool, sink: &SinkPlan) -> bool
     ensures { result ≡ writes_to name.now cues sink.now }
 {
@@ -119,7 +121,7 @@ fn writes_to(name: &str, cues: bool, sink: &SinkPlan) -> bool
     }
 }
 
-// Whether a name is that of the cue file of an output.
+// Whether `name` is the cue file of this output: the output's name with `.cue` behind it.
 fn is_cue_file(name: &str, output: &str) -> bool
     ensures { result ≡ bytes_eq name.now (cue_name output.now) }
 {
@@ -129,7 +131,7 @@ fn is_cue_file(name: &str, output: &str) -> bool
     }
 }
 
-// Whether an output of a plan has this name.
+// Whether an output of the plan goes to the file of this name.
 fn is_output(plan: &Plan, name: &str) -> bool
     ensures { result ≡ list_any (has_name name.now) plan.now.sinks }
 {
@@ -141,7 +143,7 @@ fn is_output(plan: &Plan, name: &str) -> bool
     false
 }
 
-// Whether a sink is the output of this name.
+// Whether a sink of the plan is an output to the file of this name. A feed of a buffer writes no file.
 fn has_name(name: &str, sink: &SinkPlan) -> bool
     ensures { result ≡ has_name name.now sink.now }
 {

@@ -28,6 +28,7 @@ impl From<Memory> for CallEnd {
 
     ghost from_gives = { λ _ e. e ≡ no_memory };
 
+    // Ends the call where memory was refused.
     fn from(_refused: Memory) -> Self {
         CallEnd::Memory
     }
@@ -38,6 +39,7 @@ impl From<ScriptFault> for CallEnd {
 
     ghost from_gives = { λ fault e. e ≡ halt_of_script fault };
 
+    // Ends the call where its script has no plan: refused for the fault, or for want of memory.
     fn from(fault: ScriptFault) -> Self {
         match fault {
             ScriptFault::Lex(fault) => CallEnd::Refused(Fault::Script(ScriptFault::Lex(fault))),
@@ -54,6 +56,7 @@ impl From<CheckEnd> for CallEnd {
 
     ghost from_gives = { λ halt e. e ≡ halt_of_check halt };
 
+    // Ends the call where its plan failed the check: refused for the fault, a failed read, or want of memory.
     fn from(halt: CheckEnd) -> Self {
         match halt {
             CheckEnd::Refused(fault) => CallEnd::Refused(Fault::Station(fault)),
@@ -68,6 +71,7 @@ impl From<RenderFault> for CallEnd {
 
     ghost from_gives = { λ fault e. e ≡ halt_of_render fault };
 
+    // Ends the call where its rendering broke off: a failed write, or want of memory.
     fn from(fault: RenderFault) -> Self {
         match fault {
             RenderFault::Write => CallEnd::Write,

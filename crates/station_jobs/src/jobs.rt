@@ -1,4 +1,4 @@
-// What is done before the last text is written.
+// The jobs of a call: checks and renderings, each to its report.
 ghost use Rattle.std.specs.Prelude.{◌≡◌, IfOk, IfErr, None, Ok, Some};
 ghost use Rattle.std.specs.Option.{ForSome};
 ghost use Rattle.liq_base.specs.Shelves.{OnlyRead, ShelfTold};
@@ -21,7 +21,8 @@ use std::alloc::Global;
 use std::sync::Wait;
 use std::thread::Threads;
 
-/// The report of a check. No file changes.
+/// Does `check`: reads the script of this name with its audio files, and gives the report on its outputs and clocks. No
+/// file changes.
 pub fn check_job<S: Shelf>(alloc: Global, file: &str, shelf: &mut S) -> Result<String, CallEnd>
     ensures { Ended (Check file.now) (S.told shelf.old) (S.told shelf.new) result }
 {
@@ -29,7 +30,8 @@ pub fn check_job<S: Shelf>(alloc: Global, file: &str, shelf: &mut S) -> Result<S
     report_or_halt(check_report(alloc, &work.plan, &work.clocks))
 }
 
-/// The report of a rendering on one thread, whose outputs, and then their cue files, if they are wanted, are written.
+/// Renders a script on one thread: writes its outputs to the shelf, and then their cue files, if they are wanted. Gives
+/// the report of the rendering.
 pub fn alone_job<S: Shelf>(
     alloc: Global,
     asked: &Rendering<'_>,
@@ -42,8 +44,8 @@ pub fn alone_job<S: Shelf>(
     conclude(alloc, &job, ended)
 }
 
-/// The report of a rendering by threads, whose outputs, then their cue files and then its trace, if these are wanted,
-/// are written.
+/// Renders a script by threads, in windows of ticks: writes its outputs, then their cue files and its trace, if these
+/// are wanted. Gives the report of the rendering.
 pub fn threads_job<S: Shelf, G: Gate + Sync, R: Threads + Wait + Sync>(
     rt: &R,
     alloc: Global,
@@ -60,7 +62,7 @@ pub fn threads_job<S: Shelf, G: Gate + Sync, R: Threads + Wait + Sync>(
     conclude(alloc, &job, ended)
 }
 
-/// The end of a job, by the end of its rendering: its report, or why there is none.
+/// Ends a job from how its rendering ended: gives the report of the rendering, or why there is none.
 pub(crate) fn conclude(
     alloc: Global,
     job: &Job<'_>,
@@ -83,8 +85,8 @@ pub(crate) fn conclude(
     report_or_halt(report(alloc, &job.plan, job.ticks, &rendered))
 }
 
-/// The report, or that memory was refused for it. It is a function of its own, since with a plan alive a `?` would be
-/// one more place at which the caller ends.
+/// Hands a report on, or ends the call where memory was refused for it. It is a function of its own, since with a plan
+/// alive a `?` would be one more place at which the caller ends.
 pub(crate) fn report_or_halt(report: Result<String, Memory>) -> Result<String, CallEnd>
     ensures told { IfOk result (λ text. report ≡ Ok text) }
     ensures starved { IfErr result (λ halt. halt ≡ no_memory) }

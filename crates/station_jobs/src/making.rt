@@ -1,4 +1,4 @@
-// A workload is made, rendered and told.
+// A workload is made from a seed, rendered and summed up.
 ghost use Rattle.std.specs.Prelude.{◌≡◌, [], true, IfOk};
 ghost use Rattle.liq_base.specs.Shelves.{ShelfTold};
 ghost use Rattle.station_jobs.specs.Verdicts.{files_made};
@@ -28,7 +28,8 @@ const TICKS: u64 = 500;
 /// How many ticks a window of its rendering has.
 const WINDOW: u64 = 16;
 
-/// The summary of the workload of a seed and a size. Its files and its outputs are in a shelf of its own.
+/// Does `make`: makes the script and audio files of a workload from a seed, renders them by threads, and gives the
+/// summary. Its files and outputs are in memory, in a shelf of its own.
 pub fn make_job<G: Gate + Sync, R: Threads + Wait + Sync>(
     rt: &R,
     alloc: Global,
@@ -42,7 +43,8 @@ pub fn make_job<G: Gate + Sync, R: Threads + Wait + Sync>(
     sum_workload(rt, alloc, seed, size, &mut shelf, gate)
 }
 
-// The summary of the workload of a seed and a size, over the shelf that holds its files.
+// Renders the workload of a seed and a size over the shelf that holds its files, and gives the summary: each output
+// with its gaps and the sum of its samples.
 fn sum_workload<G: Gate + Sync, R: Threads + Wait + Sync>(
     rt: &R,
     alloc: Global,
@@ -73,14 +75,14 @@ fn sum_workload<G: Gate + Sync, R: Threads + Wait + Sync>(
     report_or_halt(summary(alloc, &job.plan, TICKS, &rendered.gaps, shelf))
 }
 
-// Whether a plan has no buffer.
+// Whether a plan has no buffer, so that no source passes from one clock to another.
 fn is_unbuffered(plan: &Plan) -> bool
     ensures { result ≡ true → plan.now.buffers ≡ [] }
 {
     plan.buffers.as_slice().is_empty()
 }
 
-// A shelf with the files of a workload.
+// Makes the files of the workload of a seed and a size, and gives a shelf in memory that holds them.
 fn workload_shelf(alloc: Global, seed: u64, size: Size) -> Result<SureShelf, Memory>
     ensures { IfOk result (λ shelf. shelf ≡ files_made seed size.files) }
 {
@@ -88,7 +90,7 @@ fn workload_shelf(alloc: Global, seed: u64, size: Size) -> Result<SureShelf, Mem
     Ok(SureShelf::new(alloc, files))
 }
 
-// The name of the script of a workload.
+// The name under which the script of a workload stands among its files.
 fn script_name() -> &'static str
     ensures { result.now ≡ made_script }
 {

@@ -19,7 +19,8 @@ pub struct Options<'a> {
     pub cues: bool,
 }
 
-/// The options that words are, in any order and each at most once; nothing if a word is none.
+/// Reads the words behind `render FILE N` as options, in any order and each at most once; `None` if a word is no option
+/// or is said twice.
 pub fn read_options(words: &[String]) -> Option<Options<'_>>
     ensures found { IfSome result (λ options. AreOptions no_options (texts words.now) (options_of options)) }
     ensures only { (all : AllOptions) → AreOptions no_options (texts words.now) all
@@ -38,7 +39,8 @@ pub fn read_options(words: &[String]) -> Option<Options<'_>>
     Some(options)
 }
 
-// The options with the one that a word is; nothing if it is none, or was said before.
+// Reads one word as an option of a rendering, and adds it to those before; `None` if it is no option or was said
+// before.
 fn read_option<'a>(word: &'a str, before: Options<'a>) -> Option<Options<'a>>
     ensures found { IfSome result (λ after. IsOption word.now (options_of before.entry) (options_of after)) }
     ensures only { (after : AllOptions) → IsOption word.now (options_of before.entry) after
@@ -60,7 +62,7 @@ fn read_option<'a>(word: &'a str, before: Options<'a>) -> Option<Options<'a>>
     with_trace(trace, before)
 }
 
-// The options with `--one-thread`, where it was not there before.
+// Adds `--one-thread` to the options; `None` if it was said before.
 fn with_one_thread<'a>(before: Options<'a>) -> Option<Options<'a>>
     ensures { option_map options_of result ≡ (if before.entry.one_thread then None
         else Some (record (options_of before.entry) { one_thread = true })) }
@@ -74,7 +76,7 @@ fn with_one_thread<'a>(before: Options<'a>) -> Option<Options<'a>>
     })
 }
 
-// The options with `--cues`, where it was not there before.
+// Adds `--cues` to the options, which asks for cue files; `None` if it was said before.
 fn with_cues<'a>(before: Options<'a>) -> Option<Options<'a>>
     ensures { option_map options_of result ≡ (if before.entry.cues then None
         else Some (record (options_of before.entry) { cues = true })) }
@@ -88,7 +90,7 @@ fn with_cues<'a>(before: Options<'a>) -> Option<Options<'a>>
     })
 }
 
-// The options with a window, where none was there before.
+// Adds the length of a window, in ticks, to the options; `None` if one was said before.
 fn with_window<'a>(window: Window, before: Options<'a>) -> Option<Options<'a>>
     ensures { option_map options_of result ≡ (if is_some before.entry.window then None
         else Some (record (options_of before.entry) { window = Some window.ticks })) }
@@ -102,7 +104,7 @@ fn with_window<'a>(window: Window, before: Options<'a>) -> Option<Options<'a>>
     })
 }
 
-// The options with a start, where none was there before.
+// Adds the second of the week of the start to the options; `None` if a start was said before.
 fn with_start<'a>(start: WeekSecond, before: Options<'a>) -> Option<Options<'a>>
     ensures { option_map options_of result ≡ (if is_some before.entry.start then None
         else Some (record (options_of before.entry) { start = Some start.second })) }
@@ -116,7 +118,7 @@ fn with_start<'a>(start: WeekSecond, before: Options<'a>) -> Option<Options<'a>>
     })
 }
 
-// The options with a trace, where none was there before.
+// Adds the name of the trace's file to the options; `None` if one was said before.
 fn with_trace<'a>(trace: &'a str, before: Options<'a>) -> Option<Options<'a>>
     ensures { option_map options_of result ≡ (if is_some before.entry.trace then None
         else Some (record (options_of before.entry) { trace = Some trace.now })) }
@@ -130,7 +132,7 @@ fn with_trace<'a>(trace: &'a str, before: Options<'a>) -> Option<Options<'a>>
     })
 }
 
-/// The window that options give: 16 ticks if they say none.
+/// How many ticks a window of threads has with these options: 16 if they do not say it.
 pub fn window_of(options: Options<'_>) -> Window
     ensures { result.ticks ≡ unwrap_or (options_of options.entry).window 16 }
 {
@@ -140,7 +142,7 @@ pub fn window_of(options: Options<'_>) -> Window
     }
 }
 
-/// The start that options give: the first second of the week if they say none.
+/// The second of the week at which a rendering with these options begins: 0, Monday at midnight, if they do not say it.
 pub fn start_of(options: Options<'_>) -> WeekSecond
     ensures { result.second ≡ start_in (options_of options.entry) }
 {
@@ -150,7 +152,7 @@ pub fn start_of(options: Options<'_>) -> WeekSecond
     }
 }
 
-/// The start that a word `--start=D:HH:MM:SS` gives.
+/// Reads a word `--start=D:HH:MM:SS` as a second of the week; `None` for any other word.
 pub fn read_start_option(word: &str) -> Option<WeekSecond>
     ensures found { IfSome result (λ start. IsStart word.now start.second) }
     ensures only { (start : ℕ) → IsStart word.now start → IsSomeAnd result (λ found. found.second ≡ start) }
@@ -159,7 +161,7 @@ pub fn read_start_option(word: &str) -> Option<WeekSecond>
     read_start(text)
 }
 
-// The name that a word `--trace=NAME` gives; it is not empty.
+// Reads a word `--trace=NAME`, and gives the name of the file; `None` for any other word, or an empty name.
 fn read_trace_option(word: &str) -> Option<&str>
     ensures found { IfSome result (λ name. IsTraceName word.now name.now) }
     ensures only { (name : List ℕ) → IsTraceName word.now name → IsSomeAnd result (λ found. found.now ≡ name) }

@@ -31,8 +31,8 @@ pub struct CheckedPlan {
     pub clocks: ClockMap,
 }
 
-/// The job that is asked for: the script is read, and then its audio files are. Its outputs, its cue files where they
-/// are wanted, and the trace of this name where one is wanted, all have names of their own.
+/// Makes the job of a rendering ready to run: reads the script, evaluates it to a plan, refuses two files of one name,
+/// and reads the audio files and finds the clocks.
 pub fn prepare<'a, S: Shelf>(
     alloc: Global,
     asked: &Rendering<'a>,
@@ -59,8 +59,8 @@ pub fn prepare<'a, S: Shelf>(
     })
 }
 
-/// The plan and the clocks of the script of this name, as `prepare` finds them for no tick. Its audio files are read
-/// and given back, and none is decoded.
+/// Reads the script of this name for a check, which renders no tick: gives its plan and clocks, or the fault. Its audio
+/// files are read and given back, and none is decoded.
 pub fn prepare_check<S: Shelf>(
     alloc: Global,
     file: &str,
@@ -78,7 +78,8 @@ pub fn prepare_check<S: Shelf>(
     Ok(CheckedPlan { plan, clocks })
 }
 
-// The plan of the script of this name, if its outputs, its cue files and the trace have names of their own.
+// Reads the script of this name and evaluates it to its plan. Refuses it if two of its outputs, cue files and trace
+// would have one name.
 fn read_plan<S: Shelf>(
     alloc: Global,
     file: &str,
@@ -100,7 +101,7 @@ fn read_plan<S: Shelf>(
     Ok(plan)
 }
 
-// The bytes of the script of this name.
+// Reads the bytes of the script of this name from the shelf. A script that is missing or too large is refused.
 fn read_script<S: Shelf>(alloc: Global, file: &str, shelf: &mut S) -> Result<Vec<u8>, CallEnd>
     ensures script { IfOk result (λ script. ForSome (S.told shelf.old).files (λ files. file_at files file.now
         ≡ Some script.items)) }

@@ -13,8 +13,8 @@ use liq_base::Shelf;
 use station_render::render_again;
 use std::alloc::Global;
 
-/// The report of a replay on one thread, whose outputs are written: those of the record that the trace tells. The trace
-/// is read behind the script and its audio files, and before an output is created, so an output may have its name.
+/// Does `replay`: renders a script again on one thread, as the trace in a file tells, and gives the report. The trace
+/// is read before an output is created, so an output may have its name.
 pub fn replay_job<S: Shelf>(
     alloc: Global,
     file: &str,

@@ -10,7 +10,8 @@ use track_library::read_samples;
 /// How many bytes the header of an output has.
 const HEADER_BYTES: usize = 44;
 
-/// The sum of the samples in the file of this name, of both sides; 0 if there is no such file.
+/// The sum of all samples of a WAV file of 16 bits, left and right, by its name in the shelf; 0 if there is no such
+/// file.
 pub fn sum_at(alloc: Global, shelf: &SureShelf, name: &str) -> Result<i128, Memory>
     ensures { IfOk result (λ sum. sum ≡ sum_at shelf.now name.now) }
 {
@@ -18,7 +19,7 @@ pub fn sum_at(alloc: Global, shelf: &SureShelf, name: &str) -> Result<i128, Memo
     Ok(sum_of(&samples))
 }
 
-// The bytes of the file of this name; none where there is no file.
+// The bytes of the file of this name in the shelf; none where there is no file.
 fn file_bytes<'a>(shelf: &'a SureShelf, name: &str) -> &'a [u8]
     ensures { result.now ≡ unwrap_or (file_at shelf.now name.now) [] }
 {
@@ -28,7 +29,7 @@ fn file_bytes<'a>(shelf: &'a SureShelf, name: &str) -> &'a [u8]
     }
 }
 
-// The bytes of a file after its header.
+// The bytes of a WAV file after its header of 44 bytes, which are its samples; none where it is shorter.
 fn behind_header(bytes: &[u8]) -> &[u8]
     ensures { result.now ≡ drop 44 bytes.now }
 {
@@ -39,7 +40,7 @@ fn behind_header(bytes: &[u8]) -> &[u8]
     body
 }
 
-// The sum of samples. A slice is never so long that the sum does not fit.
+// Adds up samples of 16 bits. A slice is never so long that the sum does not fit.
 fn sum_of(samples: &[i16]) -> i128
     ensures { result ≡ fold ◌+ℤ◌ (pos 0) samples.now }
 {

@@ -15,7 +15,7 @@ pub struct Size {
     ghost few: { files ≤ 100 },
 }
 
-/// The size that a word is: a number from 1 to 100.
+/// Reads a word of `make` as the number of audio files of a workload, from 1 to 100; `None` for any other word.
 pub fn read_size(word: &[u8]) -> Option<Size>
     ensures found { IfSome result (λ size. word.now ≡ decimal size.files) }
     ensures only { (n : ℕ) → 1 ≤ n → n ≤ 100 → word.now ≡ decimal n → IsSomeAnd result (λ size. size.files ≡ n) }

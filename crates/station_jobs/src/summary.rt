@@ -1,4 +1,4 @@
-// What is told of a workload.
+// The summary that is printed of a rendered workload.
 ghost use Rattle.std.specs.Prelude.{◌≡◌, ◌≤◌, ◌++◌, IfOk, OnOk, length, string_bytes};
 ghost use Rattle.run_records.specs.Records.{Run};
 ghost use Rattle.stations.specs.Stations.{Station};
@@ -12,8 +12,8 @@ use plan_core::{Plan, SinkPlan};
 use station_render::push_counts;
 use std::alloc::Global;
 
-/// The summary of a rendering of so many ticks, at most 1000000000, that wrote its outputs into this shelf: a line for
-/// each output, in sink order, with its gaps and the sum of its samples. `gaps` has those of each output.
+/// The summary of a workload that was rendered for so many ticks, at most 1000000000, into this shelf: a line for each
+/// output, in the order of the sinks, with its gaps (from `gaps`) and the sum of its samples.
 pub fn summary(
     alloc: Global,
     plan: &Plan,
@@ -42,7 +42,8 @@ pub fn summary(
     Ok(text)
 }
 
-// Appends the end of the line of an output: the sum of the samples in the file of this name.
+// Appends to the summary the last part of an output's line: ` sum `, the sum of the samples in the file of this name,
+// and a line feed.
 fn push_sum(alloc: Global, text: &mut String, shelf: &SureShelf, name: &str) -> Result<(), Memory>
     ensures { OnOk result (string_bytes text.new ≡ string_bytes text.old ++ sum_part (sum_at shelf.now name.now)) }
 {

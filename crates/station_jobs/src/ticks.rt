@@ -14,7 +14,7 @@ pub struct Ticks {
     ghost few: { count ≤ 10 ^ 9 },
 }
 
-/// The number of ticks that a word is: at most 1000000000.
+/// Reads a word as the number of ticks to be rendered, at most 1000000000; `None` for any other word.
 pub fn read_ticks(word: &[u8]) -> Option<Ticks>
     ensures found { IfSome result (λ ticks. word.now ≡ decimal ticks.count) }
     ensures only { (n : ℕ) → n ≤ 10 ^ 9 → word.now ≡ decimal n → IsSomeAnd result (λ ticks. ticks.count ≡ n) }

@@ -29,9 +29,9 @@ pub struct FoundTrace {
     pub turns: RecordTurns,
 }
 
-/// The trace in the file of this name, with all the turns of its record. It fits if it is that of a lawful record of
-/// this job whose ticks can be ordered. `docs/faults.md` has the faults, which are looked for in this order: no file,
-/// too many bytes, another form, no such record.
+/// Reads the trace in the file of this name, and finds the turns in which its ticks are replayed. The replay is
+/// refused, in this order, if there is no file, it is too large, is no trace, or is of no lawful run of this job.
+/// `docs/faults.md` has these faults.
 pub fn find_trace<S: Shelf>(
     alloc: Global,
     job: &Job<'_>,
@@ -66,7 +66,8 @@ pub fn find_trace<S: Shelf>(
     Ok(FoundTrace { trace, turns })
 }
 
-// The trace in the file of this name.
+// Reads the file of this name and parses it as a trace: what the buffers between clocks answered in a run. Refuses the
+// replay if it is none.
 fn read_trace<S: Shelf>(alloc: Global, name: &str, shelf: &mut S) -> Result<Trace, CallEnd>
     ensures form { IfOk result (λ trace. IsTrace trace) }
     ensures found { IfOk result (λ trace. ForSome (S.told shelf.old).files (λ files. HasTrace files name.now trace)) }
@@ -84,7 +85,8 @@ fn read_trace<S: Shelf>(alloc: Global, name: &str, shelf: &mut S) -> Result<Trac
     }
 }
 
-// The bytes of the file of this name.
+// Reads the bytes of the trace's file from the shelf. Refuses the replay if the file is missing or larger than a trace
+// may be.
 fn read_text<S: Shelf>(alloc: Global, name: &str, shelf: &mut S) -> Result<Vec<u8>, CallEnd>
     ensures found { IfOk result
         (λ text. ForSome (S.told shelf.old).files (λ files. HasText files name.now text.items)) }
@@ -102,7 +104,7 @@ fn read_text<S: Shelf>(alloc: Global, name: &str, shelf: &mut S) -> Result<Vec<u
     }
 }
 
-// The end of a replay whose trace is not there; want of memory may come in its place.
+// Why a replay ends whose trace is not there: a refusal with the name of the file, or want of memory to copy the name.
 fn no_trace(alloc: Global, name: &str) -> CallEnd
     ensures { IsUntold (NoTrace name.now) result }
 {
@@ -112,7 +114,7 @@ fn no_trace(alloc: Global, name: &str) -> CallEnd
     }
 }
 
-// The end of a replay whose trace is too large; want of memory may come in its place.
+// Why a replay ends whose trace is too large: a refusal with the name of the file, or want of memory to copy the name.
 fn too_large(alloc: Global, name: &str) -> CallEnd
     ensures { IsUntold (TraceTooLarge name.now) result }
 {

@@ -16,7 +16,7 @@ pub struct Window {
     ghost few: { ticks ≤ 10 ^ 6 },
 }
 
-/// The window that a word `--window=W` gives.
+/// Reads a word `--window=W` as the number of ticks of a window of threads; `None` for any other word.
 pub fn read_window_option(word: &str) -> Option<Window>
     ensures found { IfSome result (λ window. IsWindow word.now window.ticks) }
     ensures only { (window : ℕ) → IsWindow word.now window → IsSomeAnd result (λ found. found.ticks ≡ window) }
@@ -25,7 +25,7 @@ pub fn read_window_option(word: &str) -> Option<Window>
     read_window(text)
 }
 
-// The window that a text gives: a number of ticks from 1 to 1000000.
+// Reads the text behind `--window=` as a number of ticks from 1 to 1000000; `None` for any other text.
 fn read_window(text: &[u8]) -> Option<Window>
     ensures found { IfSome result (λ window. IsWindowText text.now window.ticks) }
     ensures only { (window : ℕ) → IsWindowText text.now window → IsSomeAnd result (λ found. found.ticks ≡ window) }

@@ -11,7 +11,8 @@ use crate::size::read_size;
 use crate::ticks::{Ticks, read_ticks};
 use fixed_text::{WeekSecond, read_u64};
 
-/// The form of the words; nothing if they have none.
+/// Reads the words of a call as one of the forms of the usage line: a check, a rendering, a workload or a replay;
+/// `None` if they have no form.
 pub fn read_words(words: &[String]) -> Option<Form<'_>>
     ensures found { IfSome result (λ form. IsAsked (texts words.now) (asked_of form)) }
     ensures only { (asked : Asked) → IsAsked (texts words.now) asked → option_map asked_of result ≡ Some asked }
@@ -28,7 +29,7 @@ pub fn read_words(words: &[String]) -> Option<Form<'_>>
     }
 }
 
-// What the words after `check` ask for: `FILE`.
+// Reads the words behind `check`, which are one FILE; `None` for any others.
 fn read_check(words: &[String]) -> Option<Form<'_>>
     ensures found { IfSome result (λ form. IsCheck (texts words.now) (asked_of form)) }
     ensures only { (asked : Asked) → IsCheck (texts words.now) asked → option_map asked_of result ≡ Some asked }
@@ -41,7 +42,7 @@ fn read_check(words: &[String]) -> Option<Form<'_>>
     }
 }
 
-// What the words after `render` ask for: `FILE N` and options.
+// Reads the words behind `render`: FILE, a number of ticks, and options; `None` for any others.
 fn read_render(words: &[String]) -> Option<Form<'_>>
     ensures found { IfSome result (λ form. IsRender (texts words.now) (asked_of form)) }
     ensures only { (asked : Asked) → IsRender (texts words.now) asked → option_map asked_of result ≡ Some asked }
@@ -54,7 +55,7 @@ fn read_render(words: &[String]) -> Option<Form<'_>>
     form_of(file.as_str(), ticks, options)
 }
 
-// What the words after `make` ask for: `SEED SIZE`.
+// Reads the words behind `make`: a SEED and a SIZE, the number of audio files; `None` for any others.
 fn read_make(words: &[String]) -> Option<Form<'_>>
     ensures found { IfSome result (λ form. IsMake (texts words.now) (asked_of form)) }
     ensures only { (asked : Asked) → IsMake (texts words.now) asked → option_map asked_of result ≡ Some asked }
@@ -67,7 +68,7 @@ fn read_make(words: &[String]) -> Option<Form<'_>>
     Some(Form::Make { seed, size })
 }
 
-// What the words after `replay` ask for: `FILE N TRACE`, and maybe a start.
+// Reads the words behind `replay`: FILE, a number of ticks, a TRACE, and maybe a start; `None` for any others.
 fn read_replay(words: &[String]) -> Option<Form<'_>>
     ensures found { IfSome result (λ form. IsReplayAsked (texts words.now) (asked_of form)) }
     ensures only { (asked : Asked) → IsReplayAsked (texts words.now) asked → option_map asked_of result ≡ Some asked }
@@ -85,7 +86,8 @@ fn read_replay(words: &[String]) -> Option<Form<'_>>
     })
 }
 
-// The start that options give, if they are this one or none.
+// Reads the options of a replay: none, for a start at second 0 of the week, or one `--start=` word; `None` for any
+// others.
 fn read_only_start(options: &[String]) -> Option<WeekSecond>
     ensures found { IfSome result (λ start. IsOnlyStart (texts options.now) start.second) }
     ensures only { (start : ℕ) → IsOnlyStart (texts options.now) start
@@ -98,7 +100,8 @@ fn read_only_start(options: &[String]) -> Option<WeekSecond>
     }
 }
 
-// The rendering of so many ticks that options ask for; nothing if a window or a trace is said beside `--one-thread`.
+// Makes the form of a rendering from its script, its ticks and the options that were read; `None` if a window or a
+// trace is said beside `--one-thread`.
 fn form_of<'a>(file: &'a str, ticks: Ticks, options: Options<'a>) -> Option<Form<'a>>
     ensures found { IfSome result (λ form. asked_of form
         ≡ AsksToRender (rendering_by file.now (start_in (options_of options.entry)) ticks.count

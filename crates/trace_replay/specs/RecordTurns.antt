@@ -11,22 +11,23 @@ use Rattle.trace_turns.specs.Thin.{AreKept}
 use Rattle.trace_records.specs.Traces.{text_of}
 use Rattle.trace_turns.specs.Turns.{AreSides, AreTold, chunks_of}
 
--- the buffers of a plan; by a buffer's number, the main clocks of its feed and of its reader; and the turns of the
--- clocks
+-- What a replay keeps of an accepted trace: the buffers with their answers, for each buffer the main clocks that feed
+-- and that read it, and the turns, in each of which one clock makes some ticks.
 pub record HeldTurns : Type 0 where
   pub buffers : List BufferState
   pub feeders : List ℕ
   pub readers : List ℕ
   pub turns : List TurnMade
 
--- a turn as a pair, which codes to a number
+-- A code of a turn (a clock, and the ticks that it comes to) as a number. A type with a code can be what contracts see.
 abbrev pub turn_coded : Coded TurnMade
 turn_coded = code_by (ℕ × ℕ) (coded× coded_ℕ coded_ℕ) (λ turn. (turn.clock, turn.ticks)) (λ p. record {
   clock = p.0;
   ticks = p.1;
 }) (λ _. refl)
 
--- buffers, sides and turns as nested pairs, which code to numbers
+-- A code of all that a replay keeps of a trace as a number, by way of nested pairs. A type with a code can be what
+-- contracts see.
 abbrev pub held_coded : Coded HeldTurns
 held_coded = code_by (List BufferState
     × (List ℕ × (List ℕ × List TurnMade)))
@@ -39,8 +40,8 @@ held_coded = code_by (List BufferState
       turns = p.1.1.1;
     }) (λ _. refl)
 
--- The buffers tell the answers of a trace, and are empty. In these turns the clocks make all their ticks as these
--- answers tell, each with the chunks that the turns before it put.
+-- A replay may begin with this: the buffers have the answers of the trace and hold no chunk yet, and in these turns,
+-- one after another, the clocks make all their ticks as the answers say, each with chunks that earlier turns put.
 pub record AreAllTurns (base : Setting) (clocks : ClockMap) (trace : TraceValue) (held : HeldTurns) : Type 0 where
   pub told : AreTold base (text_of trace.buffers) held.buffers
   pub sides : AreSides base held.feeders held.readers

@@ -31,8 +31,8 @@ use Rattle.trace_turns.specs.Thin.{AreFull, AreKept, AreUnlost, NoneLost}
 use Rattle.trace_records.specs.Traces.{text_of}
 use Rattle.trace_turns.specs.Timed.{timed}
 
--- Between two ticks: clock m has made its first n ticks, by which its engine has gone from `first` to `now`, and the
--- buffers, with all their chunks in `full`, stand for its calls.
+-- The state of a replay between two ticks: clock m has made the first n of its N ticks, which brought its engine from
+-- `first` to `now`, and the buffers, which hold the chunks in `full`, are as its calls left them.
 pub record IsReplaying {S : Type 0} (told : S
     → SinkTold) (score : Score) (N m n : ℕ) (first now : ClockEngine S) (states : List BufferState) : Type 0 where
   pub calls : List Call
@@ -49,8 +49,8 @@ pub record IsReplaying {S : Type 0} (told : S
   pub run : HasRunTurns told calls n first now
   pub rooms : (left : ℕ) → n + left ≡ N → HaveTicksRoom told now.parts now.outs left
 
--- An engine of clock m, which has made `made` of its N ticks, may go on up to n: the clock makes so many as the text
--- tells, with the chunks that are there.
+-- The condition on which the engine of clock m may go on from `made` ticks to n of its N: the trace tells that the
+-- clock makes these ticks, and the chunks that it gets in them are in the buffers.
 pub record MayReplay {S : Type 0} (told : S
     → SinkTold) (score : Score) (N m made n : ℕ) (first now : ClockEngine S) (states : List BufferState) : Type 0 where
   pub is : IsSetting score.base score.clocks
@@ -62,9 +62,8 @@ pub record MayReplay {S : Type 0} (told : S
   pub taken : ℕ → ℕ → Bool
   pub whole : HasReplayed score.base score.text window N m n score.chunks given taken
 
--- A fault ended the replay of clock m in a tick below n, after the calls `calls` of the ticks before and the calls
--- `made` of its own; they are the first ones of all the calls by which the clock makes its first n ticks as the text
--- tells.
+-- How a replay of clock m ends at a fault: in a tick below n, after the calls of the ticks before and the first calls
+-- of its own (`made`). These begin the calls that the clock makes in n ticks as the trace tells.
 pub record IsBrokenOff {S : Type 0} (told : S
     → SinkTold) (score : Score) (N m n : ℕ) (first now : ClockEngine S) : Type 0 where
   pub tick : ℕ
@@ -76,15 +75,16 @@ pub record IsBrokenOff {S : Type 0} (told : S
       → IsFront (calls ++ made) (first_calls (answered score.base given) taken m n)
   pub part : HasRunPart told (world (setting_of first.parts) (calls ++ made)) tick (suc tick) first now
 
--- the sink of this output of an engine's clock failed: its count of faults rose
+-- The sink of this number, to which an output of this engine's clock writes, failed: its count of faults is higher
+-- `now` than at `first`.
 pub record HasSinkFailed {S : Type 0} (told : S → SinkTold) (sink : ℕ) (first now : ClockEngine S) : Type 0 where
   pub place : ℕ
   pub node : ℕ
   pub there : slice_get (outputs_of (setting_of first.parts) first.parts.clock) place ≡ Some (sink, node)
   pub rose : RoseAt told place first.outs now.outs
 
--- What a replay is of: a plan with its clocks and files, what a trace tells of its buffers, and how long its windows
--- and how many its ticks are.
+-- What a replay is to play: a plan with its clocks and files, the answers of each buffer that a trace tells (`text`),
+-- how many ticks a window of the trace has, and how many ticks there are in all.
 pub record Tale : Type 0 where
   pub base : Setting
   pub clocks : ClockMap
@@ -92,7 +92,7 @@ pub record Tale : Type 0 where
   pub window : ℕ
   pub ticks : ℕ
 
--- the tale of a trace, of the plan of a station
+-- What a replay of this trace is to play, over the plan, clocks and files of a station.
 abbrev pub tale_at : Station → TraceValue → Tale
 tale_at station trace = record {
   base = base_at station;
@@ -102,22 +102,24 @@ tale_at station trace = record {
   ticks = trace.ticks;
 }
 
--- the score of a tale, with the chunks that these buffers hold
+-- What a clock plays by in a replay: the plan, clocks and answers of the tale, with the chunks that the buffers `full`
+-- hold now.
 abbrev pub score_over : Tale → (full : List BufferState) → Score
 score_over tale full = record { base = tale.base; clocks = tale.clocks; text = tale.text; chunks = chunks_of full }
 
--- an engine at first and as it is now, and how far its calls came on each buffer
+-- How far a clock came in a replay: its engine at first and as it is now, and for each buffer the mark up to which its
+-- calls were made.
 pub record Progress (S : Type 0) : Type 0 where
   pub first : ClockEngine S
   pub now : ClockEngine S
   pub marks : List Mark
 
+-- How far a clock came in a replay, from its parts: its engine at first and now, and its marks on the buffers.
 abbrev pub progress : {S : Type 0} → (first now : ClockEngine S) → List Mark → Progress S
 progress first now marks = record { first = first; now = now; marks = marks }
 
--- Between two turns: the engine of clock m has gone from its first state on by its first n ticks, and waits at its
--- marks of the buffers, which with all their chunks are `full`. In each lawful record with this text it makes these
--- calls.
+-- The state of clock m between two of its turns in a replay: its engine made n ticks, and stands at its marks of the
+-- buffers, which with all chunks are `full`. Each lawful run with the answers of the trace makes these calls.
 pub record IsResting {S : Type 0} (told : S
     → SinkTold) (tale : Tale) (sides : Sides) (m n : ℕ) (gone : Progress S) (full states : List BufferState)
     : Type 0 where
@@ -131,8 +133,8 @@ pub record IsResting {S : Type 0} (told : S
   pub unlost : AreUnlost sides.readers.items m gone.marks states
   pub many : length gone.marks ≡ length states
 
--- An engine of clock m, which rests after `made` of its ticks, may come to n ticks in a turn, after which the chunks
--- `next` are there; the ticks of all clocks and the chunks before it are those of the tale.
+-- The condition on which clock m may take a turn of a replay, from `made` ticks to n: it rests after `made`, all clocks
+-- stand as the trace tells, and the answers of the trace lead to the chunks `next`.
 pub record MayPlay {S : Type 0} (told : S
     → SinkTold) (tale : Tale) (sides : Sides) (m made n : ℕ) (gone : Progress S) (states : List BufferState)
     : Type 0 where
@@ -149,14 +151,15 @@ pub record MayPlay {S : Type 0} (told : S
   pub next : ℕ → List (List Cell)
   pub come : HasCome tale.base tale.window tale.ticks tale.text m n (chunks_of full) next
 
--- an engine that has gone on from `first` may play on from where it rests, and come to n ticks
+-- The condition on which an engine, that has gone from `first` to `now`, may take a turn of a replay from where it
+-- rests, up to n ticks.
 abbrev pub MayPlayOn : {S : Type 0} → (told : S
     → SinkTold) → Tale → Sides → (n : ℕ) → (first now : ClockEngine S) → Rest → List BufferState → Type 0
 MayPlayOn told tale sides n first now rest states = MayPlay told tale sides now.parts.clock rest.made n
     (progress first now rest.marks.items) states
 
--- In its turn clock m came to n ticks, after which these chunks are there: from buffers that with all their chunks are
--- `opening` to those that are `full`. No chunk was let go that another clock is to get.
+-- What a turn of clock m in a replay did: it came to n ticks, the buffers went from the chunks of `opening` to those of
+-- `full`, which are `next`, and none was let go that another clock still gets.
 pub record HasPlayed {S : Type 0} (told : S
     → SinkTold) (tale : Tale) (sides : Sides) (m n : ℕ) (gone : Progress S) (opening before states : List BufferState)
     (next : ℕ → List (List Cell)) : Type 0 where
@@ -169,7 +172,8 @@ pub record HasPlayed {S : Type 0} (told : S
   pub unlost : (k : ℕ) (other : List Mark) → (k ≡ m → ⊥) → AreUnlost sides.readers.items k other before
       → AreUnlost sides.readers.items k other states
 
--- Between two turns of all clocks: each engine has made some of its ticks and rests, and these turns are left.
+-- The state of a whole replay between two turns: each engine has made some of its ticks and rests, the buffers have the
+-- chunks put so far, and these turns are left.
 pub record ArePlaying {S : Type 0} (told : S
     → SinkTold) (tale : Tale) (sides : Sides) (turns : List TurnMade) (first now : List (ClockEngine S))
     (rests : List Rest) (states : List BufferState) : Type 0 where
@@ -187,8 +191,8 @@ pub record ArePlaying {S : Type 0} (told : S
       → slice_get now k ≡ Some after → slice_get rests k ≡ Some rest
       → IsResting told tale sides k (made k) (progress before after rest.marks.items) full states
 
--- All ticks of a station's engines, which have made none, may be made in these turns: in them the clocks make the
--- record that a trace tells, and the buffers tell its answers and hold no chunk.
+-- The condition on which a replay may begin: the engines have made no tick, the buffers have the answers of the trace
+-- and no chunk, and in these turns the clocks make all ticks of the record that the trace tells.
 pub record MayPlayAll {S : Type 0} (tells : S
     → SinkTold) (station : Station) (of : Sides) (list : List TurnMade) (trace : TraceValue)
     (running : List (ClockEngine S)) (states : List BufferState) : Type 0 where
@@ -204,13 +208,15 @@ pub record MayPlayAll {S : Type 0} (tells : S
   pub turns : AreTurns (base_at station) station.clocks.now.running trace.window trace.ticks (text_of trace.buffers)
       list no_ticks no_chunks
 
--- where an engine rests before its first tick, over so many buffers
+-- Where an engine rests before its first tick of a replay: no tick is made, and it has no mark on any of so many
+-- buffers.
 pub record IsNewRest (buffers : ℕ) (rest : Rest) : Type 0 where
   pub made : rest.made ≡ 0
   pub many : length rest.marks.items ≡ buffers
   pub none : (b : ℕ) (e : Mark) → b < buffers → slice_index_or rest.marks.items b e ≡ no_mark
 
--- where `count` engines rest before their first tick, over so many buffers
+-- Where each of `count` engines rests before its first tick of a replay: no tick is made, and it has no mark on any of
+-- so many buffers.
 pub record AreNewRests (count buffers : ℕ) (rests : List Rest) : Type 0 where
   pub size : length rests ≡ count
   pub each : (k : ℕ) (rest : Rest) → slice_get rests k ≡ Some rest → IsNewRest buffers rest

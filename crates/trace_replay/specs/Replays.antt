@@ -1,4 +1,4 @@
--- What a replay leaves.
+-- What a replay of a trace leaves: all ticks made, or a part of them.
 use Rattle.std.specs.Prelude.{◌≡◌, ℕ, suc, true, false, List}
 use Rattle.std.specs.List.{flat_map}
 use Rattle.liq_base.specs.Pieces.{SinkTold}
@@ -15,15 +15,16 @@ use Rattle.trace_log.specs.Values.{TraceValue}
 use Rattle.trace_records.specs.Traces.{IsRecordOf}
 use Rattle.trace_turns.specs.Logs.{side_of}
 
--- how often the calls on a buffer with these windows had which answer
+-- How often the calls on a buffer had which answer, from its answers in each window: chunks accepted or refused as
+-- full, and taken or missed as empty.
 abbrev pub counts_in : List Answers → Counts
 counts_in windows = counts_of (record {
   puts = flat_map (side_of true) windows;
   takes = flat_map (side_of false) windows;
 })
 
--- All ticks of the record of a trace were made: each engine has run them, given what the record's takes got, and the
--- counts and logs are the record's.
+-- A replay made all ticks of the record of a trace: each engine went from `first` to `now` by them, with the chunks
+-- that the record's takes got, and the counts and logs of the buffers are those of the record.
 pub record HasReplayedAll {S : Type 0} (told : S → SinkTold) (base : Setting) (clocks : ℕ) (trace : TraceValue)
     (first now : List (ClockEngine S)) (counts : List Counts) (logs : List (List Answers)) : Type 0 where
   pub run : Run
@@ -32,10 +33,9 @@ pub record HasReplayedAll {S : Type 0} (told : S → SinkTold) (base : Setting) 
   pub counts_are : counts ≡ counts_of_run run
   pub logs_are : logs ≡ logs_of_run run
 
--- How far a replay in this setting came: of its N ticks each clock m made `made m`, and tried no more, or one more in
--- which it stopped, which no two did. Each output holds its bytes of the ticks that its clock made, and then a front of
--- those of the one that it tried. A write that ended the replay is one of the clock that the end names. In which order
--- the clocks make their ticks is not told.
+-- How far a replay of N ticks came that ended early: clock m made `made m` ticks, and one clock at most tried one more.
+-- Each output has the bytes of the ticks made, and then a front of those of the tick tried. A failed write is one of
+-- the clock and sink that `end` names.
 pub record HasReplayedTo {S : Type 0} (told : S
     → SinkTold) (setting : Setting) (N : ℕ) (first now : List (ClockEngine S)) (end : End) : Type 0 where
   pub made : ℕ → ℕ
@@ -45,7 +45,8 @@ pub record HasReplayedTo {S : Type 0} (told : S
   pub part : HaveRunPart told (λ rest. setting) made tried first now
   pub write : (failed sink : ℕ) → end ≡ Write failed sink → IsWriteEnd told failed first now end
 
--- how far a replay of the record of a trace came
+-- How far a replay of a trace came that ended early, for the reason `end`: it made some ticks of the record that the
+-- trace tells, and no others.
 pub record HasReplayedSome {S : Type 0} (told : S → SinkTold) (base : Setting) (clocks : ℕ) (trace : TraceValue)
     (first now : List (ClockEngine S)) (end : End) : Type 0 where
   pub run : Run

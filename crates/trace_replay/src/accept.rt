@@ -13,8 +13,8 @@ use plan_core::Plan;
 use std::alloc::Global;
 use trace_log::Trace;
 
-/// Whether a trace that was read is that of a lawful record of `ticks` ticks of a plan, with its clocks, its files and
-/// its start second, whose ticks can be ordered.
+/// Whether a trace can be replayed: it tells `ticks` ticks of a lawful run of this plan, with these clocks, files and
+/// start second, whose ticks can be put in one order.
 pub fn accepts(
     alloc: Global,
     plan: &Plan,

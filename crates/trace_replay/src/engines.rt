@@ -33,8 +33,8 @@ pub struct Rest {
     pub marks: Vec<Mark>,
 }
 
-/// Makes further ticks of a clock, from the `made` ones on up to `ticks` in all, over buffers that hold the chunks that
-/// it gets.
+/// Makes the ticks of a clock from number `made` up to `ticks` in all, in a replay. The buffers hold the chunks that it
+/// gets. The first fault ends it.
 pub fn replay_clock<O: Sink>(
     alloc: Global,
     engine: &mut ClockEngine<'_, O>,
@@ -63,7 +63,8 @@ pub fn replay_clock<O: Sink>(
     Ok(())
 }
 
-// A turn of a clock: its engine goes on where it rests, up to `ticks` ticks in all.
+// Makes one turn of a clock in a replay: its engine goes on from where it rests, up to `ticks` ticks in all. Chunks
+// that no clock gets any more are let go.
 fn replay_turn<O: Sink>(
     alloc: Global,
     engine: &mut ClockEngine<'_, O>,
@@ -102,7 +103,8 @@ fn replay_turn<O: Sink>(
     Ok(())
 }
 
-// Where an engine rests before its first tick, over so many buffers.
+// Where an engine rests before its first tick of a replay: no tick is made, and it has no mark on any of so many
+// buffers.
 fn new_rest(alloc: Global, buffers: usize) -> Result<Rest, Memory>
     ensures { IfOk result (λ rest. IsNewRest buffers rest) }
 {
@@ -110,7 +112,7 @@ fn new_rest(alloc: Global, buffers: usize) -> Result<Rest, Memory>
     Ok(Rest { made: 0, marks })
 }
 
-// Where `count` engines rest before their first tick, over so many buffers.
+// Where each of `count` engines rests before its first tick of a replay, over so many buffers.
 fn new_rests(alloc: Global, count: usize, buffers: usize) -> Result<Vec<Rest>, Memory>
     ensures { IfOk result (λ rests. AreNewRests count buffers rests.items) }
 {
@@ -123,7 +125,7 @@ fn new_rests(alloc: Global, count: usize, buffers: usize) -> Result<Vec<Rest>, M
     Ok(rests)
 }
 
-// How a run ends at a fault of the engine of this clock.
+// Why a replay ends at a fault of the engine of this clock: a failed write of the clock to a sink, or want of memory.
 fn end_of(clock: u32, fault: TickFault) -> End
     ensures write { (sink : ℕ) → fault ≡ TickWrite sink → result ≡ WriteEnd clock sink }
     ensures memory { fault ≡ OutOfMemory → result ≡ NoMemory }
@@ -135,7 +137,7 @@ fn end_of(clock: u32, fault: TickFault) -> End
     }
 }
 
-// Turn number i of a list.
+// The turn of number i of a list, from 0: a clock, and the ticks that it comes to.
 fn turn_at(turns: &[TurnMade], i: usize) -> TurnMade
     requires { i < length turns.now }
     ensures { result ≡ get_or turns.now i result }
@@ -143,7 +145,8 @@ fn turn_at(turns: &[TurnMade], i: usize) -> TurnMade
     turns[i]
 }
 
-// Makes all ticks of engines that rest, in these turns. The first fault ends it.
+// Makes all turns of a replay in their order; in each, the engine of one clock goes on from where it rests. The first
+// fault ends it.
 fn replay_turns<O: Sink>(
     alloc: Global,
     station: &Station<'_>,
@@ -186,7 +189,8 @@ fn replay_turns<O: Sink>(
     Ok(())
 }
 
-/// Makes all ticks of each engine, in the turns in which the clocks find their chunks. The first fault ends it.
+/// Makes all ticks of a replay: from engines that made none, in turns in which each clock finds its chunks in the
+/// buffers. The first fault ends it.
 pub fn replay_engines<O: Sink>(
     alloc: Global,
     station: &Station<'_>,

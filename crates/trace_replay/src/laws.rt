@@ -15,8 +15,8 @@ ghost use Rattle.trace_records.specs.Traces.{IsRecordOf, IsAccepted, trace_of};
 ghost use Rattle.trace_log.specs.Values.{TraceValue};
 ghost use Rattle.trace_records.specs.Told.{is_legal};
 
-/// A window whose answers are those of a legal one is legal with any chunks that come out in the order in which they
-/// went in.
+/// A law: if the answers of a buffer in a window of ticks are those of a legal window, they are legal with any chunks
+/// that come out in the order in which they went in.
 pub fn told_windows_are_legal()
     ensures { (capacity : ℕ) (rest queue : List (List Cell)) (puts takes : List (Option (List Cell))) → 1 ≤ capacity
         → length queue ≤ capacity
@@ -24,15 +24,15 @@ pub fn told_windows_are_legal()
         → queue ++ somes puts ≡ somes takes ++ rest → Legal capacity rest queue puts takes }
 {}
 
-/// Where the main clocks can be listed so that each buffer that joins two clocks leads to a later one, the ticks of
-/// every lawful record can be ordered.
+/// A law: where the main clocks can be listed so that each buffer between two clocks leads to a later one, the ticks of
+/// every lawful record of a run can be put in one order.
 pub fn onward_records_are_ordered()
     ensures { (base : Setting) (clocks : Map) → IsSetting base clocks → (W N : ℕ) (run : Run)
         → (lawful : AreWindows base clocks.running W N run) → (listing : List ℕ)
         → LeadOnward base clocks.running listing → IsOrdered (setting_in base run) clocks.running lawful.accepted N }
 {}
 
-/// The trace of a lawful record whose ticks can be ordered is accepted.
+/// A law: the trace of a lawful record of a run, whose ticks can be put in one order, is accepted for a replay.
 pub fn ordered_traces_are_accepted()
     ensures { (base : Setting) (clocks : Map) → IsSetting base clocks → (W N : ℕ) (run : Run)
         → (lawful : AreWindows base clocks.running W N run)
@@ -60,7 +60,7 @@ pub fn logs_of_onward_runs_are_accepted()
         }) }
 {}
 
-/// An accepted trace tells one record: that of the run that left it, if a run left it.
+/// A law: a trace that is accepted for a replay tells one record: that of the run that left it, if a run left it.
 pub fn accepted_traces_tell_one_record()
     ensures { (base : Setting) (clocks : Map) → IsSetting base clocks → (N : ℕ) (trace : TraceValue)
         → (accepted : IsAccepted base clocks.running N trace)

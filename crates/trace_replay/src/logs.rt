@@ -9,7 +9,7 @@ use liq_base::Memory;
 use std::alloc::Global;
 use trace_turns::flatten;
 
-// A copy of a window's answers.
+// A copy of what a buffer answered in one window of ticks: to the puts, and to the takes.
 fn copy_window(alloc: Global, window: &WindowLog) -> Result<WindowLog, Memory>
     ensures { IfOk result (λ copy. copy ≡ window.now) }
 {
@@ -20,7 +20,7 @@ fn copy_window(alloc: Global, window: &WindowLog) -> Result<WindowLog, Memory>
     Ok(WindowLog { puts, takes })
 }
 
-// A copy of these windows.
+// A copy of what a buffer answered, window by window.
 fn copy_windows(alloc: Global, windows: &[WindowLog]) -> Result<Vec<WindowLog>, Memory>
     ensures { IfOk result (λ copies. copies.items ≡ windows.now) }
 {
@@ -32,7 +32,7 @@ fn copy_windows(alloc: Global, windows: &[WindowLog]) -> Result<Vec<WindowLog>, 
     Ok(copies)
 }
 
-// A copy of a buffer's log.
+// A copy of all answers of a buffer in a trace.
 fn copy_log(alloc: Global, log: &BufferLog) -> Result<BufferLog, Memory>
     ensures { IfOk result (λ copy. copy ≡ log.now) }
 {
@@ -41,7 +41,7 @@ fn copy_log(alloc: Global, log: &BufferLog) -> Result<BufferLog, Memory>
     })
 }
 
-// A copy of these logs.
+// A copy of all answers of these buffers in a trace.
 fn copy_logs(alloc: Global, logs: &[BufferLog]) -> Result<Vec<BufferLog>, Memory>
     ensures { IfOk result (λ copies. copies.items ≡ logs.now) }
 {
@@ -53,7 +53,7 @@ fn copy_logs(alloc: Global, logs: &[BufferLog]) -> Result<Vec<BufferLog>, Memory
     Ok(copies)
 }
 
-// How many answers are true, and how many are not.
+// How many of these answers of a buffer are true (a chunk was accepted or got), and how many are not.
 fn count_answers(answers: &[bool]) -> (u64, u64)
     ensures yes { result.0 ≡ count_by yes answers.now }
     ensures no { result.1 ≡ count_by not answers.now }
@@ -70,7 +70,8 @@ fn count_answers(answers: &[bool]) -> (u64, u64)
     (true_ones, others)
 }
 
-// How often the calls on a buffer with these windows had which answer.
+// How often a buffer gave which answer, from its answers in each window: chunks accepted or refused as full, and got or
+// missed as empty.
 fn count_windows(alloc: Global, windows: &[WindowLog]) -> Result<Counts, Memory>
     ensures { IfOk result (λ counts. counts ≡ counts_in windows.now) }
 {
@@ -86,14 +87,14 @@ fn count_windows(alloc: Global, windows: &[WindowLog]) -> Result<Counts, Memory>
     })
 }
 
-// How often the calls on a buffer with this log had which answer.
+// How often a buffer gave which answer in a trace: chunks accepted or refused as full, and got or missed as empty.
 fn count_log(alloc: Global, log: &BufferLog) -> Result<Counts, Memory>
     ensures { IfOk result (λ counts. counts ≡ counts_in log.now) }
 {
     count_windows(alloc, &log.windows)
 }
 
-// By a buffer's number: how often the calls on it had which answer, by its log.
+// For each buffer, by its number, how often it gave which answer in a trace.
 fn count_logs(alloc: Global, logs: &[BufferLog]) -> Result<Vec<Counts>, Memory>
     ensures { IfOk result (λ counts. counts.items ≡ map counts_in logs.now) }
 {
@@ -104,7 +105,8 @@ fn count_logs(alloc: Global, logs: &[BufferLog]) -> Result<Vec<Counts>, Memory>
     Ok(counts)
 }
 
-/// The result of a run that made all its ticks and whose buffers answered as these logs say.
+/// The result of a replay that made all its ticks: the logs of the trace, copied, and for each buffer how often it gave
+/// which answer.
 pub fn told_run(alloc: Global, logs: &[BufferLog]) -> Result<RunEnd, Memory>
     ensures counts { IfOk result (λ run. run.counts.items ≡ map counts_in logs.now) }
     ensures logs { IfOk result (λ run. run.logs.items ≡ logs.now) }

@@ -4,7 +4,7 @@ ghost use Rattle.std.specs.Prelude.{◌≡◌};
 use buffer_ends::BufferLog;
 use trace_log::Trace;
 
-/// The logs of a trace: the answers of each buffer.
+/// What a trace tells of each buffer: its answers, window by window.
 pub fn logs_of(trace: &Trace) -> &[BufferLog]
     ensures { result.now ≡ trace.now.buffers }
 {

@@ -49,9 +49,9 @@ impl Model for RecordTurns {
     } };
 }
 
-/// The turns in which the clocks make the record that a trace tells, where the trace, which was read, is that of a
-/// lawful record of `ticks` ticks of a plan, with its clocks, its files and its start second, whose ticks can be
-/// ordered; and `None` where it is not. Only want of memory comes in place of an answer.
+/// Finds the turns in which the clocks replay a trace; `None` if it is of no lawful run of `ticks` ticks of this plan,
+/// with these clocks, files and start second, whose ticks can be put in one order. Only want of memory comes in place
+/// of an answer.
 pub fn find_record(
     alloc: Global,
     plan: &Plan,
@@ -105,7 +105,8 @@ pub fn find_record(
     Ok(Some(RecordTurns { taps, sides, turns }))
 }
 
-// The result of a whole run with these logs and their counts; want of memory if there is no room for them.
+// The result of a replay that made all its ticks, with these logs and their counts; or, without memory for them, an end
+// for want of memory.
 fn told_or_ended(alloc: Global, logs: &[BufferLog]) -> RunEnd
     ensures counts { result.end ≡ Done → result.counts.items ≡ map counts_in logs.now }
     ensures logs { result.end ≡ Done → result.logs.items ≡ logs.now }
@@ -117,7 +118,7 @@ fn told_or_ended(alloc: Global, logs: &[BufferLog]) -> RunEnd
     }
 }
 
-// The result of a run that was broken off: it has no counts and no logs.
+// The result of a replay that ended early, for this reason: it has no counts and no logs.
 fn ended(alloc: Global, end: End) -> RunEnd
     ensures { result.end ≡ end }
 {

@@ -9,17 +9,18 @@ use Rattle.type_terms.specs.declared.ty.KindTerm.{KindTerm}
 use Rattle.type_instances.specs.declared.instances.Instance.{Instance}
 use Rattle.type_instances.specs.Schemes.{AreAmong, Scheme, IsInstance}
 
--- a later substitution, which changes no solution on the old variables
+-- The table of type variables s became s' without a loss: s' follows s, and each solution of s is, on the old
+-- variables, one of s'.
 pub record Grows (s s' : Table) : Type 0 where
   pub follows : Follows s s'
   pub each : (a : Assignment) → Solves a s → (b : Assignment) × Solves b s' × Agrees s a b
 
--- the types of the parameters of a call, as plain data
+-- The types of the parameters of a call, from the program's list, as terms of the specification.
 abbrev pub instance_params : Instance → List Term
 instance_params i = map term_of i.params.items
 
--- Between s and s' the scheme was given these variables: at each solution they are an instance, and each instance at a
--- solution is reached.
+-- Between the tables s and s' the scheme g got new variables for its own, which made these parameters, result and open
+-- kinds: each solution of s' makes them an instance of g, and each instance of g comes from one.
 pub record Instantiates (s s' : Table) (g : Scheme) (params : List Term) (result : Term) (kinds : List KindTerm) : Type
     0 where
   pub params_over : AreAmong (length s'.types) (length s'.kinds) params

@@ -12,23 +12,24 @@ use Rattle.type_instances.specs.declared.general.KindParameter.{KindParameter}
 use Rattle.type_instances.specs.declared.general.KindParameter.TheVariants.{Open, Unread, Outer as OuterKind}
 use Rattle.type_instances.specs.Schemes.{MayBe, KindMayBe}
 
--- the outer type variables of a list are there
+-- Each parameter of this list that is a type variable from outside of the scheme names a variable of the table s.
 abbrev pub HasOuterTypes : Table → List TypeParameter → Type 0
 HasOuterTypes s xs = (i k : ℕ) → slice_get xs i ≡ Some (OuterType k) → k < length s.types
 
--- the outer kind variables of a list are there
+-- Each parameter of this list that is a kind variable from outside of the scheme names a variable of the table s.
 abbrev pub HasOuterKinds : Table → List KindParameter → Type 0
 HasOuterKinds s xs = (i k : ℕ) → slice_get xs i ≡ Some (OuterKind k) → k < length s.kinds
 
--- the outer type variable is there, if the parameter is one
+-- If the parameter x is a type variable from outside of the scheme, it is in the table s.
 abbrev pub HasOuterType : Table → TypeParameter → Type 0
 HasOuterType s x = (k : ℕ) → x ≡ OuterType k → k < length s.types
 
--- the outer kind variable is there, if the parameter is one
+-- If the parameter x is a kind variable from outside of the scheme, it is in the table s.
 abbrev pub HasOuterKind : Table → KindParameter → Type 0
 HasOuterKind s x = (k : ℕ) → x ≡ OuterKind k → k < length s.kinds
 
--- between s and s' the type variable n stands for what x may stand for
+-- Type variable n of the table s', which grew from s, stands for the parameter x of a scheme: in each solution it is
+-- what x may be, and each such type is its value in some solution.
 pub record IsNewType (s s' : Table) (x : TypeParameter) (n : ℕ) : Type 0 where
   pub inside : n < length s'.types
   pub follows : Follows s s'
@@ -36,7 +37,8 @@ pub record IsNewType (s s' : Table) (x : TypeParameter) (n : ℕ) : Type 0 where
   pub complete : (a : Assignment) → Solves a s → (g : Ground) → MayBe a x g
       → (b : Assignment) × Solves b s' × Agrees s a b × (b.type_of n ≡ g)
 
--- between s and s' the kind variable n stands for what x may stand for
+-- Kind variable n of the table s', which grew from s, stands for the parameter x of a scheme: in each solution it is
+-- what x may be, and each such kind is its value in some solution.
 pub record IsNewKind (s s' : Table) (x : KindParameter) (n : ℕ) : Type 0 where
   pub inside : n < length s'.kinds
   pub follows : Follows s s'
@@ -44,7 +46,8 @@ pub record IsNewKind (s s' : Table) (x : KindParameter) (n : ℕ) : Type 0 where
   pub complete : (a : Assignment) → Solves a s → (k : Kind) → KindMayBe a x k
       → (b : Assignment) × Solves b s' × Agrees s a b × (b.kind_of n ≡ k)
 
--- the kind variables that stand for the open ones
+-- The kind variables, by their numbers ns, that stand for those of the parameters xs which are open, that is, named in
+-- the text of a def.
 abbrev pub open_terms : List KindParameter → List ℕ → List KindTerm
 open_terms [] ns = []
 open_terms (x ∷ xs) [] = []
@@ -52,7 +55,8 @@ open_terms (Open ∷ xs) (n ∷ ns) = Var n ∷ open_terms xs ns
 open_terms (Unread ∷ xs) (n ∷ ns) = open_terms xs ns
 open_terms (OuterKind k ∷ xs) (n ∷ ns) = open_terms xs ns
 
--- between s and s' each of the type variables ns stands for what its parameter of xs may stand for
+-- Each type variable of ns, in the table s' that grew from s, stands for the parameter of xs at its place: in each
+-- solution they are what these may be, and each such choice of types is reached by a solution.
 pub record AreNewTypes (s s' : Table) (xs : List TypeParameter) (ns : List ℕ) : Type 0 where
   pub many : length ns ≡ length xs
   pub inside : (i n : ℕ) → slice_get ns i ≡ Some n → n < length s'.types
@@ -63,7 +67,8 @@ pub record AreNewTypes (s s' : Table) (xs : List TypeParameter) (ns : List ℕ) 
       → ((i : ℕ) (x : TypeParameter) → slice_get xs i ≡ Some x → MayBe a x (f i)) →
       (b : Assignment) × Solves b s' × Agrees s a b × ((i n : ℕ) → slice_get ns i ≡ Some n → b.type_of n ≡ f i)
 
--- between s and s' each of the kind variables ns stands for what its parameter of xs may stand for
+-- Each kind variable of ns, in the table s' that grew from s, stands for the parameter of xs at its place: in each
+-- solution they are what these may be, and each such choice of kinds is reached by a solution.
 pub record AreNewKinds (s s' : Table) (xs : List KindParameter) (ns : List ℕ) : Type 0 where
   pub many : length ns ≡ length xs
   pub inside : (i n : ℕ) → slice_get ns i ≡ Some n → n < length s'.kinds

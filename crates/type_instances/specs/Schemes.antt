@@ -12,15 +12,15 @@ use Rattle.type_instances.specs.declared.general.TypeParameter.TheVariants.{Any,
 use Rattle.type_instances.specs.declared.general.KindParameter.{KindParameter}
 use Rattle.type_instances.specs.declared.general.KindParameter.TheVariants.{Open, Unread, Outer as OuterKind}
 
--- The types of all parameters, and of the result, over variables of the scheme's own, from 0. The lists say what each
--- of these may stand for.
+-- A general type of a def or builtin: the types of its parameters and result, over variables of its own, counted from
+-- 0, and for each of these what it may stand for.
 pub record Scheme : Type 0 where
   pub params : List Term
   pub result : Term
   pub types : List TypeParameter
   pub kinds : List KindParameter
 
--- a general type as plain data
+-- The general type that the program holds, as plain data of the specification.
 abbrev pub scheme_of : General → Scheme
 scheme_of g = record {
   params = map term_of g.params.items;
@@ -29,29 +29,30 @@ scheme_of g = record {
   kinds = g.kinds.items;
 }
 
--- What a variable of a scheme may stand for, where the variables outside of it are as in `a`: anything, any number, or
--- what the outer variable is.
+-- The type g is one that a type variable of a scheme may stand for, by its parameter: any type, a number type, or the
+-- value that the assignment `a` gives to a variable outside of the scheme.
 abbrev pub MayBe : Assignment → TypeParameter → Ground → Type 0
 MayBe a Any g = ⊤
 MayBe a Number g = IsNumber g
 MayBe a (OuterType k) g = g ≡ a.type_of k
 
--- What a kind variable of a scheme may stand for, where the variables outside of it are as in `a`: either kind, or what
--- the outer variable is.
+-- The kind k (mono or stereo) is one that a kind variable of a scheme may stand for, by its parameter: either, or the
+-- value that the assignment `a` gives to a variable outside of the scheme.
 abbrev pub KindMayBe : Assignment → KindParameter → Kind → Type 0
 KindMayBe a Open k = ⊤
 KindMayBe a Unread k = ⊤
 KindMayBe a (OuterKind n) k = k ≡ a.kind_of n
 
--- the numbers of the open kind variables among these, of which the first has the number n
+-- The numbers of those kind variables of a scheme that are open, that is, named in the text of a def. The first of this
+-- list has the number n.
 abbrev pub open_numbers : ℕ → List KindParameter → List ℕ
 open_numbers n [] = []
 open_numbers n (Open ∷ ks) = n ∷ open_numbers (suc n) ks
 open_numbers n (Unread ∷ ks) = open_numbers (suc n) ks
 open_numbers n (OuterKind k ∷ ks) = open_numbers (suc n) ks
 
--- A call may have parameters of the types ts and the type g, with these open kinds, where the variables outside of the
--- scheme are as in `a`.
+-- A call of what has the scheme s may have parameters of the types ts, the result g and these open kinds: some values
+-- of the scheme's variables make them so, where outer variables are as in the assignment `a`.
 pub record IsInstance (s : Scheme) (a : Assignment) (ts : List Ground) (g : Ground) (opens : List Kind) : Type 0 where
   pub at : Assignment
   pub types : (i : ℕ) (x : TypeParameter) → slice_get s.types i ≡ Some x → MayBe a x (at.type_of i)
@@ -60,7 +61,8 @@ pub record IsInstance (s : Scheme) (a : Assignment) (ts : List Ground) (g : Grou
   pub result : meaning at s.result ≡ g
   pub opened : map at.kind_of (open_numbers 0 s.kinds) ≡ opens
 
--- the scheme of a builtin's row: nothing is outside of it
+-- The general type of a builtin, from its row in the table of builtins: its type variable may be any type, and its kind
+-- variable either kind. No variable is outside of it.
 abbrev pub builtin_scheme : Builtin → Scheme
 builtin_scheme b = record {
   params = map (λ p. p.1) (signature b).params;
@@ -69,11 +71,12 @@ builtin_scheme b = record {
   kinds = replicate (signature b).kinds Open;
 }
 
--- the variables of terms are among so many
+-- The type variables of these types have numbers below m, and their kind variables numbers below n.
 abbrev pub AreAmong : ℕ → ℕ → List Term → Type 0
 AreAmong m n ts = InTerms (λ k. k < m) (λ k. k < n) (terms_of ts)
 
--- A scheme says of each of its variables what it may stand for, and the outer ones are there.
+-- A scheme is sound over a table of variables: it says of each variable that its types use what it may stand for, and
+-- the outer variables that it names are in the table.
 pub record IsSchemeOver (table : Table) (s : Scheme) : Type 0 where
   pub params : AreAmong (length s.types) (length s.kinds) s.params
   pub result : InTerm (λ n. n < length s.types) (λ n. n < length s.kinds) s.result

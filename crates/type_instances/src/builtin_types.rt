@@ -17,9 +17,8 @@ use std::alloc::Global;
 use type_terms::{KindTerm, Subst, Ty};
 use typing_rules::{Builtin, RowType, builtin_row};
 
-/// The type of a builtin, as the table of the builtins says it, with new variables for those of its row.
-///
-/// Where memory runs out, the substitution may have new variables that nothing names.
+/// The type of one call of a builtin: its row in the table of builtins, with new variables of the substitution for the
+/// type and kind variable of the row. Where memory runs out, some may be made that nothing names.
 pub fn instantiate_builtin(
     alloc: Global,
     subst: &mut Subst,
@@ -37,7 +36,7 @@ pub fn instantiate_builtin(
     Ok(call)
 }
 
-/// The number of a new type variable for that of the builtin's row; 0 where it has none.
+/// Makes a new type variable for that of the row of a builtin, and gives its number; 0 where the row has none.
 fn new_row_type(subst: &mut Subst, builtin: Builtin) -> Result<u64, Memory>
     ensures new { IfOk result
         (λ n. AreNewTypes subst.old subst.new (builtin_scheme builtin).types (replicate (signature builtin).types n)) }
@@ -50,7 +49,8 @@ fn new_row_type(subst: &mut Subst, builtin: Builtin) -> Result<u64, Memory>
     Ok(number)
 }
 
-/// The number of a new kind variable for that of the builtin's row; 0 where it has none.
+/// Makes a new kind variable (for mono or stereo) for that of the row of a builtin, and gives its number; 0 where the
+/// row has none.
 fn new_row_kind(subst: &mut Subst, builtin: Builtin) -> Result<u64, Memory>
     ensures new { IfOk result
         (λ n. AreNewKinds subst.old subst.new (builtin_scheme builtin).kinds (replicate (signature builtin).kinds n)) }
@@ -63,7 +63,8 @@ fn new_row_kind(subst: &mut Subst, builtin: Builtin) -> Result<u64, Memory>
     Ok(number)
 }
 
-/// The builtin's row, in which the type variable has the number `any` and the kind variable the number `kind`.
+/// The type of one call of a builtin, from its row in the table: type variable number `any` and kind variable number
+/// `kind` stand for those of the row.
 fn row_instance(alloc: Global, builtin: Builtin, any: u64, kind: u64) -> Result<Instance, Memory>
     ensures params { IfOk result (λ i. map term_of i.params.items
         ≡ map (instance (any ∷ []) (kind ∷ [])) (builtin_scheme builtin).params) }
@@ -82,7 +83,7 @@ fn row_instance(alloc: Global, builtin: Builtin, any: u64, kind: u64) -> Result<
     })
 }
 
-/// Whether the row of a builtin has a type variable.
+/// Whether the type of a builtin is general in a type. `set` alone is, which takes a value of any type.
 fn has_type_variable(builtin: Builtin) -> bool
     ensures { (signature builtin).types ≡ cond result 1 0 }
 {
@@ -92,7 +93,7 @@ fn has_type_variable(builtin: Builtin) -> bool
     }
 }
 
-/// Whether the row of a builtin has a kind variable.
+/// Whether the type of a builtin is general in a kind, so that it takes or gives sources in mono or in stereo.
 fn has_kind_variable(builtin: Builtin) -> bool
     ensures { (signature builtin).kinds ≡ cond result 1 0 }
 {
@@ -104,7 +105,7 @@ fn has_kind_variable(builtin: Builtin) -> bool
     }
 }
 
-/// The kind that is open in a call of the builtin, if one is: the variable of this number.
+/// The open kinds of a call of a builtin: the kind variable of this number, or none where the builtin has no open kind.
 fn row_kinds(alloc: Global, builtin: Builtin, kind: u64) -> Result<Vec<KindTerm>, Memory>
     ensures { IfOk result (λ ks. ks.items ≡ replicate (signature builtin).kinds (Var kind)) }
 {
@@ -116,7 +117,7 @@ fn row_kinds(alloc: Global, builtin: Builtin, kind: u64) -> Result<Vec<KindTerm>
     Ok(kinds)
 }
 
-/// A list of sources of this kind.
+/// The type of a list of sources of this kind, as `fallback` takes it.
 fn sources(alloc: Global, kind: KindTerm) -> Result<Ty, Memory>
     ensures { IfOk result (λ t. term_of t ≡ list_term (source_term kind)) }
 {
@@ -124,7 +125,7 @@ fn sources(alloc: Global, kind: KindTerm) -> Result<Ty, Memory>
     Ok(Ty::List(item))
 }
 
-/// A pair of a predicate and a source of this kind.
+/// The type of a case of `switch`: a tuple of a predicate and a source of this kind.
 fn pair(alloc: Global, kind: KindTerm) -> Result<Ty, Memory>
     ensures { IfOk result (λ t. term_of t
         ≡ tuple_term (one_more (base_term Pred) (one_more (source_term kind) no_terms))) }
@@ -135,7 +136,7 @@ fn pair(alloc: Global, kind: KindTerm) -> Result<Ty, Memory>
     Ok(Ty::Tuple(parts))
 }
 
-/// A list of pairs of a predicate and a source of this kind.
+/// The type of the cases of `switch`: a list of tuples of a predicate and a source of this kind.
 fn pairs(alloc: Global, kind: KindTerm) -> Result<Ty, Memory>
     ensures { IfOk result (λ t. term_of t
         ≡ list_term (tuple_term (one_more (base_term Pred) (one_more (source_term kind) no_terms)))) }
@@ -145,7 +146,8 @@ fn pairs(alloc: Global, kind: KindTerm) -> Result<Ty, Memory>
     Ok(Ty::List(item))
 }
 
-/// A type of the table, in which the type variable has the number `any` and the kind variable the number `kind`.
+/// A type of the table of builtins as a type of the checker: `any` is the number of its type variable, and `kind` that
+/// of its kind variable.
 fn row_type(alloc: Global, ty: RowType, any: u64, kind: u64) -> Result<Ty, Memory>
     ensures { IfOk result (λ t. term_of t ≡ numbered_row any kind ty) }
 {
@@ -165,7 +167,8 @@ fn row_type(alloc: Global, ty: RowType, any: u64, kind: u64) -> Result<Ty, Memor
     }
 }
 
-/// Types of the table, in which the type variable has the number `any` and the kind variable the number `kind`.
+/// Types of the table of builtins as types of the checker: `any` is the number of their type variable, and `kind` that
+/// of their kind variable.
 fn row_types(alloc: Global, row: &[RowType], any: u64, kind: u64) -> Result<Vec<Ty>, Memory>
     ensures { IfOk result (λ ts. map term_of ts.items ≡ map (numbered_row any kind) row.now) }
 {

@@ -1,4 +1,4 @@
-// General types.
+// General types of defs and builtins, which each call makes its own.
 use type_terms::{Ty, places};
 
 /// What a type variable of a general type may stand for: anything, int or decimal, or what a variable of the
@@ -34,8 +34,8 @@ pub struct General {
 }
 
 impl General {
-    /// How many places a call of it takes: the nodes of its types, 17 for each type variable, as its new one allows 16,
-    /// and four for each kind.
+    /// What a call of this general type costs of the budget of type inference: the nodes of its types, 17 for each type
+    /// variable, as its new one allows 16, and four for each kind variable.
     pub fn places(&self) -> u64 {
         let types = (self.types.len() as u64).saturating_mul(17);
         let variables = (self.kinds.len() as u64)
@@ -47,7 +47,7 @@ impl General {
     }
 }
 
-/// The places of all these types.
+/// The sum of the places of these types, which are the nodes of each.
 fn all_places(tys: &[Ty]) -> u64 {
     let mut sum: u64 = 0;
     for ty in tys {

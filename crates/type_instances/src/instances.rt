@@ -21,9 +21,8 @@ pub struct Instance {
     pub kinds: Vec<KindTerm>,
 }
 
-/// The general type with new variables for those that it is general in. It takes time that grows with the type alone.
-///
-/// Where memory runs out, the substitution may have new variables that nothing names.
+/// The type of one call of a def: its general type with new variables of the substitution for its own. It takes time
+/// that grows with the type alone. Where memory runs out, some variables may be made that nothing names.
 pub fn instantiate(alloc: Global, subst: &mut Subst, general: &General) -> Result<Instance, Memory>
     requires over { IsSchemeOver subst.old (scheme_of general.now) }
     ensures instance { IfOk result
@@ -40,7 +39,8 @@ pub fn instantiate(alloc: Global, subst: &mut Subst, general: &General) -> Resul
     Ok(call)
 }
 
-/// The general type with these numbers for its type variables and kind variables.
+/// The type of one call, from a general type: variables of these numbers stand for its type variables (`types`) and
+/// kind variables (`numbers`).
 fn instance_with(
     alloc: Global,
     general: &General,
@@ -63,7 +63,8 @@ fn instance_with(
     })
 }
 
-/// Puts the types of the parameters and the open kinds into empty lists, and answers the type of the result.
+/// Puts the parameter types and open kinds of one call into empty lists, and answers the type of its result. Variables
+/// of these numbers stand for those of the general type.
 fn rename(
     alloc: Global,
     general: &General,
@@ -86,7 +87,7 @@ fn rename(
     Ok(call)
 }
 
-/// The number of a new type variable, which is a number variable if `number` is true.
+/// Makes a new type variable and gives its number; with `number` it may only be int or decimal.
 pub fn fresh_number(subst: &mut Subst, number: bool) -> Result<u64, Memory>
     ensures free { IfOk result (λ n. HasNewType subst.old subst.new (IsTrue number) n) }
     ensures grows { Grows subst.old subst.new }
@@ -98,7 +99,7 @@ pub fn fresh_number(subst: &mut Subst, number: bool) -> Result<u64, Memory>
     }
 }
 
-/// The number of a new kind variable.
+/// Makes a new kind variable, for mono or stereo, and gives its number.
 pub fn fresh_kind_number(subst: &mut Subst) -> Result<u64, Memory>
     ensures free { IfOk result (λ n. HasNewKind subst.old subst.new n) }
     ensures grows { Grows subst.old subst.new }
@@ -110,7 +111,8 @@ pub fn fresh_kind_number(subst: &mut Subst) -> Result<u64, Memory>
     }
 }
 
-/// The number of a type variable that stands for what the parameter may stand for.
+/// The number of a type variable for a parameter of a general type: a new one for any type or any number type, or the
+/// outer variable that it names.
 fn new_type(subst: &mut Subst, parameter: TypeParameter) -> Result<u64, Memory>
     requires { HasOuterType subst.old parameter }
     ensures new { IfOk result (λ n. IsNewType subst.old subst.new parameter n) }
@@ -123,7 +125,8 @@ fn new_type(subst: &mut Subst, parameter: TypeParameter) -> Result<u64, Memory>
     }
 }
 
-/// The number of a kind variable that stands for what the parameter may stand for.
+/// The number of a kind variable for a parameter of a general type: a new one for either kind, or the outer variable
+/// that it names.
 fn new_kind(subst: &mut Subst, parameter: KindParameter) -> Result<u64, Memory>
     requires { HasOuterKind subst.old parameter }
     ensures new { IfOk result (λ n. IsNewKind subst.old subst.new parameter n) }
@@ -136,7 +139,8 @@ fn new_kind(subst: &mut Subst, parameter: KindParameter) -> Result<u64, Memory>
     }
 }
 
-/// For each parameter the number of a type variable that stands for what it may stand for.
+/// For each type parameter of a general type the number of a variable that stands for it: a new one, or the outer one
+/// that it names.
 fn new_types(
     alloc: Global,
     subst: &mut Subst,
@@ -154,7 +158,8 @@ fn new_types(
     Ok(numbers)
 }
 
-/// For each parameter the number of a kind variable that stands for what it may stand for.
+/// For each kind parameter of a general type the number of a variable that stands for it: a new one, or the outer one
+/// that it names.
 fn new_kinds(
     alloc: Global,
     subst: &mut Subst,
@@ -172,7 +177,8 @@ fn new_kinds(
     Ok(numbers)
 }
 
-/// Adds the types with these numbers for their variables to an empty list.
+/// Appends copies of these types to an empty list, in which variables of these numbers stand for their type and kind
+/// variables.
 fn push_renamed(
     alloc: Global,
     copies: &mut Vec<Ty>,
@@ -190,7 +196,8 @@ fn push_renamed(
     Ok(())
 }
 
-/// Adds the kinds that stand for the open ones of the parameters to an empty list.
+/// Appends to an empty list the kind variables, by their numbers, that stand for those parameters which are open, that
+/// is, named in the text of a def.
 fn push_opened(
     kinds: &mut Vec<KindTerm>,
     parameters: &[KindParameter],

@@ -4,79 +4,85 @@ use Rattle.week_plan.specs.declared.listing.Round.{Round}
 use Rattle.week_plan.specs.declared.span.Span.{Span}
 use Rattle.week_plan.specs.Texts.{span_text}
 
--- the first span is the whole week
+-- Whether the first of these spans is the whole week, from second 0 to 604800.
 abbrev pub is_whole : List Span → Bool
 is_whole [] = false
 is_whole (span ∷ spans) = nat_eq span.from 0 && nat_le 604800 span.to
 
--- a span that begins before an end, of the day or of the week, as far as that end, by its first and its last second
+-- A span as far as `end`, the end of the day or of the week, by its first and its last second; none if it begins at
+-- `end` or later.
 abbrev pub round_before : (end : ℕ) → Span → List Round
 round_before end span = if nat_lt span.from end then record {
   from = span.from;
   last = min span.to end - 1;
 } ∷ [] else []
 
--- the spans that begin before an end, as far as that end, by their first and last seconds
+-- These spans as far as `end`, the end of the day or of the week, each by its first and its last second. Those that
+-- begin at `end` or later are left out.
 abbrev pub rounds_before : (end : ℕ) → List Span → List Round
 rounds_before end [] = []
 rounds_before end (span ∷ spans) = round_before end span ++ rounds_before end spans
 
--- the round that stands for none
+-- A span by its first and last second that stands for none, where a list of them is empty.
 abbrev pub no_round : Round
 no_round = record { from = 0; last = 0 }
 
--- the first round, if there is one
+-- The first of these spans, each by its first and last second; a span of second 0 where the list is empty.
 abbrev pub first_of : List Round → Round
 first_of rounds = get_or rounds 0 no_round
 
--- the last round, if there is one
+-- The last of these spans, each by its first and last second; a span of second 0 where the list is empty.
 abbrev pub last_of : List Round → Round
 last_of rounds = get_or rounds (length rounds - 1) no_round
 
--- there are two rounds at least, the first one begins with the week or the day, and the last one goes as far as its end
+-- Whether the last of these spans goes on in the first one, over `end`, the end of the day or of the week: there are
+-- two at least, the first begins at 0 and the last ends at `end`.
 abbrev pub goes_round : (end : ℕ) → List Round → Bool
 goes_round end rounds = nat_le 2 (length rounds)
     && (nat_eq (first_of rounds).from 0 && nat_eq (last_of rounds).last (end - 1))
 
--- one round in the place of the last and the first one: from the first second of the last one, over the end, up to the
--- last second of the first one
+-- One span that goes over the end of the day or of the week: it begins as the last of these and ends as the first.
 abbrev pub over_end : List Round → Round
 over_end rounds = record { from = (last_of rounds).from; last = (first_of rounds).last }
 
--- the first and the last one are told as one where they go round the end: at the place of the last one
+-- These spans, where a last and a first one that meet at `end`, the end of the day or of the week, become one, at the
+-- place of the last.
 abbrev pub joined : (end : ℕ) → List Round → List Round
 joined end rounds = if goes_round end rounds then drop 1 (slice_set rounds (length rounds - 1) (over_end rounds))
     else rounds
 
--- the comma before round number k, unless it is the first
+-- The comma and blank before span number k of a text; nothing before the first, number 0.
 abbrev pub comma : (k : ℕ) → List ℕ
 comma zero = []
 comma (suc k) = codes ", "
 
--- the text of a round; a second behind the week's end is told as its last one
+-- The text of a span by its first and last second, of each day if `daily` says so, else of the week. A second behind
+-- the end of the week is told as its last one.
 abbrev pub round_text : (daily : Bool) → Round → List ℕ
 round_text daily round = span_text daily (min round.from 604799) (min round.last 604799)
 
--- how many rounds more there are than are told
+-- The end of a list of spans of which not all are told: ` and N more`.
 abbrev pub more_text : ℕ → List ℕ
 more_text count = codes " and " ++ (decimal count ++ codes " more")
 
--- the text of these rounds, the first of them being number k: eight are told, and of the others how many they are
+-- The text of a list of spans with commas between them, where the first is number k, from 0: numbers 0 to 7 are told,
+-- and of the others how many they are.
 abbrev pub rounds_text : (daily : Bool) → (k : ℕ) → List Round → List ℕ
 rounds_text daily k [] = []
 rounds_text daily k (round ∷ rounds) =
     if nat_eq k 8 then more_text (length (round ∷ rounds))
     else (comma k ++ round_text daily round) ++ rounds_text daily (k + 1) rounds
 
--- where the day or the week ends
+-- The second at which what comes back ends: 86400 for what is the same on each day, or 604800 for the week.
 abbrev pub end_of_round : (daily : Bool) → ℕ
 end_of_round daily = if daily then 86400 else 604800
 
--- that it is so on each day
+-- The end of a text of spans of one day that is the same on each day: `, every day`; nothing for those of a week.
 abbrev pub every_text : (daily : Bool) → List ℕ
 every_text daily = if daily then codes ", every day" else []
 
--- when the holes are, which are these spans
+-- The text that tells a user when no case of a `switch` holds, which is in these spans: `at any time`, or the spans, of
+-- one day if `daily` says that all are alike.
 abbrev pub when_text : (daily : Bool) → List Span → List ℕ
 when_text daily spans =
     if is_whole spans then codes "at any time"

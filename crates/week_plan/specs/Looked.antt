@@ -7,17 +7,19 @@ use Rattle.week_plan.specs.Spans.{some_case_holds}
 use Rattle.week_plan.specs.Tables.{IsTableOf}
 use Rattle.week_plan.specs.declared.looked.Looked.{Looked}
 
--- what is kept of a look is what a look at its own cases tells
+-- A kept answer about a `switch` is right: its holes are the seconds at which none of its predicates holds, and its
+-- fates say what becomes of each of its cases.
 pub record IsLooked (looked : Looked) : Type 0 where
   pub holes : IsTableOf (λ at. not (some_case_holds (map view_shared looked.preds.now) at)) looked.seen.holes.items
   pub fates : AreFates (map view_shared looked.preds.now) looked.sure.items looked.seen.fates.items
 
--- it stands at this place
+-- This answer stands at this place, counted from 0, of the kept answers.
 pub record IsAt (kept : List Looked) (place : ℕ) (looked : Looked) : Type 0 where
   pub here : place < length kept
   pub there : looked ≡ get_or kept place looked
 
--- what stands at this place is told of these cases
+-- The kept answer at this place is right, and is about a `switch` with just these predicates and flags (`sure`: its
+-- source never falls silent).
 pub record IsLookedAt (kept : List Looked) (place : ℕ) (preds : List Predicate) (sure : List Bool) : Type 0 where
   pub looked : Looked
   pub at : IsAt kept place looked

@@ -33,8 +33,8 @@ pub struct Seen {
     pub fates: Vec<Fate>,
 }
 
-/// Looks at the cases of a switch, by their predicates, in order. `sure` tells of each case whether its source never
-/// falls silent.
+/// Looks at a `switch` over the week: finds the seconds at which no case holds, and what becomes of each case. `preds`
+/// are the predicates in order, and `sure` tells of each case whether its source never falls silent.
 pub fn look(alloc: Global, preds: &[SharedPred], sure: &[bool]) -> Result<Seen, Memory>
     requires { length sure.now ≡ length preds.now }
     ensures holes { IfOk result (λ look. IsTableOf (λ at. not (some_case_holds (map view_shared preds.now) at))
@@ -46,8 +46,8 @@ pub fn look(alloc: Global, preds: &[SharedPred], sure: &[bool]) -> Result<Seen, 
     Ok(Seen { holes, fates })
 }
 
-// What becomes of each case, in order. `holes` tells the seconds at which no case held yet; those at which one of these
-// holds are taken out.
+// What becomes of each case of a `switch` over the week, in order. It takes out of `holes`, a table of seconds, those
+// at which one of these cases holds.
 fn fates_of(
     alloc: Global,
     holes: &mut [u64],
@@ -65,8 +65,8 @@ fn fates_of(
     Ok(fates)
 }
 
-// Appends what becomes of each case. `holes` tells the seconds at which no case held yet, and `free` those at which
-// none did whose source never falls silent; each case takes its own from both.
+// Appends what becomes of each case of a `switch`. `holes` has the seconds at which no case held yet, and `free` those
+// at which none did whose source never falls silent; each case takes its own from both.
 fn push_fates(
     alloc: Global,
     into: &mut Vec<Fate>,
@@ -87,8 +87,8 @@ fn push_fates(
     Ok(())
 }
 
-// Appends what becomes of each case. Takes its seconds from `holes`, and from `free` too if its source never falls
-// silent. `kept` is room for a case's table, which stays for the next case, since that may have the same predicate.
+// Appends what becomes of each case of a `switch`. Takes its seconds from `holes`, and from `free` too if its source
+// never falls silent. `kept` is room for a case's table, which stays for the next case with the same predicate.
 fn push_each_fate(
     alloc: Global,
     into: &mut Vec<Fate>,
@@ -113,8 +113,8 @@ fn push_each_fate(
     Ok(())
 }
 
-// Makes in `kept` the table of case k, whose predicate is `pred`. Nothing is done if case k - 1 has the same predicate,
-// since its table is there.
+// Makes in `kept` the table of the seconds of the week at which case k, with the predicate `pred`, holds. If case k - 1
+// has the same predicate, that table is there already.
 fn keep_table(
     alloc: Global,
     kept: &mut Vec<u64>,
@@ -133,8 +133,8 @@ fn keep_table(
     Ok(())
 }
 
-// What becomes of a case that holds at the seconds of a table, and may be chosen at those that are free. They are taken
-// from the holes, and if its source never falls silent, from the free ones.
+// What becomes of a case that holds at the seconds of `table`, and may be chosen at those that are `free`. They are
+// taken out of the holes, and, if its source never falls silent (`sure`), of the free ones.
 fn take_case(holes: &mut [u64], free: &mut [u64], table: &[u64], sure: bool) -> Fate
     requires holes { IsTable holes.old }
     requires free { IsTable free.old }
@@ -149,7 +149,7 @@ fn take_case(holes: &mut [u64], free: &mut [u64], table: &[u64], sure: bool) -> 
     fate
 }
 
-// Takes the seconds of a table out of `from`, if the source of its case never falls silent (`sure`).
+// Takes the seconds of `table` out of the table `from`, if `sure` says that the source of the case never falls silent.
 fn take_if(from: &mut [u64], table: &[u64], sure: bool)
     requires from { IsTable from.old }
     requires table { IsTable table.now }
@@ -162,7 +162,8 @@ fn take_if(from: &mut [u64], table: &[u64], sure: bool)
     }
 }
 
-// What becomes of a case that holds at the seconds of `table`, and may be chosen at those of `free`.
+// What becomes of a case that holds at the seconds of `table`: it may be chosen if one of them is `free`, and else it
+// is hidden by cases before it, or holds at none.
 fn fate_of(table: &[u64], free: &[u64]) -> Fate
     requires table { IsTable table.now }
     requires free { IsTable free.now }

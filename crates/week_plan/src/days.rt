@@ -6,7 +6,7 @@ ghost use Rattle.week_plan.specs.Tables.{IsTable, is_told};
 /// The minutes of a day.
 const DAY: usize = 1440;
 
-/// Whether each day is like the others: a second of one day is told exactly where that of the next is.
+/// Whether a table of the week, with a word of 60 seconds for each minute, is the same on each day.
 pub fn is_daily(words: &[u64]) -> bool
     requires { IsTable words.now }
     ensures { (result ≡ true) ↔ IsDaily (is_told words.now) }

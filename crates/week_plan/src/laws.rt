@@ -3,7 +3,8 @@ ghost use Rattle.std.specs.Prelude.{◌≡◌, ℕ, Bool, List};
 ghost use Rattle.week_plan.specs.declared.span.Span.{Span};
 ghost use Rattle.week_plan.specs.Spans.{AreSpansOf};
 
-/// Of what is told of each second of the week there is one list of spans alone.
+/// A law: the set of seconds of which a test is true has only one list of spans, in order and each as long as it can
+/// be.
 pub fn one_list()
     ensures { (test : ℕ → Bool) (spans others : List Span) → AreSpansOf test spans → AreSpansOf test others
         → spans ≡ others }

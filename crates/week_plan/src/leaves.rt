@@ -12,7 +12,8 @@ use liq_base::Memory;
 use std::alloc::Global;
 use time_pred::Pred;
 
-/// The minutes after which a mark comes back.
+/// After how many minutes a time mark comes back: a week if it names a day, a day if an hour, an hour if a minute, and
+/// else one minute.
 pub fn minutes_of(mark: TimeMark) -> u32
     ensures same { 60 * result ≡ period_of mark }
     ensures some { 0 < result }
@@ -29,7 +30,7 @@ pub fn minutes_of(mark: TimeMark) -> u32
     }
 }
 
-/// The table of a predicate that comes back after so many minutes.
+/// The table of the seconds of the week at which a predicate holds that comes back after so many minutes.
 pub fn repeated_table(alloc: Global, pred: &Pred, minutes: u32) -> Result<Vec<u64>, Memory>
     requires some { 0 < minutes }
     requires week { minutes ≤ 10080 }
@@ -41,7 +42,8 @@ pub fn repeated_table(alloc: Global, pred: &Pred, minutes: u32) -> Result<Vec<u6
     Ok(words)
 }
 
-// Tells in the words of the first minutes at which of their seconds the predicate holds.
+// Fills a table of the week for a predicate that comes back after so many minutes: finds the seconds at which it holds
+// in these, and repeats them to the end of the week.
 fn fill_period(words: &mut [u64], pred: &Pred, minutes: u32)
     requires some { 0 < minutes }
     requires week { minutes ≤ 10080 }
@@ -60,7 +62,7 @@ fn fill_period(words: &mut [u64], pred: &Pred, minutes: u32)
     repeat(words, minutes as usize);
 }
 
-// Adds to a table the seconds from `from` up to `to`, if `told`.
+// Adds to a table of the week the seconds from `from` up to `to`, if `told` is true; else does nothing.
 fn add_where(into: &mut [u64], from: u32, to: u32, told: bool)
     requires into { IsTable into.old }
     requires order { from ≤ to }

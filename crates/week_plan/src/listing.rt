@@ -23,9 +23,9 @@ struct Round {
     last: u32,
 }
 
-/// Appends when the holes of a switch are, which are these spans, at least one: at any time, or the first 8 of them and
-/// how many more there are, on each day if `daily` says so. A hole that goes over midnight, or over the end of the
-/// week, is told as one.
+/// Appends the text that tells a user when no case of a `switch` holds, which is in these spans: `at any time`, or the
+/// first 8 of them and how many more there are, on each day if `daily` says so. One over midnight or the end of the
+/// week is told as one.
 pub fn push_when(
     alloc: Global,
     into: &mut Vec<u8>,
@@ -43,7 +43,7 @@ pub fn push_when(
     Ok(())
 }
 
-// Whether the first span is the whole week.
+// Whether the first of these spans is the whole week, from second 0 to 604800.
 fn is_whole(spans: &[Span]) -> bool
     ensures { result ≡ is_whole spans.now }
 {
@@ -53,7 +53,7 @@ fn is_whole(spans: &[Span]) -> bool
     }
 }
 
-// The second at which what comes back ends: a day's, with `daily`, or the week's.
+// The second at which what comes back ends: the end of a day with `daily`, else of the week.
 fn end_of_round(daily: bool) -> u32
     ensures is { result ≡ end_of_round daily }
     ensures some { 0 < result }
@@ -61,7 +61,7 @@ fn end_of_round(daily: bool) -> u32
     if daily { DAY } else { WEEK }
 }
 
-// Appends that it is so on each day, with `daily`.
+// Appends `, every day` with `daily`, else nothing.
 fn push_every(into: &mut Vec<u8>, daily: bool) -> Result<(), Memory>
     ensures { OnOk result (into.new.items ≡ into.old.items ++ every_text daily) }
 {
@@ -84,7 +84,7 @@ fn rounds(alloc: Global, spans: &[Span], end: u32) -> Result<Vec<Round>, Memory>
     Ok(rounds)
 }
 
-// Appends the spans that begin before `end`, as far as it.
+// Appends these spans as far as `end`, the end of the day or of the week, each by its first and last second.
 fn push_before(rounds: &mut Vec<Round>, spans: &[Span], end: u32) -> Result<(), Memory>
     ensures { OnOk result (rounds.new.items ≡ rounds.old.items ++ rounds_before end spans.now) }
 {
@@ -94,7 +94,8 @@ fn push_before(rounds: &mut Vec<Round>, spans: &[Span], end: u32) -> Result<(), 
     Ok(())
 }
 
-// Appends a span as far as `end`, if it begins before it.
+// Appends a span as far as `end`, the end of the day or of the week, by its first and last second; nothing if it begins
+// at `end` or later.
 fn push_round_before(rounds: &mut Vec<Round>, span: &Span, end: u32) -> Result<(), Memory>
     ensures { OnOk result (rounds.new.items ≡ rounds.old.items ++ round_before end span.now) }
 {
@@ -107,7 +108,7 @@ fn push_round_before(rounds: &mut Vec<Round>, span: &Span, end: u32) -> Result<(
     Ok(())
 }
 
-// Makes the first and the last round one, if they meet at `end`.
+// Makes the last and the first of these spans one, if they meet at `end`, the end of the day or of the week.
 fn join(rounds: &mut Vec<Round>, end: u32)
     requires { 0 < end }
     ensures { rounds.new.items ≡ joined end rounds.old.items }
@@ -123,7 +124,7 @@ fn join(rounds: &mut Vec<Round>, end: u32)
     let _joined = rounds.remove(0);
 }
 
-// Whether the last round goes as far as `end` and another one begins at 0.
+// Whether the last of these spans goes as far as `end`, the end of the day or of the week, and another one begins at 0.
 fn goes_round(rounds: &[Round], end: u32) -> bool
     requires { 0 < end }
     ensures is { result ≡ goes_round end rounds.now }
@@ -132,7 +133,7 @@ fn goes_round(rounds: &[Round], end: u32) -> bool
     count >= 2 && rounds[0].from == 0 && rounds[count - 1].last == end - 1
 }
 
-// Appends the rounds, with commas between them: the first 8, and how many more there are.
+// Appends the text of these spans, with commas between them: the first 8, and how many more there are.
 fn push_rounds(into: &mut Vec<u8>, rounds: &[Round], daily: bool) -> Result<(), Memory>
     ensures { OnOk result (into.new.items ≡ into.old.items ++ rounds_text daily 0 rounds.now) }
 {
@@ -146,7 +147,7 @@ fn push_rounds(into: &mut Vec<u8>, rounds: &[Round], daily: bool) -> Result<(), 
     Ok(())
 }
 
-// Appends round number k, behind a comma unless it is the first.
+// Appends the text of span number k, from 0, by its first and last second, behind a comma unless it is the first.
 fn push_round(into: &mut Vec<u8>, k: usize, daily: bool, round: &Round) -> Result<(), Memory>
     ensures { OnOk result (into.new.items ≡ into.old.items ++ (comma k ++ round_text daily round.now)) }
 {
@@ -160,7 +161,7 @@ fn push_round(into: &mut Vec<u8>, k: usize, daily: bool, round: &Round) -> Resul
     Ok(())
 }
 
-// Appends a comma, unless k is 0.
+// Appends the comma and blank before span number k, unless it is number 0.
 fn push_comma(into: &mut Vec<u8>, k: usize) -> Result<(), Memory>
     ensures { OnOk result (into.new.items ≡ into.old.items ++ comma k) }
 {
@@ -170,7 +171,7 @@ fn push_comma(into: &mut Vec<u8>, k: usize) -> Result<(), Memory>
     Ok(())
 }
 
-// Appends how many rounds are not told.
+// Appends ` and N more`, where N is how many spans are not told.
 fn push_more(into: &mut Vec<u8>, count: usize) -> Result<(), Memory>
     ensures { OnOk result (into.new.items ≡ into.old.items ++ more_text count) }
 {

@@ -20,8 +20,8 @@ pub struct Looked<'a> {
     pub seen: Seen,
 }
 
-/// As `look`, whose answer is kept behind those before: nothing is done where one of them is of the same cases. It
-/// tells the place of the answer.
+/// Looks at the cases of a `switch` as `look` does, but only if no kept answer is about the same predicates and flags.
+/// Keeps the answer, and gives its place among the kept ones.
 pub fn look_kept<'a>(
     alloc: Global,
     kept: &mut Vec<Looked<'a>>,
@@ -39,7 +39,7 @@ pub fn look_kept<'a>(
     }
 }
 
-// The place of the answer that is of these cases.
+// The place of the kept answer that is about a `switch` with these predicates and flags; `None` where there is none.
 fn place_among(kept: &[Looked<'_>], preds: &[SharedPred], sure: &[bool]) -> Option<usize>
     requires { All IsLooked kept.now }
     ensures { IfSome result (λ place. IsLookedAt kept.now place (map view_shared preds.now) sure.now) }
@@ -52,7 +52,7 @@ fn place_among(kept: &[Looked<'_>], preds: &[SharedPred], sure: &[bool]) -> Opti
     None
 }
 
-// Whether an answer is of these cases.
+// Whether a kept answer is about a `switch` with these predicates and flags (its source never falls silent).
 fn is_of(looked: &Looked<'_>, preds: &[SharedPred], sure: &[bool]) -> bool
     ensures preds { result ≡ true → map view_shared looked.now.preds.now ≡ map view_shared preds.now }
     ensures sure { result ≡ true → looked.now.sure.items ≡ sure.now }
@@ -63,7 +63,7 @@ fn is_of(looked: &Looked<'_>, preds: &[SharedPred], sure: &[bool]) -> bool
     false
 }
 
-// Looks at cases that are new.
+// Looks at the cases of a `switch` of which no answer is kept, keeps the answer, and gives its place.
 fn look_anew<'a>(
     alloc: Global,
     kept: &mut Vec<Looked<'a>>,
@@ -81,6 +81,7 @@ fn look_anew<'a>(
     Ok(place)
 }
 
+// Looks at the cases of a `switch`, and gives the answer together with their predicates and flags.
 fn looked_of<'a>(
     alloc: Global,
     preds: &'a [SharedPred],
@@ -95,7 +96,7 @@ fn looked_of<'a>(
     Ok(Looked { preds, sure, seen })
 }
 
-// Lets all answers go where as many are kept as may be.
+// Lets all kept answers go, if as many are kept as may be.
 fn make_room(kept: &mut Vec<Looked<'_>>)
     requires { All IsLooked kept.old.items }
     ensures { All IsLooked kept.new.items }
@@ -105,7 +106,7 @@ fn make_room(kept: &mut Vec<Looked<'_>>)
     }
 }
 
-// Keeps an answer, and tells its place.
+// Appends an answer to the kept ones, and gives its place.
 fn keep<'a>(kept: &mut Vec<Looked<'a>>, looked: Looked<'a>) -> Result<usize, Memory>
     requires kept { All IsLooked kept.old.items }
     requires looked { IsLooked looked }
@@ -117,7 +118,7 @@ fn keep<'a>(kept: &mut Vec<Looked<'a>>, looked: Looked<'a>) -> Result<usize, Mem
     Ok(place)
 }
 
-// Whether two lists have the same marks.
+// Whether two lists of flags, one for each case of a `switch`, are equal.
 fn same_flags(flags: &[bool], others: &[bool]) -> bool
     ensures { result ≡ true → flags.now ≡ others.now }
 {

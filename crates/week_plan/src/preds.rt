@@ -11,7 +11,8 @@ use liq_base::Memory;
 use std::alloc::Global;
 use time_pred::Pred;
 
-/// The table of the seconds at which a predicate holds.
+/// The table of the seconds of the week at which a predicate holds: a word for each minute, and in it a bit for each
+/// second.
 #[cycle(table)]
 pub fn table_of(alloc: Global, pred: &Pred) -> Result<Vec<u64>, Memory>
     ensures { IfOk result (λ words. IsTableOf (holds (view_pred pred.now)) words.items) }
@@ -32,7 +33,7 @@ pub fn table_of(alloc: Global, pred: &Pred) -> Result<Vec<u64>, Memory>
     }
 }
 
-// The table of the seconds at which all of these predicates hold.
+// The table of the seconds of the week at which all of these predicates hold, the parts of an `and`.
 #[cycle(table)]
 fn all_table(alloc: Global, parts: &[Pred]) -> Result<Vec<u64>, Memory>
     ensures { IfOk result (λ words. IsTableOf (λ at. list_all (λ p. holds (view_pred p) at) parts.now) words.items) }
@@ -45,7 +46,7 @@ fn all_table(alloc: Global, parts: &[Pred]) -> Result<Vec<u64>, Memory>
     Ok(words)
 }
 
-// The table of the seconds at which at least one of these predicates holds.
+// The table of the seconds of the week at which at least one of these predicates holds, the parts of an `or`.
 #[cycle(table)]
 fn any_table(alloc: Global, parts: &[Pred]) -> Result<Vec<u64>, Memory>
     ensures { IfOk result (λ words. IsTableOf (λ at. list_any (λ p. holds (view_pred p) at) parts.now) words.items) }
@@ -58,7 +59,7 @@ fn any_table(alloc: Global, parts: &[Pred]) -> Result<Vec<u64>, Memory>
     Ok(words)
 }
 
-// The table of the seconds that `table` does not tell.
+// The complement of a table of the week: the seconds that are not in `table`.
 fn turned(alloc: Global, table: &[u64]) -> Result<Vec<u64>, Memory>
     requires { IsTable table.now }
     ensures { IfOk result (λ words. IsTableOf (λ at. not (is_told table.now at)) words.items) }

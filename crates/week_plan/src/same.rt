@@ -6,7 +6,7 @@ ghost use Rattle.time_pred.specs.View.{view_pred, view_shared};
 use fixed_text::TimeMark;
 use time_pred::{Pred, SharedPred};
 
-/// Whether two lists have the same predicates, in the same order. It takes no memory.
+/// Whether two lists have predicates that are written alike, in the same order. It takes no memory.
 pub fn same_preds(preds: &[SharedPred], others: &[SharedPred]) -> bool
     ensures { result ≡ true → map view_shared preds.now ≡ map view_shared others.now }
 {
@@ -21,14 +21,14 @@ pub fn same_preds(preds: &[SharedPred], others: &[SharedPred]) -> bool
     true
 }
 
-/// Whether two predicates are the same. It takes no memory.
+/// Whether two predicates are written alike, which is more than that they hold at the same times. It takes no memory.
 pub fn same_pred(pred: &SharedPred, other: &SharedPred) -> bool
     ensures { result ≡ true → view_shared pred.now ≡ view_shared other.now }
 {
     is_same(pred.as_pred(), other.as_pred())
 }
 
-// Whether two predicates are written alike.
+// Whether two predicates are written alike, part by part.
 #[cycle(same)]
 fn is_same(pred: &Pred, other: &Pred) -> bool
     ensures { result ≡ true → view_pred pred.now ≡ view_pred other.now }
@@ -69,7 +69,7 @@ fn all_same(parts: &[Pred], others: &[Pred]) -> bool
     true
 }
 
-// Whether a predicate is `true`.
+// Whether a predicate is written `true`.
 fn is_always(pred: &Pred) -> bool
     ensures { result ≡ true → Always ≡ view_pred pred.now }
 {
@@ -79,7 +79,7 @@ fn is_always(pred: &Pred) -> bool
     }
 }
 
-// Whether a predicate is `false`.
+// Whether a predicate is written `false`.
 fn is_never(pred: &Pred) -> bool
     ensures { result ≡ true → Never ≡ view_pred pred.now }
 {
@@ -89,7 +89,7 @@ fn is_never(pred: &Pred) -> bool
     }
 }
 
-// Whether a predicate is this mark.
+// Whether a predicate is a time mark, such as `8h`, and this one.
 fn is_mark(mark: TimeMark, pred: &Pred) -> bool
     ensures { result ≡ true → At mark ≡ view_pred pred.now }
 {
@@ -99,7 +99,7 @@ fn is_mark(mark: TimeMark, pred: &Pred) -> bool
     }
 }
 
-// Whether a predicate is the interval between these marks.
+// Whether a predicate is an interval of time, such as `8h-12h`, and between these marks.
 fn is_interval(from: TimeMark, to: TimeMark, pred: &Pred) -> bool
     ensures { result ≡ true → Between from to ≡ view_pred pred.now }
 {
@@ -109,7 +109,7 @@ fn is_interval(from: TimeMark, to: TimeMark, pred: &Pred) -> bool
     }
 }
 
-// Whether two intervals have the same marks: `from` and `since` begin them, `to` and `until` end them.
+// Whether two intervals of time have the same marks: `from` and `since` begin them, `to` and `until` end them.
 fn is_both(from: TimeMark, since: TimeMark, to: TimeMark, until: TimeMark) -> bool
     ensures from { result ≡ true → from ≡ since }
     ensures to { result ≡ true → to ≡ until }
@@ -120,7 +120,7 @@ fn is_both(from: TimeMark, since: TimeMark, to: TimeMark, until: TimeMark) -> bo
     false
 }
 
-// Whether two marks are the same.
+// Whether two time marks, such as `8h`, are the same.
 fn is_one(mark: TimeMark, other: TimeMark) -> bool
     ensures { result ≡ true → mark ≡ other }
 {

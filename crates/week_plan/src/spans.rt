@@ -8,7 +8,7 @@ use crate::stretch::{WEEK, stretch_from};
 use liq_base::Memory;
 use std::alloc::Global;
 
-/// The spans of the week of which a table tells: each is as long as it can be, and they come in order.
+/// The spans of the seconds that a table of the week has: in order, each as long as it can be.
 pub fn spans_of(alloc: Global, words: &[u64]) -> Result<Vec<Span>, Memory>
     requires { IsTable words.now }
     ensures { IfOk result (λ spans. AreSpansOf (is_told words.now) spans.items) }
@@ -18,7 +18,7 @@ pub fn spans_of(alloc: Global, words: &[u64]) -> Result<Vec<Span>, Memory>
     Ok(spans)
 }
 
-// Appends the spans of the week of which a table tells.
+// Appends the spans of the seconds that a table of the week has, in order, each as long as it can be.
 fn push_spans(into: &mut Vec<Span>, words: &[u64]) -> Result<(), Memory>
     requires none { into.old.items ≡ [] }
     requires table { IsTable words.now }

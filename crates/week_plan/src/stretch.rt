@@ -15,7 +15,7 @@ pub struct Stretch {
     pub end: u32,
 }
 
-/// Whether a second of the week is told, and until when that stays at least.
+/// Whether a second is in the set that a table of the week has, and until which second, at least, all are as this one.
 pub fn stretch_from(words: &[u64], at: u32) -> Stretch
     requires table { IsTable words.now }
     requires week { at < 604800 }
@@ -31,7 +31,8 @@ pub fn stretch_from(words: &[u64], at: u32) -> Stretch
     }
 }
 
-// Where the whole minutes end, from a second on, of which each second is told, or none is.
+// Skips whole minutes of a table of the week, from the second `from` on, while all seconds of each are in it (`told`)
+// or none is. Gives where they end; `from` itself inside a minute.
 fn over_minutes(words: &[u64], from: u32, told: bool) -> u32
     requires table { IsTable words.now }
     requires week { from ≤ 604800 }
@@ -51,7 +52,8 @@ fn over_minutes(words: &[u64], from: u32, told: bool) -> u32
     WEEK
 }
 
-// For how many seconds of its minute it stays that a second is told, or that it is not.
+// For how many seconds, from `second` on, those of one minute are all in its word (`told`) or all not: up to the end of
+// the minute at most.
 fn stays_in(word: u64, second: u32, told: bool) -> u32
     requires word { word < 2 ^ 60 }
     requires minute { second < 60 }
@@ -67,7 +69,7 @@ fn stays_in(word: u64, second: u32, told: bool) -> u32
     behind.trailing_zeros().min(MINUTE - second)
 }
 
-// The word of the other seconds of a minute: of those that are not told, or of those that are.
+// The word of a minute with the other seconds: those not in `word` if `told` is true, and else those in it.
 fn others(word: u64, told: bool) -> u64
     ensures apart { (second : ℕ) → second < 60 → is_set result second ≡ false → is_set word second ≡ told }
     ensures alike { (second : ℕ) → second < 60 → is_set word second ≡ told → is_set result second ≡ false }
@@ -75,7 +77,7 @@ fn others(word: u64, told: bool) -> u64
     if told { FULL ^ word } else { word }
 }
 
-/// The second that comes so many later, or the end of the week.
+/// The second of the week that comes `stays` seconds after `at`, or the end of the week if that is earlier.
 pub fn end_of(at: u32, stays: u32) -> u32
     requires at { at < 604800 }
     requires some { 0 < stays }

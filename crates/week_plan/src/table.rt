@@ -24,14 +24,14 @@ pub enum Way {
     Without,
 }
 
-/// A table of the week in which each second is told, or none.
+/// A table of the week that has each second, or none: a word for each minute, and in it a bit for each second.
 pub fn filled(alloc: Global, told: bool) -> Result<Vec<u64>, Memory>
     ensures { IfOk result (λ words. IsTableOf (λ at. told) words.items) }
 {
     repeated(alloc, word_of(told), MINUTES)
 }
 
-/// The word of a minute of which each second is told, or none.
+/// The word of a minute that has each of its 60 seconds, or none.
 pub fn word_of(told: bool) -> u64
     ensures small { result < 2 ^ 60 }
     ensures same { (second : ℕ) → second < 60 → is_set result second ≡ told }
@@ -39,6 +39,7 @@ pub fn word_of(told: bool) -> u64
     if told { FULL } else { 0 }
 }
 
+// A list of `count` equal words.
 fn repeated(alloc: Global, word: u64, count: usize) -> Result<Vec<u64>, Memory>
     ensures size { IfOk result (λ words. length words.items ≡ count) }
     ensures same { IfOk result (λ words. (k : ℕ) → k < count → get_or words.items k 0 ≡ word) }
@@ -46,7 +47,8 @@ fn repeated(alloc: Global, word: u64, count: usize) -> Result<Vec<u64>, Memory>
     Ok(vec![in alloc; word; count]?)
 }
 
-/// Joins another table to a table.
+/// Makes one table of the week of two, in `into`: the seconds that both have, that either has, or that `into` has
+/// without the other.
 pub fn join(into: &mut [u64], other: &[u64], way: Way)
     requires into { IsTable into.old }
     requires other { IsTable other.now }
@@ -59,6 +61,8 @@ pub fn join(into: &mut [u64], other: &[u64], way: Way)
     }
 }
 
+// The word of one minute of two joined tables: the seconds that both have, that either has, or that the first has
+// without the other.
 fn joined_words(way: Way, one: u64, other: u64) -> u64
     requires one { one < 2 ^ 60 }
     requires other { other < 2 ^ 60 }
@@ -73,7 +77,7 @@ fn joined_words(way: Way, one: u64, other: u64) -> u64
     }
 }
 
-/// Whether two tables tell the same second.
+/// Whether two tables of the week have a second in common.
 pub fn meet(one: &[u64], other: &[u64]) -> bool
     requires one { IsTable one.now }
     requires other { IsTable other.now }
@@ -88,7 +92,7 @@ pub fn meet(one: &[u64], other: &[u64]) -> bool
     false
 }
 
-/// Adds to a table the seconds from one up to another.
+/// Adds to a table of the week the seconds from `from` up to `to`, without `to`.
 pub fn add_span(into: &mut [u64], from: u32, to: u32)
     requires into { IsTable into.old }
     requires order { from ≤ to }
@@ -104,7 +108,7 @@ pub fn add_span(into: &mut [u64], from: u32, to: u32)
     }
 }
 
-// The word of the seconds of a minute from one up to another.
+// The word of a minute that has its seconds from `from` up to `to`, without `to`.
 fn ones(from: u32, to: u32) -> u64
     requires order { from ≤ to }
     requires minute { to ≤ 60 }
@@ -113,7 +117,7 @@ fn ones(from: u32, to: u32) -> u64
     (1u64 << to) - (1u64 << from)
 }
 
-/// Repeats the first so many minutes up to the end of the week.
+/// Repeats the first so many minutes of a table of the week over and over, up to its end.
 pub fn repeat(into: &mut [u64], minutes: usize)
     requires into { IsTable into.old }
     requires some { 0 < minutes }
@@ -126,7 +130,7 @@ pub fn repeat(into: &mut [u64], minutes: usize)
     }
 }
 
-/// Whether a second of the week is told.
+/// Whether a second of the week is in the set that a table has: the bit of the second in the word of its minute.
 pub fn is_told(words: &[u64], at: u32) -> bool
     requires table { IsTable words.now }
     requires week { at < 604800 }
@@ -135,7 +139,7 @@ pub fn is_told(words: &[u64], at: u32) -> bool
     (words[(at / MINUTE) as usize] >> (at % MINUTE)) & 1 == 1
 }
 
-/// How many seconds of the week are told.
+/// How many seconds of the week are in the set that a table has.
 pub fn seconds_told(words: &[u64]) -> u32
     requires table { IsTable words.now }
     ensures { result ≡ how_many (is_told words.now) 604800 }

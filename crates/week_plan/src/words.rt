@@ -12,8 +12,8 @@ const HOUR: u32 = 3600;
 
 const DAY: u32 = 86_400;
 
-/// Appends a span by its first and its last second: with `daily` as a span of each day, else of the week, round whose
-/// end it goes where the last second comes before the first.
+/// Appends the text of a span by its first and last second: of each day with `daily`, else of the week, with the names
+/// of days. A span of the week goes round its end where the last second comes first.
 pub fn push_span_text(into: &mut Vec<u8>, daily: bool, from: u32, last: u32) -> Result<(), Memory>
     requires from { from < 604800 }
     requires last { last < 604800 }
@@ -26,7 +26,7 @@ pub fn push_span_text(into: &mut Vec<u8>, daily: bool, from: u32, last: u32) -> 
     }
 }
 
-// Appends a span of each day: from `from` to the end of the second `last`.
+// Appends the text of a span that comes back on each day, by its first and last second: `HH:MM-HH:MM`.
 fn push_daily(into: &mut Vec<u8>, from: u32, last: u32) -> Result<(), Memory>
     ensures { OnOk result (into.new.items ≡ into.old.items ++ daily_text from last) }
 {
@@ -36,7 +36,8 @@ fn push_daily(into: &mut Vec<u8>, from: u32, last: u32) -> Result<(), Memory>
     Ok(())
 }
 
-// Appends a span of the week: the day and the time of its begin, and of its end the day only if it is another one.
+// Appends the text of a span of the week, by its first and last second: `Mon HH:MM-Tue HH:MM`, the second day only if
+// it is another.
 fn push_weekly(into: &mut Vec<u8>, from: u32, last: u32) -> Result<(), Memory>
     requires { last < 604800 }
     ensures { OnOk result (into.new.items ≡ into.old.items ++ weekly_text from last) }
@@ -48,7 +49,7 @@ fn push_weekly(into: &mut Vec<u8>, from: u32, last: u32) -> Result<(), Memory>
     Ok(())
 }
 
-// Appends the day and the time at which a span begins.
+// Appends the day and the time of a second of the week, at which a span begins: `Mon HH:MM`.
 fn push_begin(into: &mut Vec<u8>, from: u32) -> Result<(), Memory>
     ensures { OnOk result (into.new.items ≡ into.old.items ++ (day_text (from / 86400) ++ clock_text (from % 86400))) }
 {
@@ -56,7 +57,7 @@ fn push_begin(into: &mut Vec<u8>, from: u32) -> Result<(), Memory>
     push_clock(into, from % DAY)
 }
 
-// Appends the day on which a span ends, unless it began on that day.
+// Appends the name of the day on which a span ends, by its first and last second, unless it began on that day.
 fn push_end_day(into: &mut Vec<u8>, from: u32, last: u32) -> Result<(), Memory>
     requires { last < 604800 }
     ensures { OnOk result (into.new.items ≡ into.old.items ++ end_day from last) }
@@ -68,7 +69,7 @@ fn push_end_day(into: &mut Vec<u8>, from: u32, last: u32) -> Result<(), Memory>
     }
 }
 
-// Whether a span begins and ends on one day.
+// Whether a span of the week, by its first and last second, begins and ends on the same day.
 fn is_one_day(from: u32, last: u32) -> bool
     requires { last < 604800 }
     ensures { result ≡ is_one_day from last }
@@ -76,14 +77,14 @@ fn is_one_day(from: u32, last: u32) -> bool
     from / DAY == last / DAY && from < last + 1
 }
 
-// Appends the time at which a span ends whose last second is this; 24:00 at the end of a day.
+// Appends the time of the day at which a span ends, from its last second of the week; `24:00` at the end of a day.
 fn push_end(into: &mut Vec<u8>, last: u32) -> Result<(), Memory>
     ensures { OnOk result (into.new.items ≡ into.old.items ++ end_text last) }
 {
     push_clock(into, last % DAY + 1)
 }
 
-// Appends a time of the day, told in seconds since midnight; its seconds only if they are not 0.
+// Appends a time of the day, told in seconds since midnight: `HH:MM`, and `:SS` where it is not on a full minute.
 fn push_clock(into: &mut Vec<u8>, second: u32) -> Result<(), Memory>
     ensures { OnOk result (into.new.items ≡ into.old.items ++ clock_text second) }
 {
@@ -94,7 +95,7 @@ fn push_clock(into: &mut Vec<u8>, second: u32) -> Result<(), Memory>
     Ok(())
 }
 
-// Appends a colon and seconds, unless they are 0.
+// Appends a colon and the seconds of a time in two digits, unless they are 0.
 fn push_seconds(into: &mut Vec<u8>, seconds: u32) -> Result<(), Memory>
     ensures { OnOk result (into.new.items ≡ into.old.items ++ seconds_part seconds) }
 {
@@ -105,7 +106,7 @@ fn push_seconds(into: &mut Vec<u8>, seconds: u32) -> Result<(), Memory>
     push_two(into, seconds)
 }
 
-// Appends a number below 100 in two digits.
+// Appends a number below 100 in two digits, such as `07`.
 fn push_two(into: &mut Vec<u8>, number: u32) -> Result<(), Memory>
     ensures { OnOk result (into.new.items ≡ into.old.items ++ two_digits number) }
 {
@@ -114,21 +115,21 @@ fn push_two(into: &mut Vec<u8>, number: u32) -> Result<(), Memory>
     Ok(())
 }
 
-// Appends a colon.
+// Appends the colon between the parts of a time.
 fn push_colon(into: &mut Vec<u8>) -> Result<(), Memory>
     ensures { OnOk result (into.new.items ≡ into.old.items ++ codes ":") }
 {
     push_plain(into, b":")
 }
 
-// Appends the dash between begin and end.
+// Appends the dash between the begin and the end of a span.
 fn push_dash(into: &mut Vec<u8>) -> Result<(), Memory>
     ensures { OnOk result (into.new.items ≡ into.old.items ++ codes "-") }
 {
     push_plain(into, b"-")
 }
 
-// Appends the name of a day of the week, of which Monday is 0.
+// Appends the short name of a day of the week, from 0 for Monday, and a blank.
 #[tactic(auto, unfolding(crate::specs::Texts::day_text))]
 fn push_day(into: &mut Vec<u8>, day: u32) -> Result<(), Memory>
     ensures { OnOk result (into.new.items ≡ into.old.items ++ day_text day) }
@@ -150,7 +151,7 @@ fn push_day(into: &mut Vec<u8>, day: u32) -> Result<(), Memory>
     }
 }
 
-/// Appends a text.
+/// Appends the bytes of a text to a list of bytes.
 pub fn push_plain(into: &mut Vec<u8>, text: &[u8]) -> Result<(), Memory>
     ensures { OnOk result (into.new.items ≡ into.old.items ++ text.now) }
 {
