@@ -190,20 +190,28 @@ class Month(Songs):
             return
         orders = {name: content(self.path(f"{name}.m3u")).decode(errors="surrogateescape").split("\n")[:-1] for name in ("rock", "all")}
         for at, name in cues:
-            if name:
-                self.rows[self.list_of(at, name, orders)].append((self.night, at, name))
+            whose = self.list_of(at, name, orders)
+            if name and whose:
+                self.rows[whose].append((self.night, at, name))
+            for song in self.songs if name and not whose else ():
+                song.touched.update({self.night} if song.name == name else ())
         self.hear(cues)
 
-    def list_of(self, at: float, file: str, orders: Dict[str, List[str]]) -> str:
+    def list_of(self, at: float, file: str, orders: Dict[str, List[str]]) -> Optional[str]:
         """Of which list a track was played that begins at a second of its night. A switch may come a second late, so that then
-        it is the list that goes on with it."""
-        if not (120 <= at < 121.2 or 240 <= at < 241.2):
-            return "rock" if 120 <= at < 240 else "all"
+        it is the list that goes on with it. Nothing where both have it, and what one of them played last is no entry now."""
+        due = "rock" if 120 <= at < 240 else "all"
+        having = [name for name, order in orders.items() if file in order]
+        if not (120 <= at < 121.2 or 240 <= at < 241.2) or not having:
+            return due
+        lasts = {name: self.rows[name][-1][2] if self.rows[name] else "" for name in having}
+        if len(having) > 1 and any(last not in orders[name] for name, last in lasts.items()):
+            return None
 
-        def steps(name: str) -> int:
-            order, last = orders[name], self.rows[name][-1][2] if self.rows[name] else ""
-            return (order.index(file) - order.index(last)) % len(order) if file in order and last in order else len(order)
-        return min(orders, key=steps)
+        def steps(name: str) -> Tuple[int, bool]:
+            order = orders[name]
+            return (order.index(file) - order.index(lasts[name])) % len(order), name != due
+        return having[0] if len(having) == 1 else min(having, key=steps)
 
     def compare_log(self, rows: List[Tuple[int, str]], cues: List[Tuple[float, str]]) -> None:
         """Compares the log with the cue file: the same files, in the same seconds."""
