@@ -48,7 +48,8 @@ pub fn push_nodes(
     Ok(())
 }
 
-// Appends the box of source k; `silent` says that the plan is refused for a silence.
+// Appends the box of source k. It is dashed unless the source always offers something (`infallible`), and red where it
+// is to blame for a fault (`red`). The fault is a silence where `silent` is true, and else that of `clocks`.
 fn push_node(
     alloc: Global,
     into: &mut Vec<u8>,
@@ -77,7 +78,8 @@ fn push_front(into: &mut Vec<u8>, k: u64) -> Result<(), Memory>
     push_between(into, b" [label=\"", k, b"  ")
 }
 
-// Appends the label of source k: what it does, and why it is red; `silent` says that the plan is refused for a silence.
+// Appends the label of source k: what it does, and where it is `red` why. The reason is a silence where the plan is
+// refused for one (`silent`), and else the fault in `clocks`.
 fn push_label(
     alloc: Global,
     into: &mut Vec<u8>,
@@ -95,7 +97,8 @@ fn push_label(
     push_red_words(alloc, into, silent, red, clocks, k, node)
 }
 
-// Appends the end of the box of a source, after its label: how it is drawn.
+// Appends the end of the box of a source, after its label, which says how it is drawn: dashed unless it always offers
+// something (`infallible`), and red where it is to blame for a fault (`red`).
 fn push_end(into: &mut Vec<u8>, infallible: bool, red: bool) -> Result<(), Memory>
     ensures { OnOk result (into.new.items ≡ into.old.items ++ box_end infallible red) }
 {
@@ -153,7 +156,8 @@ pub fn push_output(
     push_output_label(into, name, fallible, red)
 }
 
-// Appends the beginning of the box of output k, which is drawn as a sheet of paper, up to its label.
+// Appends the beginning of the box of output k, a sheet of paper, up to its label. It is dashed unless its source
+// always offers something (`infallible`), and red where the output is refused (`red`).
 fn push_sheet(into: &mut Vec<u8>, k: u64, infallible: bool, red: bool) -> Result<(), Memory>
     ensures { OnOk result (into.new.items ≡ into.old.items ++ output_front k infallible red) }
 {
@@ -194,7 +198,8 @@ fn push_output_label(
     push_plain(into, b"\"];\n")
 }
 
-// Appends what the label of an output says: its name, that it may be fallible, and that it was refused.
+// Appends what the label of an output says: its name, that the script lets it be fallible, where it does, and that it
+// may fall silent, where it is refused for that (`red`).
 fn push_output_words(
     into: &mut Vec<u8>,
     name: &Text,
@@ -230,7 +235,7 @@ fn push_silence(into: &mut Vec<u8>, red: bool) -> Result<(), Memory>
     }
 }
 
-/// Whether a sink is the one that was refused.
+/// Whether sink k is the one that was refused, whose number `refused` has; `None` says that none was.
 pub fn is_refused(refused: Option<u32>, k: u64) -> bool
     ensures { result ≡ is_refused refused k }
 {

@@ -23,8 +23,9 @@ pub struct Argument<'a> {
     pub var: u64,
 }
 
-/// Makes the arguments of a call match its parameters, which have these types, if they can; false if they cannot.
-/// Arguments that were matched may leave `given`.
+/// Makes the arguments of a call (`given`) have the types of the callee's parameters (`types`), each at the parameter
+/// that takes it. False if they cannot, or if an argument is left over. `subst` has what is known of types. Arguments
+/// that were matched may leave `given`.
 pub fn fit(
     alloc: Global,
     subst: &mut Subst,
@@ -55,8 +56,8 @@ pub fn fit(
     Ok(given.is_empty())
 }
 
-/// Makes the many arguments of a call match its parameters, which have these types, if they can, by a table of the
-/// labels of the arguments.
+/// Does as `fit` for a call of many arguments, by a table of their labels, which saves searching them anew for each
+/// parameter. False if the arguments (`given`) cannot have the types of the parameters (`types`), or one is left over.
 fn fit_many(
     alloc: Global,
     subst: &mut Subst,
@@ -75,8 +76,9 @@ fn fit_many(
     fit_labelled(alloc, subst, params, types, given, &mut labels)
 }
 
-/// Makes the arguments of a call that are left in the table `labels` match its parameters, which have these types, if
-/// they can; none may be left over.
+/// Makes the arguments of a call that are left in the table `labels` have the types of the callee's parameters
+/// (`types`). False if they cannot, or if an argument is left over. `given` has all arguments, and `subst` what is
+/// known of types.
 fn fit_labelled(
     alloc: Global,
     subst: &mut Subst,
@@ -163,8 +165,9 @@ fn take_argument(given: &mut Vec<Argument<'_>>, label: Option<&str>) -> Option<u
     None
 }
 
-/// Makes the type variable `taken`, that of a parameter's argument, have the parameter's type; false if it cannot.
-/// Without an argument it is true if the parameter need not have one.
+/// Makes `taken`, the type variable of a parameter's argument, have the parameter's type `ty`; false if it cannot.
+/// Where there is no argument (`None`), it is true if the parameter need not have one. `subst` has what is known of
+/// types.
 fn fit_one(
     alloc: Global,
     subst: &mut Subst,
