@@ -22,7 +22,7 @@ pub fn number_between(inverse: u64, before: i16, behind: i16, part: u32, whole: 
 }
 
 /// The number that takes the place of a division by `whole`: 2^48 divided by `whole`, cut, and 1 more. The product with
-/// it, divided by 2^48, is the quotient.
+/// it, divided by 2^48 and cut, is the quotient of each sum that is divided here.
 pub fn inverse_of(whole: u32) -> u64
     requires { 0 < whole }
     ensures { result ≡ inverse_of whole }
