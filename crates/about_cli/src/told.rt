@@ -40,6 +40,7 @@ impl From<Memory> for Untold {
 
     ghost from_gives = { λ _ e. e ≡ untold.Memory };
 
+    // Refused memory as the reason why nothing is told, so that `?` hands it on.
     fn from(_refused: Memory) -> Untold {
         Untold::Memory
     }
@@ -82,8 +83,8 @@ fn plan_in(alloc: Global, text: &[u8]) -> Result<Plan, Untold>
     }
 }
 
-// The lines of a script's week: what its switches choose over it. `Err` says that the script has no plan, or that
-// memory was refused.
+// The lines of a script's week: those about its switches, and how long it is silent in all. `Err` says that the script
+// has no plan, or that memory was refused.
 fn week_of(alloc: Global, text: &[u8]) -> Result<Vec<u8>, Untold>
     ensures told { IfOk result (λ told. OfPlan text.now (λ plan. IsWeekOf plan told.items)) }
     ensures no_plan { IfErr result (λ why. why ≡ untold.NoPlan → HasNoPlan text.now) }
@@ -92,8 +93,8 @@ fn week_of(alloc: Global, text: &[u8]) -> Result<Vec<u8>, Untold>
     Ok(listed(alloc, &plan)?)
 }
 
-// The lines of a plan's week: what its switches choose over it. That takes which sources always offer something, which
-// is inferred first.
+// The lines of a plan's week: those about its switches, and how long it is silent in all. Which sources always offer
+// something is inferred first.
 fn listed(alloc: Global, plan: &Plan) -> Result<Vec<u8>, Memory>
     requires { IsWellFormed plan.now }
     ensures { IfOk result (λ told. IsWeekOf plan.now told.items) }
@@ -135,8 +136,8 @@ fn refused_output(plan: &Plan, marks: &[bool]) -> Option<u32>
     }
 }
 
-// Tells what a script plays: its plan, and what becomes of each audio file or list. Each source is told with the place
-// of its call in the text. The files are read from the shelf, under the limits of `liq`.
+// Tells what a script plays, as JSON: its plan, and what becomes of each audio file or list. Each source is told with
+// the place of its call in the text. The files are read from the shelf, under the limits of `liq`.
 fn files_of<S: Shelf>(alloc: Global, text: &[u8], shelf: &mut S) -> Result<Vec<u8>, Untold>
     ensures told { IfOk result
         (λ told. Tells Question.Files text.now (S.told shelf.old) (S.told shelf.new) told.items) }
@@ -156,8 +157,8 @@ fn files_of<S: Shelf>(alloc: Global, text: &[u8], shelf: &mut S) -> Result<Vec<u
     Ok(tell_files(alloc, &sources.plan, &ats, shelf, sizes)?)
 }
 
-// Tells the hours of a script's switches, each source with the place of its call in the text. `Err` says that the
-// script has no plan, or that memory was refused.
+// Tells the hours of a script's switches, as JSON: when in the week each case is the first that holds. Each source is
+// told with the place of its call in the text. `Err` says that the script has no plan, or that memory was refused.
 fn hours_of(alloc: Global, text: &[u8]) -> Result<Vec<u8>, Untold>
     ensures told { IfOk result (λ told. OfSources text.now (λ plan ats. AreHours plan ats told.items)) }
     ensures no_plan { IfErr result (λ why. why ≡ untold.NoPlan → HasNoPlan text.now) }
