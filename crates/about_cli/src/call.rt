@@ -36,9 +36,9 @@ const NO_OUTPUT: u8 = 4;
 /// Memory was refused.
 const NO_MEMORY: u8 = 5;
 
-/// Runs one call of the command `about`: tells what `words` (a question and a script's name) ask about a script of
-/// `scripts`, whose files are those of `shelf`. Answers the status, from 0 to 5. `out` gets the answer in one piece,
-/// but for `where`, which passes the lines of `input` on. `shelf` is read only for `files`.
+/// Runs one call of the command `about`: tells on `out` what `words` (a question and a script's name) ask about a
+/// script of `scripts`, and answers the status, from 0 to 5. `input` has the lines that `where` passes on. `shelf` has
+/// the script's files, read for `files` alone. `err` gets the usage line for words without a form.
 pub fn about<T: Shelf, S: Shelf, I: Read + Drop, O: Sink, E: Sink>(
     alloc: Global,
     words: &[String],
@@ -99,8 +99,8 @@ fn show<T: Shelf, I: Read + Drop, O: Sink>(
     }
 }
 
-// Reads the bytes of the script `file` into `text`, which is empty. False says that it is not there, too long or
-// unreadable; `Err` that memory was refused.
+// Reads the bytes of the script `file` of `scripts` into `text`, which is empty. False says that it is not there, too
+// long or unreadable; `Err` that memory was refused.
 fn find_script<T: Shelf>(file: &str, scripts: &mut T, text: &mut Vec<u8>) -> Result<bool, Memory>
     requires { text.old.items ≡ [] }
     ensures script { IfOk result (λ found. IsScript file.now (T.told scripts.old) (T.told scripts.new)

@@ -10,8 +10,8 @@ use std::sync::Wait;
 use std::test::Fail;
 use std::thread;
 
-// Puts a chunk with this number as its sample into a buffer's queue. `None` says that it was accepted. Where the queue
-// is full, the chunk comes back, and its sample is answered.
+// Puts a chunk with this number as its sample into a buffer's queue, by the pass of the one who puts. `None` says that
+// it was accepted. Where the queue is full, the chunk comes back, and its sample is answered.
 fn put_one<R: Wait>(
     rt: &R,
     alloc: Global,
@@ -30,7 +30,8 @@ fn put_one<R: Wait>(
     }
 }
 
-// Takes a chunk from a buffer's queue, and answers its sample; `None` where the queue is empty.
+// Takes a chunk from a buffer's queue, by the pass of the one who takes, and answers its sample; `None` where the queue
+// is empty.
 fn take_one<R: Wait>(
     rt: &R,
     queue: &BufferQueue,

@@ -48,8 +48,8 @@ fn take_one(taps: &mut LocalTaps) -> Result<bool, Memory>
     Ok(chunk.is_some())
 }
 
-// Checks that a buffer with room for one chunk accepts one of two, and answers one of two takes, in one window, and
-// counts all four.
+// Checks, by the ends of a buffer with room for one chunk (`taps`), that it accepts one of two chunks and answers one
+// of two takes, in one window, and counts all four.
 fn check(rt: &impl Abort, alloc: Global, taps: &mut LocalTaps) -> Result<(), Fail>
     requires { length taps.old ≡ 1 }
     ensures { length taps.new ≡ 1 }

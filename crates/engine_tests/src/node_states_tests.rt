@@ -56,7 +56,8 @@ fn zero(first: bool) -> Option<Cell> {
     })
 }
 
-// Checks that a blank with tracks of two samples begins its next track behind them.
+// Checks that a blank with tracks of two samples begins its next track behind them. `state` is the state of the blank
+// at its first sample.
 fn check_blank(
     rt: &impl Abort,
     alloc: Global,
@@ -123,7 +124,7 @@ fn sample(left: i16, first: bool) -> Option<Cell> {
 }
 
 // Checks that a crossfade with an overlap of one sample offers the first of two samples at once, and the second once
-// the next track has begun.
+// the next track has begun. `state` is the state of the crossfade before it got a sample.
 fn check_crossfade(
     rt: &impl Abort,
     alloc: Global,

@@ -43,8 +43,8 @@ fn check_instant(
     }
 }
 
-// Checks a `rotate` or `random` over some instants, and that it picks nothing where no child offers. Each row has what
-// the two children offer, the child that is used, and whether its cell begins a track.
+// Checks a `rotate` or `random` (`turn`) over some instants, and that it picks nothing where no child offers. Each row
+// has what the two children offer, the child that is used, and whether its cell begins a track.
 fn check(rt: &impl Abort, turn: Turn, rows: &[(i16, i16, u32, bool)]) {
     let mut state = TurnState::new(turn, 2);
     for (at, row) in rows.iter().enumerate() {

@@ -14,9 +14,9 @@ use plan_blames::{
 use plan_core::{Node, Plan};
 use std::alloc::Global;
 
-/// Appends a box for each source, dashed where it may offer nothing, and red where it is to blame for a fault. `marks`
-/// has of each source whether it always offers something; `reds` whether it is to blame for a silence, if the plan is
-/// refused for one (`silent`).
+/// Appends a box for each source, dashed unless it always offers something (`marks`), and red where it is to blame for
+/// a fault. If the plan is refused for a silence (`silent`), `reds` says which sources are to blame; else the fault is
+/// that of `clocks`, if they have one.
 pub fn push_nodes(
     alloc: Global,
     into: &mut Vec<u8>,
@@ -107,7 +107,8 @@ fn push_end(into: &mut Vec<u8>, infallible: bool, red: bool) -> Result<(), Memor
     push_style(into, red)
 }
 
-// Appends that the border of a source's box is dashed, if the source may offer nothing; nothing else.
+// Appends that the border of a source's box is dashed, unless the source always offers something (`infallible`); else
+// nothing.
 fn push_border(into: &mut Vec<u8>, infallible: bool) -> Result<(), Memory>
     ensures { OnOk result (into.new.items ≡ into.old.items ++ border infallible) }
 {
@@ -224,7 +225,7 @@ fn push_fallible(into: &mut Vec<u8>, fallible: bool) -> Result<(), Memory>
     }
 }
 
-// Appends that an output may fall silent, if it was refused for that.
+// Appends that an output may fall silent, which is fault E25, if it was refused for that (`red`).
 fn push_silence(into: &mut Vec<u8>, red: bool) -> Result<(), Memory>
     ensures { OnOk result (into.new.items ≡ into.old.items ++ silence_words red) }
 {

@@ -58,8 +58,9 @@ fn all_reds(
     }
 }
 
-// Appends the whole graphviz text of a plan. `groups` has the group of each source, the sources that share its clock,
-// and `red` whether it is to blame for a silence.
+// Appends the whole graphviz text of a plan. `marks` says which sources always offer something, `refused` which sink
+// may fall silent and must not. `clocks` has the plan's clocks, or why there are none. `groups` has the group of each
+// source, those that share a clock, and `red` whether it is to blame for a silence.
 fn push_picture(
     alloc: Global,
     into: &mut Vec<u8>,

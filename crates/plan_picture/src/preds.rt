@@ -110,7 +110,7 @@ fn push_closing(into: &mut Vec<u8>, within: bool) -> Result<(), Memory>
     }
 }
 
-// Appends an interval of the week, as `6h-22h`.
+// Appends an interval of the week, from one time mark to another, as `6h-22h`.
 fn push_interval(into: &mut Vec<u8>, from: TimeMark, to: TimeMark) -> Result<(), Memory>
     ensures { OnOk result (into.new.items ≡ into.old.items ++ interval_text from to) }
 {

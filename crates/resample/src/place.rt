@@ -50,7 +50,7 @@ pub fn way_of(from: u32, to: u32) -> Way
 }
 
 /// The place in the file of sample `number` at the new rate, counted from 0: the block before it, and how far it lies
-/// behind that one.
+/// behind that one. `way` has both rates.
 pub fn place_of(way: &Way, number: u64) -> Place
     requires some { 0 < way.now.to }
     requires room { number * way.now.from < 2 ^ 64 }

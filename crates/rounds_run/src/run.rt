@@ -72,7 +72,8 @@ fn told(alloc: Global, mut taps: LocalTaps, buffers: usize) -> Result<RunEnd, Me
     })
 }
 
-// For each buffer, by its number, how many of its puts and takes went well and how many found it full or empty.
+// For each of so many buffers, by its number, how many of its puts and takes went well and how many found it full or
+// empty. `taps` are the ends of the buffers, which count them.
 fn count_all(alloc: Global, taps: &LocalTaps, buffers: usize) -> Result<Vec<Counts>, Memory>
     requires { buffers ≡ length taps.now }
     ensures counts { IfOk result (λ counts. counts.items ≡ map (λ list. counts_of (all_answers list)) taps.now) }

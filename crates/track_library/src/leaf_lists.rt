@@ -60,8 +60,8 @@ impl LeafLists {
         }
     }
 
-    // Adds the list of a playlist whose names stand in this file. Where an earlier node has the same list from this
-    // file, both share it, so that it is held once.
+    // Adds `leaf`, the list of a playlist whose names stand in this file. Where an earlier node has the same list from
+    // this file, both share it, so that it is held once.
     fn push_played(&mut self, alloc: Global, file: &str, leaf: Vec<u32>) -> Result<(), Memory>
         ensures { OnOk result (self.new ≡ self.old ++ leaf.items ∷ []) }
     {
@@ -75,7 +75,8 @@ impl LeafLists {
         Ok(())
     }
 
-    // Adds a list that the next node shares with no earlier one, and answers its number among the different lists.
+    // Adds `leaf` as a list that the next node shares with no earlier one, and answers its number among the different
+    // lists.
     fn push_own(&mut self, leaf: Vec<u32>) -> Result<u32, Memory>
         ensures { OnOk result (self.new ≡ self.old ++ leaf.items ∷ []) }
     {
@@ -100,7 +101,7 @@ impl LeafLists {
     }
 }
 
-// Whether the earlier list of this number has the same files as `leaf`, so that two nodes can share it: then its
+// Whether the list of this number among `lists` has the same files as `leaf`, so that two nodes can share it: then its
 // number, else `None`. Where `number` is `None`, there is no earlier list.
 fn if_same(lists: &[Vec<u32>], number: Option<u32>, leaf: &[u32]) -> Option<u32>
     ensures { IfSome result (λ number. (number < length lists.now)

@@ -206,8 +206,9 @@ fn walk_nodes<S: Shelf>(
     Ok(())
 }
 
-/// The leaf of a `single` with this file name: the number of the file, alone in a list. A file that cannot be used is a
-/// fault of the load, since a `single` plays nothing else.
+/// The leaf of a `single` with this file name: the number of the file, alone in a list. `audio` has the files met so
+/// far, and gets this one if it is new. A file that cannot be used is a fault of the load, since a `single` plays
+/// nothing else.
 fn find_single<S: Shelf>(
     alloc: Global,
     shelf: &mut S,
@@ -250,8 +251,9 @@ fn push_found(leaf: &mut Vec<u32>, found: Result<u32, Unusable>) -> Result<(), M
     Ok(())
 }
 
-/// The leaf of a playlist with these entries: the numbers of their audio files, in their order. An entry whose file
-/// cannot be used is left out. More entries than 32 bits can count are refused, as if there was no memory.
+/// The leaf of a playlist with these entries (`names`): the numbers of their audio files, in order. `audio` has the
+/// files met so far, and gets those that are new. An entry whose file cannot be used is left out. More entries than 32
+/// bits can count are refused, as if there was no memory.
 fn play_entries<S: Shelf>(
     alloc: Global,
     shelf: &mut S,

@@ -23,9 +23,9 @@ pub struct Argument<'a> {
     pub var: u64,
 }
 
-/// Makes the arguments of a call (`given`) have the types of the callee's parameters (`types`), each at the parameter
-/// that takes it. False if they cannot, or if an argument is left over. `subst` has what is known of types. Arguments
-/// that were matched may leave `given`.
+/// Makes the arguments of a call (`given`) have the types (`types`) of the callee's parameters (`params`), each at the
+/// parameter that takes it. False if they cannot, or if one is left over. `subst`, the substitution, has what is known
+/// of types. Arguments that were matched may leave `given`.
 pub fn fit(
     alloc: Global,
     subst: &mut Subst,
@@ -56,8 +56,9 @@ pub fn fit(
     Ok(given.is_empty())
 }
 
-/// Does as `fit` for a call of many arguments, by a table of their labels, which saves searching them anew for each
-/// parameter. False if the arguments (`given`) cannot have the types of the parameters (`types`), or one is left over.
+/// Does as `fit` for a call of many arguments (`given`), by a table of their labels: they are then not searched anew
+/// for each of the parameters (`params`). False if they cannot have the parameters' types (`types`), or one is left
+/// over. `subst`, the substitution, has what is known of types.
 fn fit_many(
     alloc: Global,
     subst: &mut Subst,
@@ -76,9 +77,9 @@ fn fit_many(
     fit_labelled(alloc, subst, params, types, given, &mut labels)
 }
 
-/// Makes the arguments of a call that are left in the table `labels` have the types of the callee's parameters
-/// (`types`). False if they cannot, or if an argument is left over. `given` has all arguments, and `subst` what is
-/// known of types.
+/// Makes the arguments of a call that are left in the table `labels` have the types (`types`) of the callee's
+/// parameters (`params`). False if they cannot, or if one is left over. `given` has all arguments, and `subst`, the
+/// substitution, what is known of types.
 fn fit_labelled(
     alloc: Global,
     subst: &mut Subst,
@@ -117,8 +118,8 @@ fn labels_of<'a>(alloc: Global, given: &[Argument<'a>]) -> Result<Vec<Option<&'a
     Ok(labels)
 }
 
-/// Takes out of the table the first argument left with this label, or the first without one where `label` is none.
-/// Returns its type variable; `None` if there is no such argument.
+/// Takes out of the table `labels` the first argument left with this label, or the first without one where `label` is
+/// none. Answers its type variable, which `given`, the list of all arguments, has; `None` if there is no such argument.
 fn take_labelled(
     labels: &mut Labels<'_>,
     given: &[Argument<'_>],

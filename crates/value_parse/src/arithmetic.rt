@@ -121,7 +121,8 @@ pub fn sum_of<'a>(
     Ok((make::sum(first, others), rest))
 }
 
-// Reads the further parts of a sum, ((`+` | `-`) product)*, and answers them with the tokens behind them.
+// Reads the further parts of a sum, ((`+` | `-`) product)*, from where reading stands (`at`), and answers them with the
+// tokens behind them.
 #[cycle(value)]
 fn addends<'a>(at: At<'a>) -> Result<(Vec<Added>, &'a [Token]), Fault>
     requires within { length at.tokens.now ≤ at.total }
@@ -189,7 +190,8 @@ pub fn product_of<'a>(
     Ok((make::product(first, others), rest))
 }
 
-// Reads the further parts of a product, ((`*` | `/`) operand)*, and answers them with the tokens behind them.
+// Reads the further parts of a product, ((`*` | `/`) operand)*, from where reading stands (`at`), and answers them with
+// the tokens behind them.
 #[cycle(value)]
 fn factors<'a>(at: At<'a>) -> Result<(Vec<Multiplied>, &'a [Token]), Fault>
     requires within { length at.tokens.now ≤ at.total }

@@ -95,7 +95,8 @@ fn expr_of<'a>(
     Ok((make::expr(first, others), rest))
 }
 
-// Reads the further parts of an expression, (`or` and)*, and answers them with the tokens behind them.
+// Reads the further parts of an expression, (`or` and)*, from where reading stands (`at`), and answers them with the
+// tokens behind them.
 #[cycle(value)]
 fn ands<'a>(at: At<'a>) -> Result<(Vec<And>, &'a [Token]), Fault>
     requires within { length at.tokens.now ≤ at.total }
@@ -151,7 +152,8 @@ fn and_of<'a>(
     Ok((make::and_term(first, others), rest))
 }
 
-// Reads the further parts of a conjunction, (`and` not)*, and answers them with the tokens behind them.
+// Reads the further parts of a conjunction, (`and` not)*, from where reading stands (`at`), and answers them with the
+// tokens behind them.
 #[cycle(value)]
 fn nots<'a>(at: At<'a>) -> Result<(Vec<Not>, &'a [Token]), Fault>
     requires within { length at.tokens.now ≤ at.total }
