@@ -36,9 +36,9 @@ const NO_OUTPUT: u8 = 4;
 /// Memory was refused.
 const NO_MEMORY: u8 = 5;
 
-/// Tells what the words ask about a script of `scripts`, whose files are those of `shelf`, and answers the status, from
-/// 0 to 5. `out` gets the answer in one piece, but for `where`, which passes the lines of `input` on. Both `out` and
-/// `err` tell no room left. Nothing is read from `shelf` unless the words ask for `files`.
+/// Runs one call of the command `about`: tells on `out` what `words` (a question and a script's name) ask about a
+/// script of `scripts`, and answers the status, from 0 to 5. `input` has the lines that `where` passes on. `shelf` has
+/// the script's files, read for `files` alone. `err` gets the usage line for words without a form.
 pub fn about<T: Shelf, S: Shelf, I: Read + Drop, O: Sink, E: Sink>(
     alloc: Global,
     words: &[String],
@@ -74,7 +74,8 @@ pub fn about<T: Shelf, S: Shelf, I: Read + Drop, O: Sink, E: Sink>(
     put(err, USAGE.as_bytes(), NO_FORM)
 }
 
-// Passes the lines of the input on, with the places in the script that they name, and returns the status.
+// Answers the word `where`: passes the lines of `input` on to `out`, with the places in the script `file` that they
+// name. A script that cannot be read has no places, and the lines go on all the same. Returns the status of the call.
 fn show<T: Shelf, I: Read + Drop, O: Sink>(
     alloc: Global,
     file: &str,
@@ -98,7 +99,8 @@ fn show<T: Shelf, I: Read + Drop, O: Sink>(
     }
 }
 
-// Reads the bytes of a script into `text`, which is empty, and returns whether that could be done.
+// Reads the bytes of the script `file` of `scripts` into `text`, which is empty. False says that it is not there, too
+// long or unreadable; `Err` that memory was refused.
 fn find_script<T: Shelf>(file: &str, scripts: &mut T, text: &mut Vec<u8>) -> Result<bool, Memory>
     requires { text.old.items ≡ [] }
     ensures script { IfOk result (λ found. IsScript file.now (T.told scripts.old) (T.told scripts.new)
@@ -114,7 +116,8 @@ fn find_script<T: Shelf>(file: &str, scripts: &mut T, text: &mut Vec<u8>) -> Res
     }
 }
 
-// The status after lines were passed on, by how that ended.
+// The status of the call after lines were passed on: `done` says how that ended, by the fault of input, output or
+// memory.
 fn passed(done: Result<(), Broke>) -> u8
     ensures { IsPassedBy done result }
 {
@@ -126,7 +129,8 @@ fn passed(done: Result<(), Broke>) -> u8
     }
 }
 
-// Reads the script, writes the answer to a question about it, and returns the status.
+// Reads the script `file`, writes to `out` the answer to a question about it, and returns the status of the call.
+// `shelf` has the audio files and lists that the script plays.
 fn answer<T: Shelf, S: Shelf, O: Sink>(
     alloc: Global,
     question: Question,
@@ -153,7 +157,8 @@ fn answer<T: Shelf, S: Shelf, O: Sink>(
     }
 }
 
-// Answers a question about a script that is too long, and returns the status.
+// Answers a question about a script that is longer than a script may be, and returns the status: of its tokens it tells
+// that it is too long, and to all else it has no plan.
 fn tell_long<O: Sink>(alloc: Global, question: Question, out: &mut O) -> u8
     requires { (O.told out.old).room ≡ None }
     ensures { (shelf : ShelfTold) → TellsLong question shelf (O.told out.old) (O.told out.new) result }
@@ -164,7 +169,8 @@ fn tell_long<O: Sink>(alloc: Global, question: Question, out: &mut O) -> u8
     }
 }
 
-// Tells the tokens of a script that is too long, which are none, and returns the status.
+// Writes to `out` what is told of the tokens of a script that is too long, which has none, and returns the status of
+// the call.
 fn put_long<O: Sink>(alloc: Global, out: &mut O) -> u8
     requires { (O.told out.old).room ≡ None }
     ensures { (shelf : ShelfTold) → TellsLong Question.Tokens shelf (O.told out.old) (O.told out.new) result }
@@ -175,7 +181,8 @@ fn put_long<O: Sink>(alloc: Global, out: &mut O) -> u8
     }
 }
 
-// Answers a question about the bytes of a script, whose files are those of `shelf`, and returns the status.
+// Writes to `out` the answer to a question about the script of these bytes, and returns the status of the call. `shelf`
+// has the audio files and lists that the script plays.
 fn tell<S: Shelf, O: Sink>(
     alloc: Global,
     question: Question,
@@ -196,7 +203,8 @@ fn tell<S: Shelf, O: Sink>(
     }
 }
 
-// Writes the one piece of a call; returns `status` if all of it was written, and otherwise 4.
+// Writes the one piece of output of a call to `sink`. Returns `status` if all of it was written, and otherwise 4, the
+// status of a failed write.
 fn put<W: Sink>(sink: &mut W, piece: &[u8], status: u8) -> u8
     requires { (W.told sink.old).room ≡ None }
     ensures { Puts piece.now status (W.told sink.old) (W.told sink.new) result }

@@ -40,12 +40,14 @@ impl From<Memory> for Untold {
 
     ghost from_gives = { λ _ e. e ≡ untold.Memory };
 
+    // Refused memory as the reason why nothing is told, so that `?` hands it on.
     fn from(_refused: Memory) -> Untold {
         Untold::Memory
     }
 }
 
-/// The answer to a question about the bytes of a script, whose files are those of the shelf.
+/// The text that answers a question about the script with these bytes. `shelf` has the audio files and lists that the
+/// script plays; only `Question::Files` reads them. `Err` says why nothing is told.
 pub fn told_of<S: Shelf>(
     alloc: Global,
     question: Question,
@@ -67,7 +69,8 @@ pub fn told_of<S: Shelf>(
     }
 }
 
-// The plan of a script's bytes.
+// The plan of the script with these bytes. `Err` says that it has none, whatever its fault is, or that memory was
+// refused.
 fn plan_in(alloc: Global, text: &[u8]) -> Result<Plan, Untold>
     ensures plan { IfOk result (IsPlan text.now) }
     ensures well_formed { IfOk result IsWellFormed }
@@ -80,7 +83,8 @@ fn plan_in(alloc: Global, text: &[u8]) -> Result<Plan, Untold>
     }
 }
 
-// The lines of the week of a script.
+// The lines of a script's week: those about its switches, and how long it is silent in all. `Err` says that the script
+// has no plan, or that memory was refused.
 fn week_of(alloc: Global, text: &[u8]) -> Result<Vec<u8>, Untold>
     ensures told { IfOk result (λ told. OfPlan text.now (λ plan. IsWeekOf plan told.items)) }
     ensures no_plan { IfErr result (λ why. why ≡ untold.NoPlan → HasNoPlan text.now) }
@@ -89,7 +93,8 @@ fn week_of(alloc: Global, text: &[u8]) -> Result<Vec<u8>, Untold>
     Ok(listed(alloc, &plan)?)
 }
 
-// The lines of the week of a plan.
+// The lines of a plan's week: those about its switches, and how long it is silent in all. Which sources always offer
+// something is inferred first.
 fn listed(alloc: Global, plan: &Plan) -> Result<Vec<u8>, Memory>
     requires { IsWellFormed plan.now }
     ensures { IfOk result (λ told. IsWeekOf plan.now told.items) }
@@ -98,7 +103,8 @@ fn listed(alloc: Global, plan: &Plan) -> Result<Vec<u8>, Memory>
     week(alloc, plan, &inferred.marks)
 }
 
-// The picture of a script.
+// The picture of the plan of a script, as text for graphviz. `Err` says that the script has no plan, or that memory was
+// refused.
 fn picture_of(alloc: Global, text: &[u8]) -> Result<Vec<u8>, Untold>
     ensures told { IfOk result (λ told. OfPlan text.now (λ plan. IsDrawn plan told.items)) }
     ensures no_plan { IfErr result (λ why. why ≡ untold.NoPlan → HasNoPlan text.now) }
@@ -107,7 +113,8 @@ fn picture_of(alloc: Global, text: &[u8]) -> Result<Vec<u8>, Untold>
     Ok(drawn(alloc, &plan)?)
 }
 
-// The picture of a plan.
+// The picture of a plan, as text for graphviz. What it shows in red is found first: the output that may fall silent and
+// must not, and the fault of its clocks.
 fn drawn(alloc: Global, plan: &Plan) -> Result<Vec<u8>, Memory>
     requires { IsWellFormed plan.now }
     ensures { IfOk result (λ told. IsDrawn plan.now told.items) }
@@ -117,7 +124,8 @@ fn drawn(alloc: Global, plan: &Plan) -> Result<Vec<u8>, Memory>
     picture(alloc, plan, &inferred.marks, refused, &inferred.clocks)
 }
 
-// The number of the first sink that may be silent and must not be; `None` where all may be as they are.
+// The number of the first output that may fall silent though the script does not let it; `None` where there is none.
+// `marks` says which sources always offer something.
 fn refused_output(plan: &Plan, marks: &[bool]) -> Option<u32>
     requires { IsWellFormed plan.now }
     ensures { IsRefused plan.now (mark_at marks.now) result }
@@ -128,7 +136,8 @@ fn refused_output(plan: &Plan, marks: &[bool]) -> Option<u32>
     }
 }
 
-// What a script is, and what becomes of each file that it plays.
+// Tells what a script plays, as JSON: its plan, and what becomes of each audio file or list. Each source is told with
+// the place of its call in the text. The files are read from the shelf, under the limits of `liq`.
 fn files_of<S: Shelf>(alloc: Global, text: &[u8], shelf: &mut S) -> Result<Vec<u8>, Untold>
     ensures told { IfOk result
         (λ told. Tells Question.Files text.now (S.told shelf.old) (S.told shelf.new) told.items) }
@@ -148,7 +157,8 @@ fn files_of<S: Shelf>(alloc: Global, text: &[u8], shelf: &mut S) -> Result<Vec<u
     Ok(tell_files(alloc, &sources.plan, &ats, shelf, sizes)?)
 }
 
-// The hours of a script's switches.
+// Tells the hours of a script's switches, as JSON: when in the week each case is the first that holds. Each source is
+// told with the place of its call in the text. `Err` says that the script has no plan, or that memory was refused.
 fn hours_of(alloc: Global, text: &[u8]) -> Result<Vec<u8>, Untold>
     ensures told { IfOk result (λ told. OfSources text.now (λ plan ats. AreHours plan ats told.items)) }
     ensures no_plan { IfErr result (λ why. why ≡ untold.NoPlan → HasNoPlan text.now) }
@@ -162,7 +172,8 @@ fn hours_of(alloc: Global, text: &[u8]) -> Result<Vec<u8>, Untold>
     Ok(tell_hours(alloc, &sources.plan, &ats)?)
 }
 
-// The plan of a script's bytes, with the token of the call that makes each source.
+// The plan of the script with these bytes, and for each source the number of the token at which the call begins that
+// makes it. `Err` says that it has no plan, or that memory was refused.
 fn sources_in(alloc: Global, text: &[u8]) -> Result<Sources, Untold>
     ensures sources { IfOk result (λ s. HasSources text.now s.plan s.calls) }
     ensures well_formed { IfOk result (λ s. IsWellFormed s.plan) }
@@ -176,7 +187,8 @@ fn sources_in(alloc: Global, text: &[u8]) -> Result<Sources, Untold>
     }
 }
 
-// The bytes at which the tokens of these numbers begin, in a text of `total` bytes.
+// For each of these token numbers the index of the byte at which the token begins, in a text of `total` bytes. `tokens`
+// are all tokens of the text.
 fn starts(
     alloc: Global,
     total: usize,

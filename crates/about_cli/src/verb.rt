@@ -31,7 +31,7 @@ pub enum Question {
     Tokens,
 }
 
-/// The verb that a word is, if it is one.
+/// The verb that the first word of a call names, as `where` or `picture`; `None` where it names none.
 pub fn verb_of(word: &str) -> Option<Verb>
     ensures { result ≡ verb_of word.now }
 {

@@ -8,6 +8,8 @@ use std::process::ExitCode;
 /// The status of a call whose words could not be held.
 const NO_MEMORY: u8 = 5;
 
+// Runs `about` on the words of the command line, over real files and the standard streams, and exits with the status of
+// the call. Only regular files count as audio files and lists of a script.
 fn main(rt: HostRuntime) -> ExitCode {
     let alloc = rt.alloc();
     let Some(words) = words(&rt) else {

@@ -10,8 +10,8 @@ use std::sync::Wait;
 use std::test::Fail;
 use std::thread;
 
-// Puts a chunk with this number as its sample into a buffer's queue, and answers the sample of the chunk that comes
-// back where the queue is full.
+// Puts a chunk with this number as its sample into a buffer's queue, by the pass of the one who puts. `None` says that
+// it was accepted. Where the queue is full, the chunk comes back, and its sample is answered.
 fn put_one<R: Wait>(
     rt: &R,
     alloc: Global,
@@ -30,7 +30,8 @@ fn put_one<R: Wait>(
     }
 }
 
-// Takes a chunk from a buffer's queue, and answers its sample; nothing where the queue is empty.
+// Takes a chunk from a buffer's queue, by the pass of the one who takes, and answers its sample; `None` where the queue
+// is empty.
 fn take_one<R: Wait>(
     rt: &R,
     queue: &BufferQueue,
@@ -118,7 +119,8 @@ const CHUNKS: i16 = 1000;
 // How often each thread tries at most.
 const TRIES: u32 = 20_000_000;
 
-// One of two threads: puts the chunks into the queue in order, and answers whether all were accepted.
+// One of two threads: puts the numbered chunks into the queue in order, and tries again where it is full. False says
+// that not all were accepted within the tries, or that memory was refused.
 fn put_all<R: Wait>(rt: &R, alloc: Global, queue: &BufferQueue, pass: &mut PutPass) -> bool
     requires { pass.old.queue ≡ queue.now }
 {
@@ -139,7 +141,8 @@ fn put_all<R: Wait>(rt: &R, alloc: Global, queue: &BufferQueue, pass: &mut PutPa
     false
 }
 
-// The other of two threads: takes the chunks from the queue, and answers whether all came, in order.
+// The other of two threads: takes the chunks from the queue, and tries again where it is empty. True says that all
+// came, in order; false, that one was out of order, a take failed, or the tries did not do.
 fn take_all<R: Wait>(rt: &R, queue: &BufferQueue, pass: &mut TakePass) -> bool
     requires { pass.old.queue ≡ queue.now }
 {

@@ -26,7 +26,7 @@ fn one_buffer(alloc: Global) -> Result<Plan, AllocError>
     })
 }
 
-// Gives a chunk to buffer 0, and answers whether the buffer accepted it.
+// Gives a chunk to buffer 0, and answers true where the buffer accepted it, and false where it was full.
 fn give_one(alloc: Global, taps: &mut LocalTaps) -> Result<bool, Fail>
     requires { length taps.old ≡ 1 }
     ensures { length taps.new ≡ 1 }
@@ -39,7 +39,7 @@ fn give_one(alloc: Global, taps: &mut LocalTaps) -> Result<bool, Fail>
     }
 }
 
-// Takes a chunk from buffer 0, and answers whether there was one.
+// Takes a chunk from buffer 0, and answers whether there was one to take.
 fn take_one(taps: &mut LocalTaps) -> Result<bool, Memory>
     requires { length taps.old ≡ 1 }
     ensures { length taps.new ≡ 1 }
@@ -48,8 +48,8 @@ fn take_one(taps: &mut LocalTaps) -> Result<bool, Memory>
     Ok(chunk.is_some())
 }
 
-// Checks that a buffer with room for one chunk accepts one of two, and answers one of two takes, in one window, and
-// counts all four.
+// Checks, by the ends of a buffer with room for one chunk (`taps`), that it accepts one of two chunks and answers one
+// of two takes, in one window, and counts all four.
 fn check(rt: &impl Abort, alloc: Global, taps: &mut LocalTaps) -> Result<(), Fail>
     requires { length taps.old ≡ 1 }
     ensures { length taps.new ≡ 1 }

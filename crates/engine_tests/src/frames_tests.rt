@@ -20,7 +20,7 @@ const SOFT: Cell = Cell {
     title: 1,
 };
 
-// Lays a cell (the sample of an instant) into a frame, takes all back, and lays two cells of two titles.
+// Lays a cell (the sample of an instant) into a frame, takes it back, and lays two cells of two tracks.
 fn fill(frame: &mut Frame)
     requires empty { frame.old.cells ≡ [] }
     requires room { frame.old.room ≡ 3 }

@@ -27,6 +27,7 @@ fn at_8000(alloc: Global) -> Plan
 }
 
 // Checks that a node without children offers this slot at an instant, and lets the node go on as one that is used.
+// `desk` works out what a node offers from its state.
 fn check(
     rt: &impl Abort,
     desk: &mut Desk,
@@ -45,7 +46,7 @@ fn check(
     state.next(part, true, library, 0);
 }
 
-// The slot of a silent sample, which begins a track or does not.
+// The slot of a silent sample, which begins a track where `first` is true.
 fn zero(first: bool) -> Option<Cell> {
     Some(Cell {
         left: 0,
@@ -55,7 +56,8 @@ fn zero(first: bool) -> Option<Cell> {
     })
 }
 
-// Checks that a blank with tracks of two samples begins its next track behind them.
+// Checks that a blank with tracks of two samples begins its next track behind them. `state` is the state of the blank
+// at its first sample.
 fn check_blank(
     rt: &impl Abort,
     alloc: Global,
@@ -90,7 +92,8 @@ fn a_blank_of_two_samples(rt: HostRuntime) -> Result<(), Fail> {
     Ok(())
 }
 
-// Feeds a sample of its source to a crossfade, and checks that it wanted one.
+// Checks that a crossfade wants a sample of its source, and feeds it this one, which begins a track where `first` is
+// true. `library` is named for the contract alone.
 fn give(rt: &impl Abort, state: &mut NodeState, library: &Library, left: i16, first: bool)
     requires { Fits library.now 1 state.old }
     ensures { Fits library.now 1 state.new }
@@ -110,7 +113,7 @@ fn no_files(alloc: Global) -> Result<Library, AllocError>
     Ok(Library::new(Vec::new(alloc), Vec::new(alloc), leaves))
 }
 
-// The slot of this sample of a mono source, which begins a track or does not.
+// The slot of this sample of a mono source, which begins a track where `first` is true.
 fn sample(left: i16, first: bool) -> Option<Cell> {
     Some(Cell {
         left,
@@ -121,7 +124,7 @@ fn sample(left: i16, first: bool) -> Option<Cell> {
 }
 
 // Checks that a crossfade with an overlap of one sample offers the first of two samples at once, and the second once
-// the next track has begun.
+// the next track has begun. `state` is the state of the crossfade before it got a sample.
 fn check_crossfade(
     rt: &impl Abort,
     alloc: Global,

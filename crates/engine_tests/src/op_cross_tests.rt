@@ -8,7 +8,8 @@ use std::alloc::Global;
 use std::process::Abort;
 use std::test::Fail;
 
-// The slot of this sample on both sides, with this title, which begins a track or does not.
+// The cell of this sample on both sides, from the track of the number `title`. `first` says that the track begins with
+// it.
 fn slot(sample: i16, title: u32, first: bool) -> Option<Cell> {
     Some(Cell {
         left: sample,
@@ -18,8 +19,9 @@ fn slot(sample: i16, title: u32, first: bool) -> Option<Cell> {
     })
 }
 
-// Checks a crossfade: fed with these slots, again and again or once, it gives items with these left samples and
-// titles, both 0 where an item is empty.
+// Checks a crossfade with this overlap, in samples: fed with these slots, again and again where `again` is true and
+// else once, it gives these items. Of each the left sample and the title (its track's number) are told, both 0 where it
+// is empty.
 fn check(
     rt: &impl Abort,
     alloc: Global,

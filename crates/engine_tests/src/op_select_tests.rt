@@ -8,8 +8,8 @@ const MINDS: Rule = Rule::First { sensitive: true };
 
 const FREE: Rule = Rule::First { sensitive: false };
 
-// What a child of a selection offers, with this title: with a positive sample a track begins, with a negative one it
-// goes on, and 0 is nothing.
+// What a child of a selection offers, from the track of the number `title`: with a positive sample a track begins, with
+// a negative one it goes on, and 0 is nothing.
 fn offered(left: i16, title: u32) -> Option<Cell> {
     if left == 0 {
         return None;

@@ -19,8 +19,9 @@ fn offered(left: i16) -> Option<Cell> {
     })
 }
 
-// Checks one instant of a `rotate` or `random`: this child is used, and its cell begins a track or does not. The state
-// goes on by what the children offered, or by what it offered.
+// Checks one instant of a `rotate` or `random`, whose children offer `offers`. `used` has the child that it must use,
+// and whether that one's cell begins a track. Then the state goes on by what the children offered (`by_offers`), or by
+// what it picked, which must come to the same.
 fn check_instant(
     rt: &impl Abort,
     state: &mut TurnState,
@@ -42,8 +43,8 @@ fn check_instant(
     }
 }
 
-// Checks a `rotate` or `random` over some instants. Each row has what the two children offer, the child that is used,
-// and whether its cell begins a track.
+// Checks a `rotate` or `random` (`turn`) over some instants, and that it picks nothing where no child offers. Each row
+// has what the two children offer, the child that is used, and whether its cell begins a track.
 fn check(rt: &impl Abort, turn: Turn, rows: &[(i16, i16, u32, bool)]) {
     let mut state = TurnState::new(turn, 2);
     for (at, row) in rows.iter().enumerate() {

@@ -28,7 +28,8 @@ fn one_sink(alloc: Global) -> Result<Vec<MemSink>, Fail>
     Ok(Vec::from_array(alloc, [out])?)
 }
 
-// The engine of main clock 0 of a plan whose one output is this node, at the first second of the week.
+// Makes the engine of main clock 0 of a plan, to begin at the first second of the week. `node` is the source of the
+// plan's one output, whose sink is in `outs`. `Err` gives the sinks back where memory is refused.
 fn begun<'a>(
     alloc: Global,
     plan: &'a Plan,
@@ -52,7 +53,7 @@ fn begun<'a>(
     ClockEngine::new(alloc, plan, clocks, 0, library, outs, start)
 }
 
-// Makes one tick of an engine that runs and has not stopped.
+// Makes one tick of an engine that runs and has not stopped. `taps` are the ends of the plan's buffers.
 fn tick(
     rt: &impl Abort,
     alloc: Global,
@@ -82,7 +83,8 @@ pub(crate) struct Want {
     pub(crate) held: Option<&'static [u8]>,
 }
 
-// Checks that an engine makes so many ticks without a fault, and in all of them so many segments.
+// Checks that an engine makes as many ticks as `want` says without a fault, and in all of them as many segments. `taps`
+// are the ends of the plan's buffers.
 fn check_ticks(
     rt: &impl Abort,
     alloc: Global,
@@ -99,7 +101,7 @@ fn check_ticks(
     assert!(rt; engine.segments() == want.segments);
 }
 
-// Checks that there is one sink and that it holds these bytes, where they are told.
+// Checks that there is one sink and that it holds the bytes `held`; with `None` any bytes will do.
 fn check_held(rt: &impl Abort, outs: &[MemSink], held: Option<&[u8]>) {
     assert_eq!(rt; outs.len(), 1);
     for out in outs {
@@ -109,7 +111,8 @@ fn check_held(rt: &impl Abort, outs: &[MemSink], held: Option<&[u8]>) {
     }
 }
 
-// Checks that ticks of main clock 0, over this plan whose output is `node`, show what they should.
+// Checks that ticks of main clock 0, over this plan whose output is `node`, show what `want` says. `clocks` is the map
+// of the plan's clocks, `library` has its files, and `taps` are the ends of its buffers.
 fn check_clock(
     rt: &impl Abort,
     alloc: Global,
@@ -139,8 +142,8 @@ fn check_clock(
     }
 }
 
-// Checks that ticks of a plan whose output is `node`, with this library and the clocks that the plan has, show what
-// they should.
+// Checks that ticks of a plan whose output is `node` show what `want` says. `library` has the plan's files, and the
+// clocks are those that the plan is assigned.
 fn check_library(
     rt: &impl Abort,
     alloc: Global,
@@ -160,7 +163,7 @@ fn check_library(
     check_clock(rt, alloc, plan, &clocks, node, library, &mut taps, want)
 }
 
-// Checks that ticks of a plan whose output is `node` show what they should. Its first node plays the file of three
+// Checks that ticks of a plan whose output is `node` show what `want` says. Its first node plays the file of three
 // samples.
 fn check_plan(
     rt: &impl Abort,
@@ -183,7 +186,7 @@ fn last(rows: &[Row]) -> u32 {
     u32::try_from(rows.len().saturating_sub(1)).unwrap_or(0)
 }
 
-/// Checks that ticks of `frame` instants show what they should, over the plan that has these nodes and writes the last
+/// Checks that ticks of `frame` samples show what `want` says, over the plan that has these nodes and writes the last
 /// one.
 pub(crate) fn check_rows(
     rt: &impl Abort,

@@ -61,7 +61,7 @@ fn no_name(alloc: Global) -> Text
     Text::from_string(String::new(alloc))
 }
 
-// The operator of a switch with one case, which has this predicate.
+// The operator of a switch that minds tracks, with one case, which has this predicate.
 fn switch(alloc: Global, pred: Pred) -> Result<Op, AllocError> {
     let Ok(shared) = SharedPred::new(alloc, pred) else {
         return Err(AllocError);
@@ -97,8 +97,8 @@ const ONE_CHUNK: BufferPlan = BufferPlan {
     capacity: 1,
 };
 
-// Adds a node of a small plan to the draft, and answers its number; nothing where it may not stand there or memory is
-// refused.
+// Adds a node of a small plan to the draft, and answers its number. `None` says that it may not stand there, or that
+// memory was refused.
 fn push(alloc: Global, draft: &mut CheckedDraft, row: Row) -> Result<Option<u32>, AllocError> {
     match row {
         Row::Node(small, children) => {
@@ -119,7 +119,8 @@ fn push_all(alloc: Global, draft: &mut CheckedDraft, rows: &[Row]) -> Result<(),
     Ok(())
 }
 
-/// The plan of these stereo nodes at 8000 samples a second, in ticks of `frame` samples, with an output of this node.
+/// Makes the plan of these stereo nodes at 8000 samples a second, in ticks of `frame` samples, with one output, of the
+/// node of number `node`. A table that makes no plan fails the test.
 pub(crate) fn plan_of(
     rt: &impl Abort,
     alloc: Global,
@@ -173,7 +174,8 @@ fn is_main(clock: NodeClock, number: u32) -> bool
     }
 }
 
-/// Whether a node lies in the main clock of this number.
+/// Whether a node lies in the main clock of this number, by the map of its plan's clocks. False where it lies in a
+/// crossfade's clock, or is no node.
 pub(crate) fn lies_in(clocks: &ClockMap, node: u32, number: u32) -> bool
     ensures { result ≡ true → slice_get clocks.now.of node ≡ Some (NodeClock.Main number) }
 {

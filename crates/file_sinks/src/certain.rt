@@ -32,9 +32,9 @@ impl Lasting for File {
     }
 }
 
-/// Has the system make certain on the disk what was written to a file, or the names of a folder (a sync); answers
-/// whether it is. Faults that come after the writes are told here. A pipe or device knows no sync, and told its faults
-/// by its writes.
+/// Has the system make certain on the disk what was written to a file, or the names of a folder (a sync). True says
+/// that it is, or that what is open knows no sync: a pipe or device told its faults by its writes. False says that the
+/// sync failed, where faults may come after the writes.
 pub fn make_certain<F: Lasting>(file: &mut F) -> bool
     ensures bytes { Keeps (F.contents file.old) (F.contents file.new) }
     ensures synced { ForSome (F.answered file.new) (λ answer. IsTrue result ↔ MakesCertain answer) }
@@ -70,8 +70,9 @@ impl<W: Lasting + Drop> Certain<W> {
 }
 
 impl<W: Lasting + Drop> FileSink<W> {
-    /// Ends the writing: hands on what is kept, and has the system make certain what the file got. A sink that is not
-    /// whole, or of which the system tells a fault, is given back as it is.
+    /// Ends the writing: hands on what is kept, and has the system make certain what the file got. `Ok` has the writer
+    /// of a file that is whole and certain. `Err` gives the sink back: it did not get exactly its bytes, or the system
+    /// told a fault.
     pub fn finish(self) -> Result<Certain<W>, FileSink<W>>
         ensures faults { OnOk result (faults_of self ≡ 0) }
         ensures length { OnOk result (taken_of self ≡ room_of self) }

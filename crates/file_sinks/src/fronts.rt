@@ -9,8 +9,9 @@ use liq_base::{Fetched, Looked, ShelfFault};
 use std::alloc::Global;
 use std::io::{ErrorKind, Read};
 
-/// Looks at an open file of `size` bytes, more than `front`: adds its first `front` bytes to `into`, if it has at most
-/// `most`. Where it turns out to be shorter, it is `Failed`.
+/// Looks at an open file of `size` bytes, more than `front`: adds its first `front` bytes to `into`, and answers its
+/// size. If it has more than `most` bytes, that is answered and none is read. Where it turns out to be shorter than
+/// `front`, it is `Failed`.
 pub fn look_at_front<R: Read>(
     file: &mut R,
     into: &mut Vec<u8>,
@@ -37,8 +38,9 @@ pub fn look_at_front<R: Read>(
     }
 }
 
-/// Looks at an open file by reading it whole: adds all bytes that its reader has left, if they are at most `most`, and
-/// answers how many they are.
+/// Looks at an open file by reading it whole: adds all bytes that its reader has left to `into`, and answers how many
+/// they are. If they are more than `most`, that is answered. `front`, how many first bytes were asked for, stands for
+/// the contract alone.
 pub fn look_at_whole<R: Read>(
     file: &mut R,
     into: &mut Vec<u8>,
@@ -63,8 +65,8 @@ pub fn look_at_whole<R: Read>(
     }
 }
 
-/// Reads the next `front` bytes of a reader into `into`, and answers whether it had as many. A read that was
-/// interrupted is made again, and any other failure is `Failed`.
+/// Reads the next `front` bytes of a reader and adds them to `into`. False says that the reader ended before. A read
+/// that was interrupted is made again, and any other failure is `Failed`.
 fn read_front<R: Read>(file: &mut R, into: &mut Vec<u8>, front: u64) -> Result<bool, ShelfFault>
     ensures extends { Extends into.old.items into.new.items }
     ensures exact { result ≡ Ok true → vec_len into.new ≡ vec_len into.old + front }

@@ -45,8 +45,8 @@ pub enum Place {
 }
 
 impl<W: Write + Drop> FileSink<W> {
-    /// The sink of a file that writes to `to`: it is to get `room` bytes, and keeps at most `kept` of them in memory.
-    /// An error is want of memory.
+    /// Makes the sink of a file that writes to `to`: the file is to get `room` bytes in all, and at most `kept` of them
+    /// are kept in memory at a time. `place` says under which name its bytes stand. An error is want of memory.
     pub fn new(
         alloc: Global,
         to: W,

@@ -10,9 +10,9 @@ use std::io::{ErrorKind, Read};
 /// Bytes that one read asks for: they are cleared for each file, and a short file is not to wait for that.
 pub(crate) const CHUNK: usize = 16_384;
 
-/// Reads all that a reader (an open file) has left and adds it to `into`, if it is at most `most` bytes. A read that
-/// gives nothing is the end, and one that was interrupted is made again. Any other failure is `Failed`, never taken
-/// for the end.
+/// Reads all that a reader (an open file) has left and adds it to `into`; if it is more than `most` bytes, the answer
+/// is `TooLarge`. A read that gives nothing is the end, and one that was interrupted is made again. Any other failure
+/// is `Failed`, never taken for the end.
 pub fn read_rest<R: Read>(
     file: &mut R,
     into: &mut Vec<u8>,
@@ -44,8 +44,8 @@ pub fn read_rest<R: Read>(
     Err(ShelfFault::Failed)
 }
 
-/// What the error of a failed opening says of a file: it is missing only where the system did not find it, and else a
-/// failure.
+/// Turns the error of a failed opening into the answer to a reading: the file is missing only where the system did not
+/// find it. Any other error is a failure.
 pub fn unopened(kind: ErrorKind) -> Result<Fetched, ShelfFault>
     ensures missing { result ≡ Ok Fetched.Missing ↔ kind ≡ ErrorKind.NotFound }
     ensures failed { (result ≡ Ok Fetched.Missing) ⊎ (result ≡ Err ShelfFault.Failed) }

@@ -110,8 +110,8 @@ impl<W: Write + Drop> Sink for OutSink<W> {
     }
 }
 
-// Writes the whole piece, and answers whether that went well. A write that takes nothing is a failure, one that was
-// interrupted is made again.
+// Writes the whole piece to a writer, in as many writes as it takes. True says that all went well. A write that takes
+// nothing is a failure, and one that was interrupted is made again.
 fn write_whole<W: Write>(to: &mut W, piece: &[u8]) -> bool
     ensures whole { IsTrue result → Appends (W.contents to.old) (W.contents to.new) piece.now }
     ensures part { AppendsPart (W.contents to.old) (W.contents to.new) piece.now }

@@ -14,9 +14,9 @@ use plan_blames::{
 use plan_core::{Node, Plan};
 use std::alloc::Global;
 
-/// Appends a box for each source, dashed where it may offer nothing, and red where it is to blame for a fault. `marks`
-/// has of each source whether it always offers something; `reds` whether it is to blame for a silence, if the plan is
-/// refused for one (`silent`).
+/// Appends a box for each source, dashed unless it always offers something (`marks`), and red where it is to blame for
+/// a fault. If the plan is refused for a silence (`silent`), `reds` says which sources are to blame; else the fault is
+/// that of `clocks`, if they have one.
 pub fn push_nodes(
     alloc: Global,
     into: &mut Vec<u8>,
@@ -48,7 +48,8 @@ pub fn push_nodes(
     Ok(())
 }
 
-// Appends the box of source k; `silent` says that the plan is refused for a silence.
+// Appends the box of source k. It is dashed unless the source always offers something (`infallible`), and red where it
+// is to blame for a fault (`red`). The fault is a silence where `silent` is true, and else that of `clocks`.
 fn push_node(
     alloc: Global,
     into: &mut Vec<u8>,
@@ -77,7 +78,8 @@ fn push_front(into: &mut Vec<u8>, k: u64) -> Result<(), Memory>
     push_between(into, b" [label=\"", k, b"  ")
 }
 
-// Appends the label of source k: what it does, and why it is red; `silent` says that the plan is refused for a silence.
+// Appends the label of source k: what it does, and where it is `red` why. The reason is a silence where the plan is
+// refused for one (`silent`), and else the fault in `clocks`.
 fn push_label(
     alloc: Global,
     into: &mut Vec<u8>,
@@ -95,7 +97,8 @@ fn push_label(
     push_red_words(alloc, into, silent, red, clocks, k, node)
 }
 
-// Appends the end of the box of a source, after its label: how it is drawn.
+// Appends the end of the box of a source, after its label, which says how it is drawn: dashed unless it always offers
+// something (`infallible`), and red where it is to blame for a fault (`red`).
 fn push_end(into: &mut Vec<u8>, infallible: bool, red: bool) -> Result<(), Memory>
     ensures { OnOk result (into.new.items ≡ into.old.items ++ box_end infallible red) }
 {
@@ -104,7 +107,8 @@ fn push_end(into: &mut Vec<u8>, infallible: bool, red: bool) -> Result<(), Memor
     push_style(into, red)
 }
 
-// Appends that the border of a source's box is dashed, if the source may offer nothing; nothing else.
+// Appends that the border of a source's box is dashed, unless the source always offers something (`infallible`); else
+// nothing.
 fn push_border(into: &mut Vec<u8>, infallible: bool) -> Result<(), Memory>
     ensures { OnOk result (into.new.items ≡ into.old.items ++ border infallible) }
 {
@@ -153,7 +157,8 @@ pub fn push_output(
     push_output_label(into, name, fallible, red)
 }
 
-// Appends the beginning of the box of output k, which is drawn as a sheet of paper, up to its label.
+// Appends the beginning of the box of output k, a sheet of paper, up to its label. It is dashed unless its source
+// always offers something (`infallible`), and red where the output is refused (`red`).
 fn push_sheet(into: &mut Vec<u8>, k: u64, infallible: bool, red: bool) -> Result<(), Memory>
     ensures { OnOk result (into.new.items ≡ into.old.items ++ output_front k infallible red) }
 {
@@ -194,7 +199,8 @@ fn push_output_label(
     push_plain(into, b"\"];\n")
 }
 
-// Appends what the label of an output says: its name, that it may be fallible, and that it was refused.
+// Appends what the label of an output says: its name, that the script lets it be fallible, where it does, and that it
+// may fall silent, where it is refused for that (`red`).
 fn push_output_words(
     into: &mut Vec<u8>,
     name: &Text,
@@ -219,7 +225,7 @@ fn push_fallible(into: &mut Vec<u8>, fallible: bool) -> Result<(), Memory>
     }
 }
 
-// Appends that an output may fall silent, if it was refused for that.
+// Appends that an output may fall silent, which is fault E25, if it was refused for that (`red`).
 fn push_silence(into: &mut Vec<u8>, red: bool) -> Result<(), Memory>
     ensures { OnOk result (into.new.items ≡ into.old.items ++ silence_words red) }
 {
@@ -230,7 +236,7 @@ fn push_silence(into: &mut Vec<u8>, red: bool) -> Result<(), Memory>
     }
 }
 
-/// Whether a sink is the one that was refused.
+/// Whether sink k is the one that was refused, whose number `refused` has; `None` says that none was.
 pub fn is_refused(refused: Option<u32>, k: u64) -> bool
     ensures { result ≡ is_refused refused k }
 {

@@ -39,8 +39,8 @@ pub fn picture(
     Ok(text)
 }
 
-// Of each source whether it is to blame for a silence; nothing where no output was refused. `marks` says which sources
-// always offer something.
+// Of each source whether it is to blame for a silence; an empty list where no output was refused. `marks` says which
+// sources always offer something, and `refused` is the number of the output that may fall silent.
 fn all_reds(
     alloc: Global,
     plan: &Plan,
@@ -58,8 +58,9 @@ fn all_reds(
     }
 }
 
-// Appends the whole graphviz text of a plan. `groups` has the group of each source, the sources that share its clock,
-// and `red` whether it is to blame for a silence.
+// Appends the whole graphviz text of a plan. `marks` says which sources always offer something, `refused` which sink
+// may fall silent and must not. `clocks` has the plan's clocks, or why there are none. `groups` has the group of each
+// source, those that share a clock, and `red` whether it is to blame for a silence.
 fn push_picture(
     alloc: Global,
     into: &mut Vec<u8>,
@@ -91,8 +92,9 @@ fn push_picture(
     push_rest(into, plan, marks, refused, silent, clocks, groups)
 }
 
-// Appends what comes after the edges between sources: the outputs, the edges through buffers, and the regions. `silent`
-// says that the plan is refused for a silence.
+// Appends what comes after the edges between sources: the outputs, the edges through buffers, and the regions of
+// clocks. `marks` says which sources always offer something, `refused` which sink may fall silent, and `silent` that
+// one does. `clocks` has the clocks, or why there are none, and `groups` the group of each source.
 fn push_rest(
     into: &mut Vec<u8>,
     plan: &Plan,

@@ -8,7 +8,8 @@ use plan_blames::{push_number, push_plain};
 
 const MILLION: u64 = 1_000_000;
 
-/// Appends a length of so many samples, in seconds; below a millisecond in samples.
+/// Appends how long so many samples last at this rate (samples a second), in seconds, cut to milliseconds. Below a
+/// millisecond it appends how many samples there are.
 pub fn push_seconds(into: &mut Vec<u8>, samples: u64, rate: u32) -> Result<(), Memory>
     requires { 0 < rate }
     ensures { OnOk result (into.new.items ≡ into.old.items ++ seconds samples rate) }
@@ -22,7 +23,7 @@ pub fn push_seconds(into: &mut Vec<u8>, samples: u64, rate: u32) -> Result<(), M
     push_plain(into, b" s")
 }
 
-// The milliseconds of a length beyond its whole seconds, cut.
+// The milliseconds of a length of so many samples beyond its whole seconds, cut. The rate is in samples a second.
 fn thousandths(samples: u64, rate: u32) -> u64
     requires { 0 < rate }
     ensures is { result ≡ thousandths samples rate }

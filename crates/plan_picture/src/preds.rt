@@ -33,8 +33,8 @@ fn cut(into: &mut Vec<u8>, before: usize) -> Result<(), Memory>
     push_between(into, b".. (", count as u64, b" characters)")
 }
 
-/// Appends a predicate (a condition on the time of the week) as a script writes it, in brackets where it has parts and
-/// stands within another.
+/// Appends a predicate (a condition on the time of the week) as a script writes it. One with parts gets brackets where
+/// it stands within another (`within`).
 #[cycle(pred)]
 fn push_pred(into: &mut Vec<u8>, pred: &Pred, within: bool) -> Result<(), Memory>
     ensures { OnOk result (into.new.items ≡ into.old.items ++ pred_text within (view_pred pred.now)) }
@@ -53,8 +53,8 @@ fn push_pred(into: &mut Vec<u8>, pred: &Pred, within: bool) -> Result<(), Memory
     }
 }
 
-// Appends the parts of an `and` or `or` with this word between them, in brackets if the predicate stands within
-// another.
+// Appends the parts of an `and` or `or` with this word between them, in brackets if the predicate stands within another
+// (`within`).
 #[cycle(pred)]
 fn push_group(into: &mut Vec<u8>, word: &[u8], parts: &[Pred], within: bool) -> Result<(), Memory>
     ensures { OnOk result (into.new.items ≡ into.old.items
@@ -110,7 +110,7 @@ fn push_closing(into: &mut Vec<u8>, within: bool) -> Result<(), Memory>
     }
 }
 
-// Appends an interval of the week, as `6h-22h`.
+// Appends an interval of the week, from one time mark to another, as `6h-22h`.
 fn push_interval(into: &mut Vec<u8>, from: TimeMark, to: TimeMark) -> Result<(), Memory>
     ensures { OnOk result (into.new.items ≡ into.old.items ++ interval_text from to) }
 {
@@ -127,7 +127,7 @@ fn push_mark(into: &mut Vec<u8>, mark: TimeMark) -> Result<(), Memory>
     push_two(into, mark.minute, b"m", mark.second, b"s")
 }
 
-// Appends two parts of a time mark, each with its unit if it is written.
+// Appends two parts of a time mark (such as day and hour), each with its unit if it is written, and nothing for `None`.
 fn push_two(
     into: &mut Vec<u8>,
     one: Option<u8>,

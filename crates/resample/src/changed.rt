@@ -113,7 +113,8 @@ impl Changed {
     }
 }
 
-// The blocks of a file, without the bytes around them.
+// Cuts the blocks of a file out of its bytes, without what stands around them, and counts them: `last` is the number of
+// the last one.
 fn source_of(blocks: &Blocks) -> Source<'_>
     requires { AreThere blocks.now }
     ensures source { IsSource result }
@@ -142,8 +143,9 @@ fn count_in(bytes: &[u8], wide: bool) -> usize
     }
 }
 
-// Fills `into` with samples of a side (0 is left) at the new rate, from block `at` at that rate on: eight at a time
-// where that can be, else one by one.
+// Fills `into` with samples of a side (0 is left) of `source` at the new rate, from block `at` at that rate on. `way`
+// has both rates. Eight are made at a time where all lie before the last block of the file, and a part of the way
+// between blocks fits into 16 bits; else they are made one by one.
 fn read_side(source: Source<'_>, way: &Way, side: usize, at: usize, into: &mut [i16])
     requires source { IsSource source }
     requires way { IsWay way.now }
@@ -160,7 +162,8 @@ fn read_side(source: Source<'_>, way: &Way, side: usize, at: usize, into: &mut [
     }
 }
 
-// Whether the first `blocks` blocks at the other rate lie before the last one of the file.
+// Whether the first `blocks` blocks at the new rate lie before the last one of the file (`source`), so that each has a
+// block behind it to go by. `way` has both rates.
 fn are_inside(source: Source<'_>, way: &Way, blocks: usize) -> bool
     requires source { IsSource source }
     requires way { IsWay way.now }
@@ -170,8 +173,8 @@ fn are_inside(source: Source<'_>, way: &Way, blocks: usize) -> bool
     blocks as u64 * u64::from(way.from) <= source.last as u64 * u64::from(way.to)
 }
 
-// Fills `into` with samples of a side (0 is left) that lie before the last block of the file, from block `at` at the
-// new rate on: eight at a time by vector instructions, and the rest one by one.
+// Fills `into` with samples of a side (0 is left) of `source` that lie before its last block, from block `at` at the
+// new rate on. Eight are made at a time by vector instructions, and the rest one by one. `way` has both rates.
 fn read_inside(source: Source<'_>, way: &Way, side: usize, at: usize, into: &mut [i16])
     requires source { IsSource source }
     requires way { IsWay way.now }
@@ -195,8 +198,9 @@ fn read_inside(source: Source<'_>, way: &Way, side: usize, at: usize, into: &mut
     }
 }
 
-// Makes eight samples that lie before the last block of the file, and writes them from index `at` on. The first is of
-// block `first` at the other rate, which lies at place `from` of the file. Returns the place behind them.
+// Makes eight samples of a side (0 is left) that lie before the last block of the file (`source`), and writes them to
+// `into` from index `at` on. The first is of block `first` at the new rate, which lies at place `from` of the file.
+// `way` has both rates. Answers the place behind the eighth.
 fn make_eight(
     source: Source<'_>,
     way: &Way,
@@ -233,8 +237,8 @@ fn make_eight(
     place
 }
 
-// Fills `into` with samples of a side (0 is left) one by one, from block `at` at the new rate on; it may reach the
-// file's end.
+// Fills `into` with samples of a side (0 is left) of `source` one by one, from block `at` at the new rate on. It may
+// reach the file's end. `way` has both rates.
 fn read_each(source: Source<'_>, way: &Way, side: usize, at: usize, into: &mut [i16])
     requires source { IsSource source }
     requires way { IsWay way.now }
@@ -251,8 +255,8 @@ fn read_each(source: Source<'_>, way: &Way, side: usize, at: usize, into: &mut [
     }
 }
 
-// The sample of a side (0 is left) at a place in the file, which lies between two of its blocks: in proportion to the
-// way between them. At the end of the file it is the last one.
+// Makes the sample of a side (0 is left) at a place in the file (`source`) between two of its blocks: from both
+// samples, in proportion to the way between them. Behind the last block it is the last one's sample.
 fn sample_between(source: Source<'_>, way: &Way, place: Place, side: usize) -> i16
     requires source { IsSource source }
     requires way { IsWay way.now }

@@ -7,7 +7,8 @@ ghost use Rattle.resample.specs.Resampled.{interpolated};
 const MOST: u32 = 92_681;
 
 /// The number that lies `part` of `whole` parts behind the sample `before` on the way to `behind`, rounded toward zero.
-/// `inverse` is `inverse_of(whole)`.
+/// Where `whole` is small enough, a product with `inverse`, which is `inverse_of(whole)`, takes the place of a
+/// division.
 pub fn number_between(inverse: u64, before: i16, behind: i16, part: u32, whole: u32) -> i16
     requires within { part < whole }
     requires inverse { inverse ≡ inverse_of whole }
@@ -20,8 +21,8 @@ pub fn number_between(inverse: u64, before: i16, behind: i16, part: u32, whole: 
     }
 }
 
-/// 2^48 divided by the number of parts `whole`, and up to 1 more; its product with a number takes the place of a
-/// division by `whole`.
+/// The number that takes the place of a division by `whole`: 2^48 divided by `whole`, cut, and 1 more. The product with
+/// it, divided by 2^48 and cut, is the quotient of each sum that is divided here.
 pub fn inverse_of(whole: u32) -> u64
     requires { 0 < whole }
     ensures { result ≡ inverse_of whole }

@@ -49,7 +49,8 @@ pub fn way_of(from: u32, to: u32) -> Way
     }
 }
 
-/// The place in the file of sample `number` at the other rate, counted from 0.
+/// The place in the file of sample `number` at the new rate, counted from 0: the block before it, and how far it lies
+/// behind that one. `way` has both rates.
 pub fn place_of(way: &Way, number: u64) -> Place
     requires some { 0 < way.now.to }
     requires room { number * way.now.from < 2 ^ 64 }
@@ -64,7 +65,8 @@ pub fn place_of(way: &Way, number: u64) -> Place
     }
 }
 
-/// How far a sample at rate `to` lies behind the one before it, in a file of rate `from`.
+/// How far a sample at rate `to` lies behind the one before it, in a file of rate `from`: so many blocks, and so many
+/// of the `to` parts of a block's way.
 pub fn step_of(from: u32, to: u32) -> Place
     requires { 0 < to }
     ensures whole { reached to result ≡ from }

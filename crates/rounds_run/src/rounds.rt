@@ -12,8 +12,8 @@ use frame_core::Taps;
 use liq_base::Sink;
 use std::alloc::Global;
 
-// The end of a run that the fault of an engine's tick brings: a failed write, with this clock and its sink, or want of
-// memory.
+// How a run ends by the fault of a tick of this clock's engine: by a failed write, with the clock and its sink, or by
+// want of memory.
 fn end_of(clock: u32, fault: TickFault) -> End
     ensures write { (sink : ℕ) → fault ≡ TickWrite sink → result ≡ Write clock sink }
     ensures memory { fault ≡ OutOfMemory → result ≡ NoMemory }
@@ -24,8 +24,8 @@ fn end_of(clock: u32, fault: TickFault) -> End
     }
 }
 
-/// Makes `ticks` rounds, at most 1000000000: in each, every engine makes a tick, in their order, over these taps. It
-/// ends at the first fault.
+/// Makes `ticks` rounds, at most 1000000000: in each, every engine makes a tick, in their order. `taps` are the ends of
+/// the buffers between them. It ends at the first fault, which is answered.
 pub fn make_rounds<O: Sink, T: Taps>(
     alloc: Global,
     engines: &mut [ClockEngine<'_, O>],

@@ -39,8 +39,8 @@ pub fn run_rounds<O: Sink>(
     }
 }
 
-// The result of a run that went through, with the counts and logs of its buffers; where there is no memory for them,
-// the result of a run that ended for want of memory.
+// The result of a run that went through, with the counts and logs of its buffers, as many as `buffers` says. Where
+// there is no memory for them, it is the result of a run that ended for want of memory.
 fn told_or_ended(alloc: Global, taps: LocalTaps, buffers: usize) -> RunEnd
     requires { buffers ≡ length taps }
     ensures counts { result.end ≡ Done → result.counts.items ≡ map (λ list. counts_of (all_answers list)) taps }
@@ -54,8 +54,8 @@ fn told_or_ended(alloc: Global, taps: LocalTaps, buffers: usize) -> RunEnd
     }
 }
 
-// The result of a run that went through, with the counts and logs that the taps (the ends of the buffers) have; memory
-// may be refused for them.
+// The result of a run that went through, with the counts and logs of its buffers, as many as `buffers` says. `taps` are
+// the ends of the buffers, which have both. `Err` is want of memory for them.
 fn told(alloc: Global, mut taps: LocalTaps, buffers: usize) -> Result<RunEnd, Memory>
     requires { buffers ≡ length taps }
     ensures counts { IfOk result (λ run. run.counts.items ≡ map (λ list. counts_of (all_answers list)) taps) }
@@ -72,7 +72,8 @@ fn told(alloc: Global, mut taps: LocalTaps, buffers: usize) -> Result<RunEnd, Me
     })
 }
 
-// For each buffer, by its number, how many of its puts and takes went well and how many found it full or empty.
+// For each of so many buffers, by its number, how many of its puts and takes went well and how many found it full or
+// empty. `taps` are the ends of the buffers, which count them.
 fn count_all(alloc: Global, taps: &LocalTaps, buffers: usize) -> Result<Vec<Counts>, Memory>
     requires { buffers ≡ length taps.now }
     ensures counts { IfOk result (λ counts. counts.items ≡ map (λ list. counts_of (all_answers list)) taps.now) }

@@ -37,7 +37,7 @@ impl Begun {
         }
     }
 
-    // Notes that a buffer joins one clock to another.
+    // Notes that a buffer joins two clocks, so that each is near the other and will wait for it.
     pub(crate) fn join(&self, clock: u32, other: u32)
         requires { (clock < 64) × (other < 64) }
     {
@@ -79,8 +79,8 @@ impl Begun {
         true
     }
 
-    // Whether others still wait for this clock: it has not begun `ticks` ticks, and was not given up since it began
-    // its last one.
+    // Whether clocks that need this one at `ticks` ticks still wait for it: it has not begun as many, and was not given
+    // up since it began its last one.
     fn is_awaited(&self, clock: usize, ticks: u64) -> bool
         requires { clock < 64 }
     {
@@ -128,7 +128,7 @@ impl Begun {
     }
 
     // Puts a clock to sleep until the clocks near it (joined by a buffer) have begun `ticks` ticks, at most `sleeps`
-    // times for `millis` milliseconds; answers whether they have, or were given up.
+    // times for `millis` milliseconds. True says that each has, or was given up; false, that the wait was in vain.
     pub(crate) fn wait<R: Wait>(
         &self,
         rt: &R,

@@ -17,7 +17,8 @@ const SLEEPS: u64 = 100;
 /// The least number of ticks that have to go well before a wait is long again.
 const CALM: u64 = 1024;
 
-// How often a clock sleeps in a wait after `vain` waits in vain.
+// How often a clock sleeps in a wait for others, after `vain` waits in vain: half as often for each of them. After
+// seven it sleeps once at the 8th, the 16th and so on, and else not at all.
 fn sleeps_after(vain: u64) -> u64
     ensures { result ≤ 100 }
 {
@@ -74,7 +75,7 @@ impl<'a, R> StepGate<'a, R> {
         ticks / 2 >= self.vain_ticks.load(Ordering::SeqCst).max(CALM) && self.begun.have_all(ticks)
     }
 
-    // Sets the count of waits in vain to `next`, unless it changed since it was read as `vain`.
+    // Sets the count of waits in vain to `next`, unless another thread changed it since it was read as `vain`.
     fn count_from(&self, vain: u64, next: u64) {
         let _ = self
             .vain

@@ -37,16 +37,16 @@ pub struct AudioFiles {
 }
 
 impl AudioFiles {
-    /// What this name was found to be earlier on the walk: the number of a file that is used, or why it cannot be;
-    /// nothing where it is new.
+    /// Looks up what this name was found to be earlier on the walk over the plan's nodes. `Ok` has its number among the
+    /// files that are used, an inner `Err` why it cannot be used. `None` says that it was not met before.
     fn known(&self, name: &str) -> Option<Result<u32, Unusable>>
         ensures { result ≡ entry_of name.now (heard_of self.now).names }
     {
         self.names.get(name).copied()
     }
 
-    /// Keeps in mind what a new name was found to be, so that it is read once: the number of a file that is used, or
-    /// why it cannot be.
+    /// Notes what a new name was found to be, so that its file is read once: its number among the files that are used,
+    /// or why it cannot be used.
     fn note(
         &mut self,
         alloc: Global,
@@ -64,7 +64,8 @@ impl AudioFiles {
         Ok(())
     }
 
-    /// Adds the name of a file that is used, and the file if it is kept, and answers its number.
+    /// Adds the name of a file that is used, and the file itself where files are kept (`None` where not). Answers its
+    /// number among the files that are used.
     fn keep(&mut self, alloc: Global, name: &str, file: Option<Undecoded>) -> Result<u32, Memory>
         ensures number { IfOk result (λ number. number ≡ length (heard_of self.old).titles) }
         ensures few { IfOk result (λ number. number + 1 < 2 ^ 32) }
@@ -79,8 +80,9 @@ impl AudioFiles {
         Ok(number)
     }
 
-    /// Uses an audio file that was not met before, if what it counts for fits beside the others: `all` is how many
-    /// bytes they may be together.
+    /// Adds an audio file that was not met before: `found` has the file, where it is kept, and how many bytes it counts
+    /// for, or why it cannot be used. Answers its number, or as the inner `Err` why it cannot be used. The outer `Err`
+    /// ends the load: with it, all files would count for more than `all` bytes, or there was no memory.
     fn add(
         &mut self,
         alloc: Global,
@@ -116,8 +118,9 @@ impl AudioFiles {
         Ok(Ok(number))
     }
 
-    /// What a name is as an audio file: its number among those that are used, or why it cannot be. It is read where it
-    /// was not met before.
+    /// Finds the number of the audio file of this name among those that are used. It is read where it was not met
+    /// before. An inner `Err` says why it cannot be used. The outer `Err` ends the load: a read failed, all files count
+    /// for too many bytes, or there was no memory.
     pub fn find<S: Shelf>(
         &mut self,
         alloc: Global,
@@ -145,7 +148,7 @@ impl AudioFiles {
     }
 }
 
-/// Adds an audio file to those that are kept; nothing, where files are not kept and there is none.
+/// Adds an audio file to those that are kept. `None` stands for a file that is used and not kept, and adds nothing.
 fn push_some(files: &mut Vec<Undecoded>, file: Option<Undecoded>) -> Result<(), Memory>
     ensures { OnOk result (files.new.items ≡ one_kept files.old.items file) }
 {
@@ -155,8 +158,8 @@ fn push_some(files: &mut Vec<Undecoded>, file: Option<Undecoded>) -> Result<(), 
     Ok(())
 }
 
-/// The number of a file or a list which comes after `count` others, as 32 bits. Memory is refused from 2^32 - 1 others
-/// on.
+/// The number of a file or a list that comes after `count` others, as 32 bits. From 2^32 - 1 others on it is refused,
+/// as if there was no memory.
 pub fn new_number(count: usize) -> Result<u32, Memory>
     ensures number { IfOk result (λ number. number ≡ count) }
     ensures few { IfOk result (λ number. number + 1 < 2 ^ 32) }

@@ -46,7 +46,8 @@ impl LeafLists {
         }
     }
 
-    /// Adds the list of the next node, `leaf`: the numbers of the files that it plays.
+    /// Adds the list of the next node, `leaf`: the numbers of the files that it plays, in order. The node's operator
+    /// `op` tells whether it may share the list of an earlier node: only playlists do.
     pub fn push(&mut self, alloc: Global, op: &Op, leaf: Vec<u32>) -> Result<(), Memory>
         ensures { OnOk result (self.new ≡ self.old ++ leaf.items ∷ []) }
     {
@@ -59,8 +60,8 @@ impl LeafLists {
         }
     }
 
-    // Adds the list of a node that plays the names in this file. A node that had the same list from this file before
-    // shares it.
+    // Adds `leaf`, the list of a playlist whose names stand in this file. Where an earlier node has the same list from
+    // this file, both share it, so that it is held once.
     fn push_played(&mut self, alloc: Global, file: &str, leaf: Vec<u32>) -> Result<(), Memory>
         ensures { OnOk result (self.new ≡ self.old ++ leaf.items ∷ []) }
     {
@@ -74,7 +75,8 @@ impl LeafLists {
         Ok(())
     }
 
-    // Adds a list that no earlier node has, and answers its number.
+    // Adds `leaf` as a list that the next node shares with no earlier one, and answers its number among the different
+    // lists.
     fn push_own(&mut self, leaf: Vec<u32>) -> Result<u32, Memory>
         ensures { OnOk result (self.new ≡ self.old ++ leaf.items ∷ []) }
     {
@@ -84,7 +86,8 @@ impl LeafLists {
         Ok(number)
     }
 
-    /// Hands out the different lists of files that nodes play, and for each node the number of its list among them.
+    /// Takes this apart: the different lists of files that nodes play, and for each node the number of its list among
+    /// them.
     pub fn into_lists(self) -> (Vec<Vec<u32>>, Vec<u32>)
         ensures lists { chosen_lists (map (λ v. v.items) result.0.items) result.1.items ≡ self }
         ensures there { All (λ number. number < length result.0.items) result.1.items }
@@ -98,7 +101,8 @@ impl LeafLists {
     }
 }
 
-// The number of an earlier list, if there is one and it has the same files as `leaf`, so that two nodes can share it.
+// Whether the list of this number among `lists` has the same files as `leaf`, so that two nodes can share it: then its
+// number, else `None`. Where `number` is `None`, there is no earlier list.
 fn if_same(lists: &[Vec<u32>], number: Option<u32>, leaf: &[u32]) -> Option<u32>
     ensures { IfSome result (λ number. (number < length lists.now)
         × (slice_index_or (map (λ v. v.items) lists.now) number [] ≡ leaf.now)) }

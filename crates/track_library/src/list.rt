@@ -35,7 +35,8 @@ pub fn cut_mark(bytes: &[u8]) -> &[u8]
     }
 }
 
-/// The first line of a list file's bytes, without its LF, and what comes behind the LF; the whole where there is none.
+/// Cuts the first line from the bytes of a list file: the line without its LF, and what comes behind the LF. Where
+/// there is no LF, the line is the whole, and nothing comes behind.
 pub fn cut_line(bytes: &[u8]) -> (&[u8], &[u8])
     requires { 0 < length bytes.now }
     ensures cut { lines bytes.now ≡ result.0.now ∷ lines result.1.now }
@@ -49,7 +50,8 @@ pub fn cut_line(bytes: &[u8]) -> (&[u8], &[u8])
     (bytes, &[])
 }
 
-/// The name of an audio file in a line of a list; nothing where the line is skipped, as empty, a comment or not UTF-8.
+/// The name of an audio file in a line of a list. `None` says that the line is skipped: it is empty, a comment that
+/// begins with `#`, or not UTF-8.
 fn line_name(line: &[u8]) -> Option<&str>
     ensures { MatchOption result (is_name (without_cr line.now) ≡ false)
         (λ name. (is_name (without_cr line.now) ≡ true) × (name.now ≡ without_cr line.now)) }

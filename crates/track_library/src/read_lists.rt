@@ -21,8 +21,8 @@ pub struct ReadLists {
 }
 
 impl ReadLists {
-    /// The place of the list file of this name among those that were read on the walk; it is read where it was not
-    /// read before. A list that cannot be used is a fault.
+    /// Finds the place of the list file of this name among those that were read on the walk. It is read where it was
+    /// not read before. A list that cannot be used is a fault of the load.
     pub fn find<S: Shelf>(
         &mut self,
         alloc: Global,

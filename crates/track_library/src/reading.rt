@@ -27,8 +27,8 @@ const HEADER_BYTES: u64 = 44;
 /// How many of a file's first bytes are looked at.
 const FRONT_BYTES: u64 = 16_384;
 
-/// Reads the whole file of this name from the shelf, if it is there and has at most `most` bytes; else why it cannot
-/// be used. A read that failed is a fault of the load.
+/// Reads the whole file of this name from the shelf. An inner `Err` says why the file cannot be used: it is not there,
+/// or has more than `most` bytes. The outer `Err` ends the load: the read failed, or there was no memory.
 pub fn fetch<S: Shelf>(
     alloc: Global,
     shelf: &mut S,
@@ -51,8 +51,8 @@ pub fn fetch<S: Shelf>(
     }
 }
 
-/// The fault of a load whose file of this name could not be read; where there is no memory for the name, want of
-/// memory.
+/// The fault that ends a load since the file of this name could not be read. Where there is no memory for the name, it
+/// is `LoadFault::Memory`.
 fn read_fault(alloc: Global, name: &str) -> LoadFault
     ensures { (old new : ShelfTold) → Rose old.reads new.reads → IsReading name.now old new result }
 {
@@ -62,8 +62,9 @@ fn read_fault(alloc: Global, name: &str) -> LoadFault
     }
 }
 
-/// The head of the WAV file of this name (its rate, channels and where its samples stand), and how many bytes it has,
-/// at most `most`. Where its first bytes tell its head, no more of it is asked for.
+/// Finds the head of the WAV file of this name (its rate, channels and where its samples stand), and how many bytes the
+/// file has. Only where its first bytes do not tell the head, the file is read whole. An inner `Err` says why the file
+/// cannot be used, as that it has more than `most` bytes; the outer one ends the load.
 pub fn find_head<S: Shelf>(
     alloc: Global,
     shelf: &mut S,
@@ -86,8 +87,9 @@ pub fn find_head<S: Shelf>(
     }
 }
 
-/// Reads the first bytes of the file of this name into the empty list `front`, and answers how many bytes the file
-/// has, at most `most`; or why it cannot be used.
+/// Reads the first bytes of the file of this name into the empty list `front`, and answers how many bytes the whole
+/// file has. An inner `Err` says that it is not there, or has more than `most` bytes. The outer `Err` ends the load:
+/// the read failed, or there was no memory.
 fn look_at_front<S: Shelf>(
     alloc: Global,
     shelf: &mut S,
@@ -109,7 +111,9 @@ fn look_at_front<S: Shelf>(
     }
 }
 
-/// The head of the WAV file of this name, for which it is read whole, and how many bytes it has, at most `most`.
+/// Reads the WAV file of this name whole, for the case that its first bytes do not tell its head. Answers the head and
+/// how many bytes the file has. An inner `Err` says why it cannot be used: not there, no WAV file, or more than `most`
+/// bytes. The outer `Err` ends the load: the read failed, or there was no memory.
 fn find_whole_head<S: Shelf>(
     alloc: Global,
     shelf: &mut S,
@@ -126,7 +130,8 @@ fn find_whole_head<S: Shelf>(
     }
 }
 
-/// The head of the WAV file with these bytes, and how many they are; or the fault that they are no WAV file.
+/// The head of the WAV file with these bytes (its rate, channels and where its samples stand), and how many bytes they
+/// are. `Err` says why they are no WAV file.
 fn head_in(bytes: &[u8]) -> Result<(Head, u64), Unusable>
     ensures { IsHeadIn bytes.now result }
 {
@@ -136,8 +141,8 @@ fn head_in(bytes: &[u8]) -> Result<(Head, u64), Unusable>
     }
 }
 
-/// How many bytes an audio file with these bytes and this head counts for against the limits; too long, if for more
-/// than one file may.
+/// How many bytes an audio file with these bytes and this head counts for against the limits in `rules`. `Err` is
+/// `TooLong`: it counts for more than one file may.
 fn count_bytes(bytes: &[u8], head: Head, rules: Rules) -> Result<u64, Unusable>
     requires rules { AreRules rules }
     requires few { length bytes.now ≤ rules.file }
@@ -149,8 +154,9 @@ fn count_bytes(bytes: &[u8], head: Head, rules: Rules) -> Result<u64, Unusable>
     count_head(head, bytes.len() as u64, rules)
 }
 
-/// How many bytes a file with this head and of `size` bytes counts for against the limits: its own, or those of its
-/// sound at the rate of the script, whichever are more. Too long, if one file may not have so many.
+/// How many bytes a file with this head and of `size` bytes counts for against the limits in `rules`: its own, or those
+/// of its sound at the rate of the script, whichever are more. `Err` is `TooLong`: it counts for more than one file
+/// may.
 fn count_head(head: Head, size: u64, rules: Rules) -> Result<u64, Unusable>
     requires rules { AreRules rules }
     requires rate { 0 < head.rate }
@@ -165,8 +171,8 @@ fn count_head(head: Head, size: u64, rules: Rules) -> Result<u64, Unusable>
     Ok(counted)
 }
 
-/// The audio file of these bytes, not decoded, and how many bytes it counts for; or why it cannot be used: it is no
-/// WAV file, or too long.
+/// Makes an audio file of these bytes, which is not decoded yet, and answers with it how many bytes it counts for
+/// against the limits in `rules`. `Err` says why it cannot be used: it is no WAV file, or too long.
 fn use_bytes(bytes: Vec<u8>, rules: Rules) -> Result<(Undecoded, u64), Unusable>
     requires rules { AreRules rules }
     requires few { length bytes.items ≤ rules.file }
@@ -212,8 +218,9 @@ fn sample_count(wide: bool, size: u64) -> u64
     if wide { size / 3 } else { size / 2 }
 }
 
-/// Reads the audio file of this name, not decoded, and answers how many bytes it counts for; or why it cannot be used.
-/// That is known from its bytes alone: no memory is taken for its samples.
+/// Reads the audio file of this name, not decoded, and answers with it how many bytes it counts for against the limits.
+/// An inner `Err` says why the file cannot be used: that is known from its bytes, before memory is taken for samples.
+/// The outer `Err` ends the load: the read failed, or there was no memory.
 fn read_audio<S: Shelf>(
     alloc: Global,
     shelf: &mut S,
@@ -233,8 +240,9 @@ fn read_audio<S: Shelf>(
     }
 }
 
-/// How many bytes the audio file of this name counts for, or why it cannot be used. The file is not kept: its head is
-/// enough.
+/// How many bytes the audio file of this name counts for against the limits in `rules`. The file is not kept, since its
+/// head is enough. An inner `Err` says why it cannot be used. The outer `Err` ends the load: the read failed, or there
+/// was no memory.
 fn count_audio<S: Shelf>(
     alloc: Global,
     shelf: &mut S,
@@ -253,8 +261,9 @@ fn count_audio<S: Shelf>(
     }
 }
 
-/// How many bytes the audio file of this name counts for, and where `keeps` is true the file itself, not decoded; or
-/// why it cannot be used.
+/// Finds the audio file of this name: itself, not decoded, where `keeps` is true and else `None`, and how many bytes it
+/// counts for against the limits in `rules`. An inner `Err` says why it cannot be used. The outer `Err` ends the load:
+/// the read failed, or there was no memory.
 pub fn find_audio<S: Shelf>(
     alloc: Global,
     shelf: &mut S,

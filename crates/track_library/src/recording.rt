@@ -12,7 +12,8 @@ use std::alloc::Global;
 use wav_io::Head;
 
 /// The track that the engine plays of a WAV file with these bytes and this head, at `rate` samples a second, from 8000
-/// to 192000. Samples of another rate, and those of 16 bits, stay in the bytes of the file.
+/// to 192000. Only 24-bit samples at this very rate are decoded here. All other samples stay in the bytes of the file
+/// and are made where they are read.
 pub fn track_of(alloc: Global, bytes: Vec<u8>, head: Head, rate: u32) -> Result<Track, Memory>
     requires head { IsHeadOf bytes.items head }
     requires few { length bytes.items ≤ 268435456 }
@@ -48,7 +49,8 @@ fn changed_track(bytes: Vec<u8>, head: Head, rate: u32) -> Track
     Track::of_changed(Changed::new(blocks, head.rate, rate))
 }
 
-// The track of a file of 24 bits at its own rate. The bytes are given back once they are decoded.
+// The track of a file of 24 bits at its own rate: its samples, decoded to 16 bits. The bytes are given back once they
+// are decoded.
 fn wide_track(alloc: Global, bytes: Vec<u8>, head: Head) -> Result<Track, Memory>
     requires head { IsHeadOf bytes.items head }
     requires few { length bytes.items ≤ 268435456 }

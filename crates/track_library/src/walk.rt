@@ -52,8 +52,8 @@ impl Walk {
         }
     }
 
-    /// The leaf of a node with this operator: the numbers of the audio files that it plays, which are read where they
-    /// were not met before. It is empty where the node plays no files.
+    /// Finds the leaf of a node with this operator: the numbers of the audio files that it plays, in order. Files and
+    /// lists that were not met before are read. The leaf is empty where the node plays no files.
     fn find_leaf<S: Shelf>(
         &mut self,
         alloc: Global,
@@ -84,8 +84,8 @@ impl Walk {
         }
     }
 
-    /// Ends the walk: the audio files that were used and kept, their names, and with them the leaves, the numbers of
-    /// the files that each node plays.
+    /// Ends the walk, and hands on what it found: the audio files that are used, and their names. `leaves` has the
+    /// numbers of the files that each node plays. What is known of names and lists is dropped.
     fn into_files(self, leaves: LeafLists) -> PlanFiles
         requires { IsLibrary (record {
           files = self.audio.files.items;
@@ -111,8 +111,9 @@ impl Walk {
     }
 }
 
-/// The audio files of a plan: for each of its nodes those that it plays, each of them once, and each changed to the
-/// rate of the plan. All of them are read, and whether they may be loaded is known, before one is decoded.
+/// Loads the audio files of a plan for its engine, each once and changed to the rate of the plan, with the numbers of
+/// those that each node plays. `sizes` has how many bytes one file and all of them may count for. All are read, and
+/// whether they may be loaded is known, before one is decoded.
 pub fn load<S: Shelf>(
     alloc: Global,
     plan: &Plan,
@@ -129,7 +130,8 @@ pub fn load<S: Shelf>(
     Ok(files.decode(alloc)?)
 }
 
-/// The audio files of a plan, as `load` answers them, before they are decoded: no memory is taken for samples.
+/// Reads the audio files of a plan, as `load` does, and leaves them undecoded: no memory is taken for samples. `sizes`
+/// has how many bytes one file and all of them may count for.
 pub fn find_files<S: Shelf>(
     alloc: Global,
     plan: &Plan,
@@ -153,8 +155,8 @@ pub fn find_files<S: Shelf>(
     Ok(walk.into_files(leaves))
 }
 
-/// Whether the audio files of a plan can be loaded. They are read as `find_files` reads them, and none is kept: at most
-/// one of them is held at a time.
+/// Whether the audio files of a plan can be loaded; if not, the fault is the one that `load` would answer. They are
+/// read as `find_files` reads them, and none is kept: at most one of them is held at a time.
 pub fn try_files<S: Shelf>(
     alloc: Global,
     plan: &Plan,
@@ -179,7 +181,8 @@ pub fn try_files<S: Shelf>(
     Ok(())
 }
 
-/// Walks over the nodes of a plan: adds to the walk what is read, and to `leaves` the list of each node.
+/// Reads the audio files and lists that the nodes of a plan play, node after node. `walk` keeps what was read, and
+/// `leaves` gets for each node the numbers of the files that it plays.
 fn walk_nodes<S: Shelf>(
     alloc: Global,
     plan: &Plan,
@@ -203,8 +206,9 @@ fn walk_nodes<S: Shelf>(
     Ok(())
 }
 
-/// The leaf of a `single` of this name: the number of its file, alone in a list. A file that cannot be used is a
-/// fault.
+/// The leaf of a `single` with this file name: the number of the file, alone in a list. `audio` has the files met so
+/// far, and gets this one if it is new. A file that cannot be used is a fault of the load, since a `single` plays
+/// nothing else.
 fn find_single<S: Shelf>(
     alloc: Global,
     shelf: &mut S,
@@ -236,8 +240,8 @@ fn find_single<S: Shelf>(
     }
 }
 
-/// Adds to the leaf of a playlist the number of what was found for an entry, if it can be used; else the entry is left
-/// out.
+/// Adds the file that was found for an entry of a playlist to the playlist's leaf, by its number. An entry whose file
+/// cannot be used is left out.
 fn push_found(leaf: &mut Vec<u32>, found: Result<u32, Unusable>) -> Result<(), Memory>
     ensures { OnOk result (leaf.new.items ≡ with_found leaf.old.items found) }
 {
@@ -247,7 +251,9 @@ fn push_found(leaf: &mut Vec<u32>, found: Result<u32, Unusable>) -> Result<(), M
     Ok(())
 }
 
-/// The leaf of a playlist with these entries: the numbers of the files among them that can be used, in their order.
+/// The leaf of a playlist with these entries (`names`): the numbers of their audio files, in order. `audio` has the
+/// files met so far, and gets those that are new. An entry whose file cannot be used is left out. More entries than 32
+/// bits can count are refused, as if there was no memory.
 fn play_entries<S: Shelf>(
     alloc: Global,
     shelf: &mut S,

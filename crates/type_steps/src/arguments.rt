@@ -23,8 +23,9 @@ pub struct Argument<'a> {
     pub var: u64,
 }
 
-/// Makes the arguments of a call match its parameters, which have these types, if they can; false if they cannot.
-/// Arguments that were matched may leave `given`.
+/// Makes the arguments of a call (`given`) have the types (`types`) of the callee's parameters (`params`), each at the
+/// parameter that takes it. False if they cannot, or if one is left over. `subst`, the substitution, has what is known
+/// of types. Arguments that were matched may leave `given`.
 pub fn fit(
     alloc: Global,
     subst: &mut Subst,
@@ -55,8 +56,9 @@ pub fn fit(
     Ok(given.is_empty())
 }
 
-/// Makes the many arguments of a call match its parameters, which have these types, if they can, by a table of the
-/// labels of the arguments.
+/// Does as `fit` for a call of many arguments (`given`), by a table of their labels: they are then not searched anew
+/// for each of the parameters (`params`). False if they cannot have the parameters' types (`types`), or one is left
+/// over. `subst`, the substitution, has what is known of types.
 fn fit_many(
     alloc: Global,
     subst: &mut Subst,
@@ -75,8 +77,9 @@ fn fit_many(
     fit_labelled(alloc, subst, params, types, given, &mut labels)
 }
 
-/// Makes the arguments of a call that are left in the table `labels` match its parameters, which have these types, if
-/// they can; none may be left over.
+/// Makes the arguments of a call that are left in the table `labels` have the types (`types`) of the callee's
+/// parameters (`params`). False if they cannot, or if one is left over. `given` has all arguments, and `subst`, the
+/// substitution, what is known of types.
 fn fit_labelled(
     alloc: Global,
     subst: &mut Subst,
@@ -115,8 +118,8 @@ fn labels_of<'a>(alloc: Global, given: &[Argument<'a>]) -> Result<Vec<Option<&'a
     Ok(labels)
 }
 
-/// Takes out of the table the first argument left with this label, or the first without one where `label` is none.
-/// Returns its type variable; `None` if there is no such argument.
+/// Takes out of the table `labels` the first argument left with this label, or the first without one where `label` is
+/// none. Answers its type variable, which `given`, the list of all arguments, has; `None` if there is no such argument.
 fn take_labelled(
     labels: &mut Labels<'_>,
     given: &[Argument<'_>],
@@ -163,8 +166,9 @@ fn take_argument(given: &mut Vec<Argument<'_>>, label: Option<&str>) -> Option<u
     None
 }
 
-/// Makes the type variable `taken`, that of a parameter's argument, have the parameter's type; false if it cannot.
-/// Without an argument it is true if the parameter need not have one.
+/// Makes `taken`, the type variable of a parameter's argument, have the parameter's type `ty`; false if it cannot.
+/// Where there is no argument (`None`), it is true if the parameter need not have one. `subst` has what is known of
+/// types.
 fn fit_one(
     alloc: Global,
     subst: &mut Subst,

@@ -11,7 +11,8 @@ use liq_base::Memory;
 use std::alloc::Global;
 use type_terms::{Subst, Ty, unify};
 
-/// Not a test alone: makes type variable `n` be the type `ty`, if it can be (unification); false if they clash.
+/// Not a test alone: makes type variable `n` be the type `ty` in the substitution `subst`, if it can be (unification).
+/// False says that they clash.
 pub fn is_type(alloc: Global, subst: &mut Subst, n: u64, ty: &Ty) -> Result<bool, Memory>
     requires inside { n < length subst.old.types }
     requires over { IsOver subst.old (term_of ty.now) }
@@ -21,7 +22,8 @@ pub fn is_type(alloc: Global, subst: &mut Subst, n: u64, ty: &Ty) -> Result<bool
     unify(alloc, subst, &variable, ty)
 }
 
-/// Makes two type variables stand for one type, if they can (unification); false if they clash.
+/// Not a test alone: makes two type variables stand for one type in the substitution `subst`, if they can
+/// (unification). False says that they clash.
 pub fn same(alloc: Global, subst: &mut Subst, left: u64, right: u64) -> Result<bool, Memory>
     requires left { left < length subst.old.types }
     requires right { right < length subst.old.types }
@@ -39,7 +41,8 @@ pub fn is_truth(alloc: Global, subst: &mut Subst, n: u64) -> Result<bool, Memory
     is_type(alloc, subst, n, &Ty::Bool)
 }
 
-/// The number of a new type variable, which can only be int or decimal if `number` is true.
+/// Makes a new type variable in the substitution `subst`, and answers its number. Where `number` is true, it can only
+/// be int or decimal.
 pub fn new_var(subst: &mut Subst, number: bool) -> Result<u64, Memory>
     ensures { IfOk result (λ n. HasNewType subst.old subst.new (IsTrue number) n) }
 {
@@ -50,7 +53,8 @@ pub fn new_var(subst: &mut Subst, number: bool) -> Result<u64, Memory>
     }
 }
 
-/// Not a test alone: makes type variable `n` be int or decimal, if it can be; false if that clashes.
+/// Not a test alone: makes type variable `n` be int or decimal, if it can be, by unification with a new variable that
+/// can be nothing else. False says that they clash.
 pub fn is_number(alloc: Global, subst: &mut Subst, n: u64) -> Result<bool, Memory>
     requires inside { n < length subst.old.types }
     ensures { IfOk result (λ yes. IsMade yes subst.old subst.new (λ a. IsNumber (a.type_of n))) }
@@ -60,7 +64,7 @@ pub fn is_number(alloc: Global, subst: &mut Subst, n: u64) -> Result<bool, Memor
     Ok(yes)
 }
 
-/// The number of a new type variable that is bound to a type.
+/// Makes a new type variable that is bound to this type, and answers its number.
 pub fn new_type(subst: &mut Subst, ty: Ty) -> Result<u64, Memory>
     requires over { IsOver subst.old (term_of ty) }
     ensures { IfOk result (λ n. Defines subst.old subst.new n (term_of ty)) }
@@ -69,7 +73,8 @@ pub fn new_type(subst: &mut Subst, ty: Ty) -> Result<u64, Memory>
     Ok(n)
 }
 
-/// The number of a new type variable that is bound to a list; type variable `item` is the type of its items.
+/// Makes a new type variable that is bound to a list type, and answers its number. Type variable `item` is the type of
+/// the list's items.
 pub fn new_list(alloc: Global, subst: &mut Subst, item: u64) -> Result<u64, Memory>
     requires inside { item < length subst.old.types }
     ensures { IfOk result (λ n. Defines subst.old subst.new n (list_term (variable item))) }
@@ -80,7 +85,8 @@ pub fn new_list(alloc: Global, subst: &mut Subst, item: u64) -> Result<u64, Memo
     Ok(n)
 }
 
-/// The number of a new type variable that is bound to a tuple; these type variables are the types of its parts.
+/// Makes a new type variable that is bound to a tuple type, and answers its number. These type variables are the types
+/// of the tuple's parts, in order.
 pub fn new_tuple(alloc: Global, subst: &mut Subst, parts: &[u64]) -> Result<u64, Memory>
     requires over { IsOver subst.old (tuple_term (terms_of (map variable parts.now))) }
     ensures { IfOk result (λ n. Defines subst.old subst.new n (tuple_term (terms_of (map variable parts.now)))) }
@@ -91,8 +97,8 @@ pub fn new_tuple(alloc: Global, subst: &mut Subst, parts: &[u64]) -> Result<u64,
     Ok(n)
 }
 
-/// Makes type variable `n`, the type of the first operand of `and` or `or`, be bool, if it can be and `others` more
-/// operands follow; true if none does, as then there is no operator.
+/// Not a test alone: makes type variable `n`, the type of the first operand of `and` or `or`, be bool, if `others` more
+/// operands follow; false if it cannot be. If none follows, there is no operator, and it is true.
 pub fn is_truth_of_many(
     alloc: Global,
     subst: &mut Subst,
@@ -109,8 +115,8 @@ pub fn is_truth_of_many(
     }
 }
 
-/// Makes type variable `n`, the type of the first operand of a sum or product, be int or decimal, if it can be and
-/// `others` more operands follow; true if none does, as then there is no operator.
+/// Not a test alone: makes type variable `n`, the type of the first operand of a sum or product, be int or decimal, if
+/// `others` more operands follow; false if it cannot be. If none follows, there is no operator, and it is true.
 pub fn is_number_of_many(
     alloc: Global,
     subst: &mut Subst,

@@ -29,9 +29,9 @@ use std::alloc::Global;
 /// empty, at 330 bytes an argument.
 const USUAL: usize = 2;
 
-/// call: NameOpen (argument (`,` argument)*)? `)`
-///
-/// Its values nest less than `levels` deep.
+/// Reads a call, NameOpen (argument (`,` argument)*)? `)`: its tree, and the tokens behind it. `total` counts the
+/// tokens of the whole script; values nest less than `levels` deep. A fault counts the tokens from the first one that
+/// cannot go on.
 #[cycle(value)]
 #[tactic(auto, unfolding(script_grammar::specs::ReadValue::call))]
 pub fn call(
@@ -61,8 +61,8 @@ pub fn call(
     }
 }
 
-// The call of a name with these arguments, and the tokens behind it. `at` is the index of its first token, and `read`
-// what reading the arguments answered.
+// Puts a call together once its arguments were read into `items`, and answers it with the tokens behind it. `at` is the
+// index of its first token. `read` has those tokens, or the fault of the arguments, which is handed on.
 #[inline(never)]
 fn call_of<'a>(
     alloc: Global,
@@ -83,7 +83,8 @@ fn call_of<'a>(
 }
 
 // Reads what stands behind the name and `(` of a call: (argument (`,` argument)*)? `)`. The arguments are pushed to
-// `items`; the tokens behind the bracket are answered.
+// `items`; the tokens behind the bracket are answered. `total` counts the tokens of the whole script; values nest less
+// than `levels` deep.
 #[cycle(value)]
 #[tactic(auto, unfolding(script_grammar::specs::ReadValue::args))]
 fn args<'a>(
@@ -111,6 +112,7 @@ fn args<'a>(
 }
 
 // Reads one argument or several, argument (`,` argument)*, pushes them to `items`, and answers the tokens behind them.
+// `total` counts the tokens of the whole script; values nest less than `levels` deep.
 #[cycle(value)]
 fn some_args<'a>(
     alloc: Global,
@@ -134,7 +136,8 @@ fn some_args<'a>(
     Ok(rest)
 }
 
-// Reads a further argument of a call, `,` argument, pushes it to `items`, and answers the tokens behind it.
+// Reads a further argument of a call, `,` argument, pushes it to `items`, and answers the tokens behind it. `total`
+// counts the tokens of the whole script; values nest less than `levels` deep.
 #[cycle(value)]
 #[tactic(auto, unfolding(script_grammar::specs::Read::behind))]
 fn comma_arg<'a>(
@@ -156,6 +159,7 @@ fn comma_arg<'a>(
 }
 
 // Reads an argument of a call: value | Name `=` value. It is pushed to `items`; the tokens behind it are answered.
+// `total` counts the tokens of the whole script; values nest less than `levels` deep.
 #[cycle(value)]
 #[tactic(auto, using(crate::proofs::Labels::arg_labelled))]
 fn arg<'a>(
@@ -177,8 +181,9 @@ fn arg<'a>(
     labelled(alloc, total, levels, at, label, items, rest)
 }
 
-// Reads the value of an argument whose label, if it has one, was read already. The argument is pushed to `items`; `at`
-// is the index of its first token. The tokens behind it are answered.
+// Reads the value of an argument whose label, if it has one, was read already. The argument is pushed to `items`, and
+// the tokens behind it are answered. `at` is the index of its first token. `total` counts the tokens of the whole
+// script; values nest less than `levels` deep.
 #[cycle(value)]
 fn labelled<'a>(
     alloc: Global,
@@ -220,8 +225,8 @@ fn labelled<'a>(
     }
 }
 
-// How many levels may nest in a value that begins with its first operand; `None` where it does not, or where no level
-// is left.
+// How many levels of values may nest in a value that begins with its first operand, if it may nest in `levels` itself.
+// `None` where it begins with `-` or `not`, or where no level is left.
 fn bare_levels(levels: usize, tokens: &[Token]) -> Option<usize>
     ensures bare { IfSome result (λ below. (levels ≡ below + 1) × (is_bare (kinds tokens.now) ≡ true)) }
 {
@@ -232,8 +237,9 @@ fn bare_levels(levels: usize, tokens: &[Token]) -> Option<usize>
     }
 }
 
-// Pushes an argument whose first operand was read at these tokens, and answers the tokens behind it. The operand is
-// mostly all of the value, which is then made where it stays.
+// Pushes an argument whose first operand was read (`read`) at these tokens, and answers the tokens behind the argument.
+// Mostly the operand is all of the value, which is then made where it stays. Where an operator follows, the value is
+// read on. `at` is the index of its first token, `total` the count of the script's tokens.
 #[inline(never)]
 #[cycle(value)]
 fn push_operand<'a>(
@@ -279,8 +285,8 @@ fn push_operand<'a>(
     }
 }
 
-// Pushes an argument whose value is one operand without operators; room for it was made before. `at` is the index of
-// its first token.
+// Pushes an argument whose value is one operand without operators; room for it in `items` was made before. `at` is the
+// index of its first token, and `label` its label, if it has one.
 fn push_lone(alloc: Global, at: u32, label: Option<Text>, items: &mut Vec<Arg>, operand: Operand)
     requires room { vec_len items.old < vec_capacity items.old }
     ensures pushed { (x : Arg) × (items.new.items ≡ items.old.items ++ x ∷ [])
@@ -291,7 +297,7 @@ fn push_lone(alloc: Global, at: u32, label: Option<Text>, items: &mut Vec<Arg>, 
 }
 
 // Pushes an argument with the value that was read, and answers the tokens behind it. `at` is the index of its first
-// token.
+// token. `read` has the value and those tokens, or a fault, which is handed on.
 #[inline(never)]
 fn push_arg<'a>(
     at: u32,

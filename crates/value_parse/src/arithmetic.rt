@@ -22,8 +22,8 @@ use script_grammar::tree::{self, Added, Compare, Compared, Multiplied, Product, 
 use script_lex::Token;
 use std::alloc::Global;
 
-/// Goes on with a comparison whose left sum is given, as it was read at `at`: sum ((`==` | `!=` | `<` | `<=` | `>` |
-/// `>=`) sum)?
+/// Goes on with a comparison whose left sum was read already (`read`), at `at`: sum ((`==` | `!=` | `<` | `<=` | `>` |
+/// `>=`) sum)? Answers the comparison and the tokens behind it.
 #[inline(never)]
 #[cycle(value)]
 #[tactic(auto, unfolding(script_grammar::specs::ReadValue::compare))]
@@ -44,7 +44,9 @@ pub fn compare_of<'a>(
     behind_sum(at.alloc, at.total, at.levels, at.loose, left, rest)
 }
 
-// Reads the right side of a comparison, an operator and a sum, if there is one, behind the sum `left` on its left.
+// Reads the right side of a comparison, an operator and a sum, behind the sum `left`. Where no operator follows, the
+// comparison is `left` alone. `loose` says that a `(` may stand behind it. `total` counts the tokens of the whole
+// script; values nest less than `levels` deep.
 #[cycle(value)]
 fn behind_sum(
     alloc: Global,
@@ -97,7 +99,8 @@ fn behind_sum(
     }
 }
 
-/// Goes on with a sum whose first product is given, as it was read at `at`: product ((`+` | `-`) product)*
+/// Goes on with a sum whose first product was read already (`read`), at `at`: product ((`+` | `-`) product)* Answers
+/// the sum and the tokens behind it.
 #[inline(never)]
 #[cycle(value)]
 #[tactic(auto, unfolding(script_grammar::specs::ReadValue::sum))]
@@ -118,7 +121,8 @@ pub fn sum_of<'a>(
     Ok((make::sum(first, others), rest))
 }
 
-// Reads the further parts of a sum, ((`+` | `-`) product)*, and answers them with the tokens behind them.
+// Reads the further parts of a sum, ((`+` | `-`) product)*, from where reading stands (`at`), and answers them with the
+// tokens behind them.
 #[cycle(value)]
 fn addends<'a>(at: At<'a>) -> Result<(Vec<Added>, &'a [Token]), Fault>
     requires within { length at.tokens.now ≤ at.total }
@@ -135,7 +139,8 @@ fn addends<'a>(at: At<'a>) -> Result<(Vec<Added>, &'a [Token]), Fault>
     Ok((items, rest))
 }
 
-// Reads one further part of a sum: (`+` | `-`) product. `here` is where it begins.
+// Reads one further part of a sum, (`+` | `-`) product, from where reading stands (`here`): the part with its sign, and
+// the tokens behind it.
 #[cycle(value)]
 #[tactic(auto, using(crate::proofs::Signs::added_fails, crate::proofs::Signs::added_part_fails, crate::proofs::Signs::added_goes))]
 fn added<'a>(here: At<'a>) -> Result<(Added, &'a [Token]), Fault>
@@ -162,7 +167,8 @@ fn added<'a>(here: At<'a>) -> Result<(Added, &'a [Token]), Fault>
     Ok((Added { at, minus, product }, rest))
 }
 
-/// Goes on with a product whose first operand is given, as it was read at `at`: operand ((`*` | `/`) operand)*
+/// Goes on with a product whose first operand was read already (`read`), at `at`: operand ((`*` | `/`) operand)*
+/// Answers the product and the tokens behind it.
 #[inline(never)]
 #[cycle(value)]
 #[tactic(auto, unfolding(script_grammar::specs::ReadValue::product))]
@@ -184,7 +190,8 @@ pub fn product_of<'a>(
     Ok((make::product(first, others), rest))
 }
 
-// Reads the further parts of a product, ((`*` | `/`) operand)*, and answers them with the tokens behind them.
+// Reads the further parts of a product, ((`*` | `/`) operand)*, from where reading stands (`at`), and answers them with
+// the tokens behind them.
 #[cycle(value)]
 fn factors<'a>(at: At<'a>) -> Result<(Vec<Multiplied>, &'a [Token]), Fault>
     requires within { length at.tokens.now ≤ at.total }
@@ -201,7 +208,8 @@ fn factors<'a>(at: At<'a>) -> Result<(Vec<Multiplied>, &'a [Token]), Fault>
     Ok((items, rest))
 }
 
-// Reads one further part of a product: (`*` | `/`) operand. `here` is where it begins.
+// Reads one further part of a product, (`*` | `/`) operand, from where reading stands (`here`): the part with its sign,
+// and the tokens behind it.
 #[cycle(value)]
 #[tactic(auto, using(crate::proofs::Signs::multiplied_fails, crate::proofs::Signs::multiplied_part_fails, crate::proofs::Signs::multiplied_goes))]
 fn multiplied<'a>(here: At<'a>) -> Result<(Multiplied, &'a [Token]), Fault>

@@ -15,8 +15,9 @@ use script_grammar::tree::{self, Full, If, Literal};
 use script_lex::{Keyword, Symbol, Token, TokenKind};
 use std::alloc::Global;
 
-/// Reads an operand that holds no value within it: a number, text, truth value, name, predicate or `%wav`. The tokens
-/// are the last of `total`; where it is loose, a `(` may stand behind it.
+/// Reads an operand that holds no value within it (a number, text, truth value, name, predicate or `%wav`): its tree,
+/// and the tokens behind it. `total` counts the tokens of the whole script. Where it is `loose`, a `(` may stand behind
+/// it.
 #[tactic(auto, unfolding(script_grammar::specs::ReadValue::operand))]
 pub fn atom(
     alloc: Global,
@@ -121,7 +122,8 @@ pub fn make_choice(at: u32, condition: Box<Full>, then_part: Box<Full>, else_par
     }
 }
 
-// Reads a predicate and its `}`, as an operand, behind the `{`, whose index is `at`.
+// Reads a predicate and its `}` behind the `{`, whose index is `at`: the operand that they are, and the tokens behind
+// it.
 fn braces(alloc: Global, at: u32, tokens: &[Token]) -> Result<(tree::Operand, &[Token]), Fault>
     ensures { Reads view_operand IsWholeOperand (braces_at at) tokens.now result }
 {

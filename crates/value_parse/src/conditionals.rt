@@ -14,8 +14,8 @@ use script_grammar::tree::{Full, If};
 use script_lex::Token;
 use std::alloc::Global;
 
-/// Reads an `if`: `if` value `then` value `else` value `end`. Its values nest less than `levels` deep; the tokens are
-/// the last of `total`.
+/// Reads an `if`, `if` value `then` value `else` value `end`: its tree, and the tokens behind the `end`. `total` counts
+/// the tokens of the whole script; values nest less than `levels` deep.
 #[cycle(value)]
 #[tactic(auto, using(crate::proofs::Choices::choice_goes, crate::proofs::Choices::choice_fails))]
 pub fn choice(
@@ -36,7 +36,8 @@ pub fn choice(
     chosen(alloc, total, levels, at, rest)
 }
 
-// Reads an `if` behind its first word, whose index is `at`: value `then` value `else` value `end`.
+// Reads an `if` behind its first word, whose index is `at`: value `then` value `else` value `end`. Answers its tree,
+// and the tokens behind the `end`. `total` counts the tokens of the whole script; values nest less than `levels` deep.
 #[cycle(value)]
 fn chosen(
     alloc: Global,
@@ -55,6 +56,7 @@ fn chosen(
 }
 
 // Reads the two branches of an `if`, `then` value `else` value `end`: both values, and the tokens behind the `end`.
+// `total` counts the tokens of the whole script; values nest less than `levels` deep.
 #[cycle(value)]
 fn branches(
     alloc: Global,
@@ -75,7 +77,8 @@ fn branches(
     Ok((then_part, else_part, rest))
 }
 
-// Reads the second branch of an `if`, `else` value `end`: the value, and the tokens behind the `end`.
+// Reads the second branch of an `if`, `else` value `end`: the value, and the tokens behind the `end`. `total` counts
+// the tokens of the whole script; values nest less than `levels` deep.
 #[cycle(value)]
 fn otherwise(
     alloc: Global,

@@ -38,8 +38,9 @@ pub fn value(
     })
 }
 
-/// The result of a def: an expression, and the tokens behind it. The tokens are the last of `total`, and the fields
-/// `at` of the tree are indices among all of these. A fault counts the tokens from the first one that cannot go on.
+/// Reads the result of a def, an expression: its tree, and the tokens behind it. The tokens are the last of `total`,
+/// and the fields `at` of the tree are indices among all of these. A fault counts the tokens from the first one that
+/// cannot go on.
 #[tactic(auto, unfolding(script_grammar::specs::ReadScript::result))]
 pub fn result(alloc: Global, total: usize, tokens: &[Token]) -> Result<(Expr, &[Token]), Fault>
     requires within { length tokens.now ≤ total }
@@ -55,8 +56,8 @@ pub fn result(alloc: Global, total: usize, tokens: &[Token]) -> Result<(Expr, &[
     })
 }
 
-/// A call of a name, and the tokens behind it. The tokens are the last of `total`, and the fields `at` of the tree are
-/// indices among all of these. A fault counts the tokens from the first one that cannot go on.
+/// Reads a call of a name: its tree, and the tokens behind it. The tokens are the last of `total`, and the fields `at`
+/// of the tree are indices among all of these. A fault counts the tokens from the first one that cannot go on.
 pub fn call(alloc: Global, total: usize, tokens: &[Token]) -> Result<(Call, &[Token]), Fault>
     requires within { length tokens.now ≤ total }
     requires small { total < 2 ^ 32 }
@@ -66,8 +67,8 @@ pub fn call(alloc: Global, total: usize, tokens: &[Token]) -> Result<(Call, &[To
     arguments::call(alloc, total, tokens.len(), tokens)
 }
 
-/// An `if`, and the tokens behind its `end`. The tokens are the last of `total`, and the fields `at` of the tree are
-/// indices among all of these. A fault counts the tokens from the first one that cannot go on.
+/// Reads an `if`: its tree, and the tokens behind its `end`. The tokens are the last of `total`, and the fields `at` of
+/// the tree are indices among all of these. A fault counts the tokens from the first one that cannot go on.
 pub fn choice(alloc: Global, total: usize, tokens: &[Token]) -> Result<(If, &[Token]), Fault>
     requires within { length tokens.now ≤ total }
     requires small { total < 2 ^ 32 }

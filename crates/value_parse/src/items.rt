@@ -6,9 +6,9 @@ ghost use Rattle.value_parse.specs.Operand.{IsFaultOf};
 use parse_base::Fault;
 use script_lex::Token;
 
-/// Pushes the item that a loop has just read behind the others, and answers the tokens behind it; a fault is handed
-/// on. Room is made before the item is taken: a push that may be refused hands its item back, and so copies it twice
-/// more.
+/// Pushes the item that a loop has just read (`read`) behind the others, and answers the tokens behind it; a fault is
+/// handed on. Room is made before the item is taken: a push that may be refused hands its item back, and so copies it
+/// twice more.
 #[inline(never)]
 pub fn keep<'a, T: Drop>(
     items: &mut Vec<T>,

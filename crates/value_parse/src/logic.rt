@@ -21,7 +21,8 @@ use script_grammar::tree::{And, Compare, Expr, Not, Operand};
 use script_lex::Token;
 use std::alloc::Global;
 
-/// Reads an expression, and (`or` and)*: conjunctions joined by `or`. Answers its tree and the tokens behind it.
+/// Reads an expression, and (`or` and)*: conjunctions joined by `or`. `at` is where reading stands. Answers the
+/// expression's tree and the tokens behind it.
 pub fn expr<'a>(at: At<'a>) -> Result<(Expr, &'a [Token]), Fault>
     requires within { length at.tokens.now ≤ at.total }
     requires small { at.total < 2 ^ 32 }
@@ -41,8 +42,9 @@ pub fn expr<'a>(at: At<'a>) -> Result<(Expr, &'a [Token]), Fault>
     )
 }
 
-/// Goes on with an expression whose first operand is given, as it was read at `inner`: at the first token of the
-/// expression, or behind the `not` there (`negated`). `at` is where the expression begins.
+/// Goes on with an expression that begins at `at` and whose first operand was read already, at `inner`: at the first
+/// token, or behind the `not` there (`negated`). `read` has the operand and the tokens behind it, or a fault, which is
+/// handed on. Answers the expression and the tokens behind it.
 #[inline(never)]
 #[cycle(value)]
 #[tactic(auto, unfolding(script_grammar::specs::ReadValue::not_))]
@@ -70,8 +72,8 @@ pub fn expr_from<'a>(
     expr_of(at, first)
 }
 
-// Goes on with an expression whose first part, up to an `or`, is given, as it was read at `at`: reads the parts behind
-// each `or`.
+// Goes on with an expression whose first part, up to an `or`, was read already, at `at`: reads the parts behind each
+// `or`. `read` has the first part and the tokens behind it, or a fault, which is handed on.
 #[inline(never)]
 #[cycle(value)]
 #[tactic(auto, unfolding(script_grammar::specs::ReadValue::expr, script_grammar::specs::Read::chain))]
@@ -93,7 +95,8 @@ fn expr_of<'a>(
     Ok((make::expr(first, others), rest))
 }
 
-// Reads the further parts of an expression, (`or` and)*, and answers them with the tokens behind them.
+// Reads the further parts of an expression, (`or` and)*, from where reading stands (`at`), and answers them with the
+// tokens behind them.
 #[cycle(value)]
 fn ands<'a>(at: At<'a>) -> Result<(Vec<And>, &'a [Token]), Fault>
     requires within { length at.tokens.now ≤ at.total }
@@ -110,7 +113,7 @@ fn ands<'a>(at: At<'a>) -> Result<(Vec<And>, &'a [Token]), Fault>
     Ok((items, rest))
 }
 
-// Reads one further part of an expression: `or` and.
+// Reads one further part of an expression, `or` and: the conjunction, and the tokens behind it.
 #[cycle(value)]
 #[tactic(auto, unfolding(script_grammar::specs::Read::behind))]
 fn or_and<'a>(at: At<'a>) -> Result<(And, &'a [Token]), Fault>
@@ -127,8 +130,8 @@ fn or_and<'a>(at: At<'a>) -> Result<(And, &'a [Token]), Fault>
     )
 }
 
-// Goes on with a conjunction, not (`and` not)*, whose first part is given, as it was read at `at`: reads the parts
-// behind each `and`.
+// Goes on with a conjunction, not (`and` not)*, whose first part was read already, at `at`: reads the parts behind each
+// `and`. `read` has the first part and the tokens behind it, or a fault, which is handed on.
 #[inline(never)]
 #[cycle(value)]
 #[tactic(auto, unfolding(script_grammar::specs::ReadValue::and_, script_grammar::specs::Read::chain))]
@@ -149,7 +152,8 @@ fn and_of<'a>(
     Ok((make::and_term(first, others), rest))
 }
 
-// Reads the further parts of a conjunction, (`and` not)*, and answers them with the tokens behind them.
+// Reads the further parts of a conjunction, (`and` not)*, from where reading stands (`at`), and answers them with the
+// tokens behind them.
 #[cycle(value)]
 fn nots<'a>(at: At<'a>) -> Result<(Vec<Not>, &'a [Token]), Fault>
     requires within { length at.tokens.now ≤ at.total }
@@ -166,7 +170,7 @@ fn nots<'a>(at: At<'a>) -> Result<(Vec<Not>, &'a [Token]), Fault>
     Ok((items, rest))
 }
 
-// Reads one further part of a conjunction: `and` not.
+// Reads one further part of a conjunction, `and` not: a comparison, perhaps behind `not`, and the tokens behind it.
 #[cycle(value)]
 #[tactic(auto, unfolding(script_grammar::specs::Read::behind, script_grammar::specs::ReadValue::not_))]
 fn and_not<'a>(at: At<'a>) -> Result<(Not, &'a [Token]), Fault>
@@ -189,7 +193,7 @@ fn and_not<'a>(at: At<'a>) -> Result<(Not, &'a [Token]), Fault>
     )
 }
 
-// Reads a comparison, before which a `not` may stand: `not`? comparison.
+// Reads a comparison, before which a `not` may stand: `not`? comparison. Answers it and the tokens behind it.
 #[cycle(value)]
 #[tactic(auto, unfolding(script_grammar::specs::ReadValue::not_))]
 fn not_term<'a>(at: At<'a>) -> Result<(Not, &'a [Token]), Fault>
@@ -210,8 +214,9 @@ fn not_term<'a>(at: At<'a>) -> Result<(Not, &'a [Token]), Fault>
     )
 }
 
-// Goes on with a comparison whose first operand is given, as it was read at `tokens`: reads the rest of its product,
-// its sum and its right side. `negated` says that a `not` stood before it.
+// Goes on with a comparison whose first operand was read already (`read`), at `tokens`: reads the rest of its product,
+// its sum and its right side. `negated` says that a `not` stood before it, and `loose` that a `(` may stand behind it.
+// `total` counts the script's tokens, `levels` bounds how deep values nest.
 #[inline(never)]
 #[cycle(value)]
 fn negation_of<'a>(
@@ -267,7 +272,8 @@ fn negation_of<'a>(
     )
 }
 
-// Puts the comparison that was read into its tree, with `negated`: whether a `not` stands before it.
+// Puts the comparison that was read into its tree, with whether a `not` stands before it (`negated`). `read` has the
+// comparison and the tokens behind it, or a fault, which is handed on.
 #[inline(never)]
 fn not_of<'a>(
     negated: bool,

@@ -40,8 +40,8 @@ pub fn digits(tokens: &[Token]) -> Result<(Literal, &[Token]), Fault>
     }
 }
 
-/// Reads the option behind `%wav`, `(samplesize = number)`, if it is there: its number, and the tokens behind it.
-/// Where the value is loose, another `(` may stand there, and is left.
+/// Reads the option behind `%wav`, `(samplesize = number)`: its number, or `None` where there is no option, and the
+/// tokens behind it. Where the value is loose, a `(` that begins something else may stand there, and is left.
 #[tactic(auto, unfolding(script_grammar::specs::ReadValue::wav))]
 pub fn wav(loose: bool, tokens: &[Token]) -> Result<(Option<i64>, &[Token]), Fault>
     ensures shorter { IfOk result (λ x. length x.1.now ≤ length tokens.now) }
@@ -55,7 +55,7 @@ pub fn wav(loose: bool, tokens: &[Token]) -> Result<(Option<i64>, &[Token]), Fau
     }
 }
 
-/// The comparing operator (as `<=`) that stands first, if one does; it is looked at and not taken.
+/// The comparing operator (as `<=`) that stands first, `None` where none does. It is looked at and not taken.
 pub fn next_op(tokens: &[Token]) -> Option<CompareOp>
     ensures { result ≡ next_op (kinds tokens.now) }
 {
@@ -71,7 +71,8 @@ pub fn next_op(tokens: &[Token]) -> Option<CompareOp>
     }
 }
 
-/// Whether the first token is an operator that may stand behind an operand, so that a value goes on there.
+/// Whether the first token is an operator that may stand behind an operand, so that a value goes on there. It is false
+/// where no token is left.
 pub fn at_operator(tokens: &[Token]) -> bool
     ensures { result ≡ next is_operator (kinds tokens.now) }
 {
@@ -104,7 +105,8 @@ pub fn is_bare(tokens: &[Token]) -> bool
     }
 }
 
-/// The label of an argument, if it has one, and the tokens behind it.
+/// Reads the label of an argument, if it has one: a name with `=` behind it. Answers a copy of the name, or `None`, and
+/// the tokens behind the `=`; without a label these are all tokens.
 pub fn argument_label(alloc: Global, tokens: &[Token]) -> Result<(Option<Text>, &[Token]), Memory>
     ensures shorter { IfOk result (λ x. length x.1.now ≤ length tokens.now) }
     ensures read { IfOk result (λ x. label_of (kinds tokens.now) ≡ (x.0, kinds x.1.now)) }
@@ -193,7 +195,8 @@ fn whole_number(tokens: &[Token]) -> Result<(i64, &[Token]), Fault>
     }
 }
 
-// Reads the name `samplesize`, the one option of `%wav`, which must stand first; answers the tokens behind it.
+// Reads the name `samplesize`, the one option of `%wav`, which must stand first; nothing is answered but the tokens
+// behind it.
 #[tactic(auto, unfolding(script_grammar::specs::ReadValue::the_name))]
 fn the_name(tokens: &[Token]) -> Result<((), &[Token]), Fault>
     ensures shorter { IfOk result (λ x. length x.1.now < length tokens.now) }
@@ -237,7 +240,7 @@ fn at_option_name(tokens: &[Token]) -> bool
     }
 }
 
-// Whether the option of `%wav` surely begins here: `(`, `samplesize` and `=` stand first.
+// Whether the option of `%wav` surely begins here, and no other bracket: `(`, `samplesize` and `=` stand first.
 fn optional(tokens: &[Token]) -> bool
     ensures { result ≡ optional (kinds tokens.now) }
 {
@@ -253,7 +256,8 @@ fn optional(tokens: &[Token]) -> bool
     }
 }
 
-// Whether the option of `%wav` begins here: by `(samplesize =` where the value is loose, else by any `(`.
+// Whether the option of `%wav` begins here. Where the value is loose, a `(` may stand behind it, so only `(samplesize
+// =` begins the option; else any `(` does.
 fn takes_option(loose: bool, tokens: &[Token]) -> bool
     ensures { result ≡ takes_option loose (kinds tokens.now) }
 {
@@ -264,7 +268,7 @@ fn takes_option(loose: bool, tokens: &[Token]) -> bool
     }
 }
 
-// The number of the option `(samplesize = number)`, and the tokens behind it.
+// Reads the option of `%wav`, `(samplesize = number)`, from its `(` on: its number, and the tokens behind its `)`.
 #[tactic(auto, unfolding(script_grammar::specs::ReadValue::size))]
 fn size(tokens: &[Token]) -> Result<(i64, &[Token]), Fault>
     ensures shorter { IfOk result (λ x. length x.1.now < length tokens.now) }
@@ -300,7 +304,7 @@ fn is_operator(kind: &TokenKind) -> bool
     )
 }
 
-// The comparing operator that a symbol is, if it is one.
+// The comparing operator that a symbol stands for; `None` where it is another symbol.
 fn op_of(symbol: Symbol) -> Option<CompareOp>
     ensures { result ≡ op_of (a_symbol symbol) }
 {

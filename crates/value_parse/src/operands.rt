@@ -25,8 +25,8 @@ use script_grammar::tree::{self, Full};
 use script_lex::{Keyword, Symbol, Token, TokenKind};
 use std::alloc::Global;
 
-/// Reads an operand: a call, an `if`, values in `(` .. `)` or `[` .. `]`, or one that holds no value. Answers its tree
-/// and the tokens behind it.
+/// Reads an operand from where reading stands (`at`): a call, an `if`, values in `(` .. `)` or `[` .. `]`, or one that
+/// holds no value, as a number. Its first token tells which. Answers its tree and the tokens behind it.
 #[cycle(value)]
 #[tactic(auto, unfolding(script_grammar::specs::ReadValue::operand, script_grammar::specs::ReadValue::call))]
 pub fn operand<'a>(at: At<'a>) -> Result<(tree::Operand, &'a [Token]), Fault>
@@ -92,7 +92,8 @@ pub fn operand<'a>(at: At<'a>) -> Result<(tree::Operand, &'a [Token]), Fault>
 }
 
 // Reads what stands behind a `(`, whose index is `at`: `)` | value `)` | value (`,` value)+ `)`. It is the operand
-// unit, a value in brackets or a tuple.
+// unit, a value in brackets or a tuple. `total` counts the tokens of the whole script; values nest less than `levels`
+// deep.
 #[cycle(value)]
 fn round(
     alloc: Global,
@@ -113,7 +114,8 @@ fn round(
     round_of(alloc, at, parts, read)
 }
 
-// Reads what stands behind a `[`, whose index is `at`, as a list: (value (`,` value)*)? `]`.
+// Reads what stands behind a `[`, whose index is `at`, as a list: (value (`,` value)*)? `]`. `total` counts the tokens
+// of the whole script; values nest less than `levels` deep.
 #[cycle(value)]
 fn list(
     alloc: Global,
@@ -134,8 +136,9 @@ fn list(
     list_of(at, parts, read)
 }
 
-// Reads values up to the closing bracket `close`, which may come at once: (value (`,` value)*)? `close`. The values
-// are pushed to `parts`; the tokens behind the bracket are answered.
+// Reads values up to the closing bracket `close`, which may come at once: (value (`,` value)*)? `close`. The values are
+// pushed to `parts`; the tokens behind the bracket are answered. `total` counts the tokens of the whole script; values
+// nest less than `levels` deep.
 #[cycle(value)]
 fn fulls<'a>(
     alloc: Global,
@@ -162,7 +165,8 @@ fn fulls<'a>(
     Ok(rest)
 }
 
-// Reads one value or several, value (`,` value)*, pushes them to `parts`, and answers the tokens behind them.
+// Reads one value or several, value (`,` value)*, pushes them to `parts`, and answers the tokens behind them. `total`
+// counts the tokens of the whole script; values nest less than `levels` deep.
 #[cycle(value)]
 fn some_fulls<'a>(
     alloc: Global,
@@ -186,7 +190,8 @@ fn some_fulls<'a>(
     Ok(rest)
 }
 
-// Reads a further value of a sequence: `,` value. Answers it and the tokens behind it.
+// Reads a further value of a sequence, `,` value: the value, and the tokens behind it. `total` counts the tokens of the
+// whole script; values nest less than `levels` deep.
 #[cycle(value)]
 #[tactic(auto, unfolding(script_grammar::specs::Read::behind))]
 fn comma_full(
@@ -203,8 +208,8 @@ fn comma_full(
     full(alloc, total, levels, rest)
 }
 
-// The operand of these values in parentheses, and the tokens behind it. `at` is the index of the `(`, and `read` what
-// reading the values answered.
+// The operand of these values in parentheses, and the tokens behind it. `at` is the index of the `(`. `read` has the
+// tokens behind the `)`, or the fault met in the values, which is handed on.
 #[inline(never)]
 fn round_of<'a>(
     alloc: Global,
@@ -222,8 +227,8 @@ fn round_of<'a>(
     Ok((in_round(alloc, at, parts)?, rest))
 }
 
-// The operand of these values in square brackets, and the tokens behind it. `at` is the index of the `[`, and `read`
-// what reading the values answered.
+// The operand of these values in square brackets, and the tokens behind it. `at` is the index of the `[`. `read` has
+// the tokens behind the `]`, or the fault met in the values, which is handed on.
 #[inline(never)]
 fn list_of<'a>(
     at: u32,

@@ -27,8 +27,8 @@ use script_grammar::tree::{And, Compare, Expr, Full, Not, Operand, Product, Sum}
 use script_lex::{Symbol, Token, TokenKind};
 use std::alloc::Global;
 
-/// Reads a value (a "full" expression, which may begin with `-`) in which values nest less than `levels` deep; with no
-/// level left it is refused. The tokens are the last of `total`.
+/// Reads a value (a "full" expression, which may begin with `-`): its tree, and the tokens behind it. Values nest in it
+/// less than `levels` deep; with no level left it is refused. `total` counts the tokens of the whole script.
 #[cycle(value)]
 pub fn full(
     alloc: Global,
@@ -53,8 +53,8 @@ pub fn full(
     }
 }
 
-/// Reads a value, `-` Int | `-` Number | expression, in which other values nest at most `levels` deep. Where it is
-/// loose, a `(` may stand behind it.
+/// Reads a value, `-` Int | `-` Number | expression, from where reading stands (`at`): its tree, and the tokens behind
+/// it. Other values nest in it at most `at.levels` deep. Where `at.loose` is true, a `(` may stand behind it.
 #[cycle(value)]
 #[tactic(auto, unfolding(script_grammar::specs::ReadValue::full_step))]
 pub fn full_step<'a>(at: At<'a>) -> Result<(Full, &'a [Token]), Fault>
@@ -80,8 +80,9 @@ pub fn full_step<'a>(at: At<'a>) -> Result<(Full, &'a [Token]), Fault>
     }
 }
 
-/// Reads a value, at once into a box on the heap, so that the parts of an `if` stand on no stack while others are
-/// read.
+/// Reads a value at once into a box on the heap, so that the parts of an `if` stand on no stack while others are read.
+/// Answers the box and the tokens behind the value. `total` counts the tokens of the whole script; values nest less
+/// than `levels` deep.
 #[cycle(value)]
 pub fn full_box(
     alloc: Global,
@@ -99,7 +100,7 @@ pub fn full_box(
     boxed(alloc, full(alloc, total, levels, tokens))
 }
 
-// Reads a value that is an expression, so that it does not begin with `-`.
+// Reads a value that is an expression, so that it does not begin with `-`: its tree, and the tokens behind it.
 #[cycle(value)]
 fn plain<'a>(at: At<'a>) -> Result<(Full, &'a [Token]), Fault>
     requires within { length at.tokens.now ≤ at.total }
@@ -120,8 +121,9 @@ fn plain<'a>(at: At<'a>) -> Result<(Full, &'a [Token]), Fault>
     )
 }
 
-// Goes on with a value that is an expression, whose first operand is given, as it was read at `inner`: at the first
-// token or behind a `not` (`negated`). Mostly the operand is all of it, and the tree is made at once.
+// Goes on with a value that is an expression, whose first operand was read already (`read`), at `inner`: at the first
+// token, or behind a `not` (`negated`). Mostly the operand is all of it, and the tree is made at once. Where an
+// operator follows, the expression is read on.
 #[inline(never)]
 #[cycle(value)]
 fn plain_of<'a>(
