@@ -17,8 +17,8 @@ fn side_of(window: &WindowLog, puts: bool) -> &[bool]
     &window.takes
 }
 
-/// Joins the answers of one end of a buffer over all windows, those of its puts if `puts`, and otherwise of its takes;
-/// and counts for each window how many there are up to its end.
+/// Joins the answers of one end of a buffer over all windows: those of its puts if `puts`, and otherwise of its takes.
+/// The second list has for each window how many answers there are up to its end.
 pub fn flatten(
     alloc: Global,
     windows: &[WindowLog],
