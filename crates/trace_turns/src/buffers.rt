@@ -110,7 +110,7 @@ fn overlap_of(plan: &Plan, node: u32) -> u64 {
     }
 }
 
-// A bound on the cells that the reader of a buffer, which is this node, takes in a tick; an empty take counts as a tick.
+// A bound on the cells that this node, the reader of a buffer, takes in a tick; an empty take counts as a tick.
 // The walk goes up from the node through the crossfades over it to the main clock.
 // For n samples of a crossfade its sub-clock runs at most 2n and twice (overlap + 1) instants: `times` and `more`.
 fn reach_of(plan: &Plan, clocks: &ClockMap, node: u32) -> u64 {

@@ -66,7 +66,7 @@ fn ends_with(window: u64, ticks: u64, tick: u64) -> bool
     tick == ticks - 1
 }
 
-/// Judges how a clock's run of `ticks` ticks goes on after tick number `tick`. `course` says how its calls were answered.
+/// Judges how a clock's run of `ticks` ticks goes on after tick number `tick`; `course` says how its calls were met.
 /// It is answered as it came, but `Fails` where a window of `window` ticks ends with this tick and the clock made more
 /// or fewer calls than the trace tells up to there.
 pub fn course_of(

@@ -180,7 +180,7 @@ fn pass_on(
 }
 
 // Searches the turns with one engine for each clock, which is kept from turn to turn, so no tick is made again.
-// A plan without buffers is left `Open`: its clocks wait for none, so the other search decides it without a tick.
+// A plan without buffers is left `Open`: its clocks wait for no chunk, so the other search decides it without a tick.
 fn find_live(
     alloc: Global,
     station: &Station<'_>,

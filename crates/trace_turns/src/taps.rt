@@ -148,7 +148,7 @@ impl ToldTaps {
     }
 
     // Answers a put of a chunk to a buffer in a run whose calls were all answered so far.
-    // If no answer is right, the chunk is dropped, the put counts as accepted, and the course says `Fails` from here on.
+    // If no answer is right, the chunk is dropped as if accepted, and the course says `Fails` from here on.
     // An `Err` is want of memory, and gives the chunk back.
     fn give_told(&mut self, buffer: u32, chunk: Chunk) -> Result<Gave, (Chunk, Memory)>
         requires known { buffer < length self.old.buffers.items }

@@ -102,7 +102,7 @@ impl Model for ToldBuffer {
 }
 
 impl ToldBuffer {
-    /// Sets the buffer to the start of a clock's run from its first tick; the clock feeds it if `fed`, reads it if `read`.
+    /// Sets the buffer to the start of a clock's run; the clock feeds it if `fed`, and reads it if `read`.
     /// A clock that feeds it puts all chunks anew, so the buffer is emptied; the chunks of another clock stay.
     /// The old chunks go to `spare`, from which each put frees one, so the memory of one run serves the next.
     pub fn begin(&mut self, fed: bool, read: bool)
@@ -251,7 +251,7 @@ impl ToldBuffer {
 
     /// Answers the next take as the trace tells: `Chunk`, or `Empty` if the trace tells of none.
     /// `Waits` if the chunk is not there yet, `Lost` if it was let go.
-    /// `Never` if no take is left in the trace, or if the clock feeds and reads the buffer and its list answers otherwise.
+    /// `Never` if no take is left in the trace, or if the clock has both ends and the chunks held answer otherwise.
     pub fn take(&mut self) -> Result<Taken, Memory>
         ensures taken { IfOk result (λ taken. TakesOn self.old taken self.new) }
         ensures same { SameBuffer self.old self.new }
@@ -294,7 +294,7 @@ impl ToldBuffer {
     }
 
     /// Answers the next put as the trace tells: `Accepted`, or `Full` with the chunk.
-    /// `Never` if no put is left in the trace, or if the clock feeds and reads the buffer and its list answers otherwise.
+    /// `Never` if no put is left in the trace, or if the clock has both ends and the chunks held answer otherwise.
     /// An `Err` is want of memory, and gives the chunk back.
     pub fn put(&mut self, chunk: Chunk) -> Result<Put, (Chunk, Memory)>
         ensures put { IfOk result (λ put. PutsOn self.old chunk put self.new) }
