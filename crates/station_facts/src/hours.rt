@@ -47,7 +47,7 @@ fn push_week(alloc: Global, out: &mut Out, plan: &Plan, ats: &[usize]) -> Result
 
 // Writes the JSON object of the switches among these sources; `ats` has the byte at which the call of each begins.
 // Of a case with more than `most` spans of the week only their number is told.
-// `known` keeps the hours of the last switch, since the next one may have the same cases.
+// `known` keeps the hours of the switches before, since the next one may have the same cases.
 fn push_switches<'a>(
     alloc: Global,
     out: &mut Out,
@@ -112,7 +112,7 @@ fn cases_in(op: &Op) -> u64
 
 // Writes the object of each switch among these sources, and passes over all others.
 // `ats` has the byte at which the call of each source begins; at most `most` spans are told of a case.
-// The hours of the last switch are kept in `known`, since the next one may have the same cases.
+// The hours of the last switches are kept in `known`, since the next one may have the same cases.
 fn push_each_switch<'a>(
     alloc: Global,
     out: &mut Out,
@@ -134,7 +134,7 @@ fn push_each_switch<'a>(
 }
 
 // Writes the object of source `number` if it is a switch, and otherwise nothing; its call begins at byte `at`.
-// At most `most` spans are told of a case; `known` keeps the hours of the last switch for the next one.
+// At most `most` spans are told of a case; `known` keeps the hours of the last switches for the next one.
 fn push_source<'a>(
     alloc: Global,
     out: &mut Out,

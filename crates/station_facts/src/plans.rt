@@ -162,7 +162,7 @@ fn push_sources(
 }
 
 // Writes the object of each source, one after another; it ends where `marks` or `ats` have no more.
-// The windows of the last switch are kept in `known`, since the next one may have the same cases.
+// The windows that were found are kept in `known`, since a later switch may have the same cases.
 fn push_each_source<'a>(
     alloc: Global,
     out: &mut Out,
@@ -188,7 +188,7 @@ fn push_each_source<'a>(
 
 // Writes the JSON object of a source: its operator, its channels, its children, and two facts from elsewhere.
 // `always` says that it is never silent, and `at` is the byte of the script at which its call begins.
-// `known` has the windows of the last switch, for one with the same cases.
+// `known` keeps the windows of the switches before, for one with the same cases.
 fn push_source<'a>(
     alloc: Global,
     out: &mut Out,
@@ -232,7 +232,7 @@ fn push_each_child(out: &mut Out, children: &[u32]) -> Result<(), Memory>
 }
 
 // Writes the member `op`, the operator of a source, and members for what it has beside its children.
-// `known` has the windows of the last switch, for one with the same cases.
+// `known` keeps the windows of the switches before, for one with the same cases.
 fn push_op<'a>(
     alloc: Global,
     out: &mut Out,
@@ -306,7 +306,7 @@ fn push_choice(out: &mut Out, word: &str, sensitive: bool) -> Result<(), Memory>
 }
 
 // Writes the members of a switch: its word, whether it is track-sensitive, and for each case its windows of the week,
-// found from its predicate. `known` has those of the last switch, which serve again where the cases are the same.
+// found from its predicate. `known` keeps those of the switches before, which serve again where the cases are the same.
 fn push_switch<'a>(
     alloc: Global,
     out: &mut Out,

@@ -91,7 +91,7 @@ fn push_list(out: &mut Out, name: &Text, found: &ListLook) -> Result<(), Memory>
 }
 
 // Writes the members that say what a look at a list found: that it could not be read, why it is of no use, or its
-// names and how many entries were skipped.
+// names and how many lines were skipped as no UTF-8.
 fn push_list_look(out: &mut Out, found: &ListLook) -> Result<(), Memory>
     ensures { OnOk result (Adds out.old out.new (list_look_members found.now)) }
 {
