@@ -94,8 +94,8 @@ impl NodeState {
         }
     }
 
-    /// Whether the node is a crossfade that needs the next slot of its child, since that may still change what it offers
-    /// next; `false` for every other node.
+    /// Whether the node is a crossfade that needs the next slot of its child, since that may still change its next item.
+    /// `false` for every other node.
     pub fn wants(&self) -> bool
         ensures wants { result ≡ wants self.now }
         ensures ends { result ≡ true → 0 < left self.now }

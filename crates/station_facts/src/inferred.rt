@@ -29,7 +29,7 @@ pub fn infer(alloc: Global, plan: &Plan) -> Result<Inferred, Memory>
     Ok(Inferred { marks, clocks })
 }
 
-/// Assigns the nodes of a plan to clocks. The inner `Err` says why the plan can have none; that is told like the clocks.
+/// Assigns the nodes of a plan to clocks. The inner `Err` says why the plan can have none, and is told like the clocks.
 /// The outer `Err` is want of memory, after which nothing is told.
 fn clocks_of(alloc: Global, plan: &Plan) -> Result<Result<ClockMap, ClockFault>, Memory>
     requires { IsWellFormed plan.now }
