@@ -70,7 +70,7 @@ fn last_child(children: &[u32], marks: &[bool]) -> bool
 }
 
 // Whether a node is infallible, that is, always offers a cell, by its operator and the `marks` of the nodes before it.
-// A playlist may have no usable file, and a buffer may be empty, so neither is.
+// A playlist may end or have no usable file, and a buffer may be empty, so neither is.
 fn follows(node: &Node, marks: &[bool]) -> bool
     requires number { HasChildren node.now.op (length node.now.children) }
     requires children { All (λ child. child < length marks.now) node.now.children }

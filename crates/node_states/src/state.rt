@@ -94,7 +94,7 @@ impl NodeState {
         }
     }
 
-    /// Whether the node is a crossfade that needs the next slot of its child, since that may still change its next item.
+    /// Whether the node is a crossfade that needs the next slot of its child, which may still change its next item.
     /// `false` for every other node.
     pub fn wants(&self) -> bool
         ensures wants { result ≡ wants self.now }

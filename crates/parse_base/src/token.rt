@@ -74,8 +74,7 @@ impl Class {
     }
 }
 
-/// The index, from 0, of the token at which reading stops, for a fault's line: `tokens` are those that are left of
-/// `total`, and the first of them is meant.
+/// The index, from 0, of the token at which reading stands: the first of `tokens`, which are those left of `total`.
 pub fn place(total: usize, tokens: &[Token]) -> u32
     requires within { length tokens.now ≤ total }
     requires small { total < 2 ^ 32 }
@@ -94,7 +93,7 @@ pub fn next_is(tokens: &[Token], class: Class) -> bool
     }
 }
 
-/// Reads one token, which must be of this class, and returns the tokens behind it; `()` stands for the empty tree.
+/// Reads one token, which must be of this class, and returns the tokens behind it; it makes no tree, so `()` stands.
 /// Any other token, or none, is a fault there, which counts the tokens that are left.
 pub fn expect(tokens: &[Token], class: Class) -> Result<((), &[Token]), Fault>
     ensures shorter { IfOk result (λ x. length x.1.now < length tokens.now) }

@@ -169,7 +169,8 @@ impl Draft {
         Ok(())
     }
 
-    /// Adds a buffer, its feed from the node `source`, and its reader, a node of this kind; answers the reader's number.
+    /// Adds a buffer, its feed from the node `source`, and its reader, a node of this kind.
+    /// It answers the reader's number among the nodes.
     /// `TooManySources` comes exactly where `MAX_NODES` nodes are there.
     /// The 2^32nd sink or buffer is refused as want of memory is. After any `Err` the plan is as it was.
     pub fn push_buffer(

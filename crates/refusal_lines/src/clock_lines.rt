@@ -40,8 +40,8 @@ fn two_clocks(
     of_clocks(alloc, "E26 source", node, &first, &second)
 }
 
-// How a printed line calls a clock in which a source must lie: by its id, by the crossfade that drives it, or as that
-// of an output, whose main clock has no id.
+// How a printed line calls a clock in which a source must lie: by its id, by the crossfade that drives it, or, where it
+// may be any main clock, as that of an output.
 fn clock_name(alloc: Global, clock: &ClockName) -> Result<String, Memory>
     ensures { IfOk result (λ name. string_bytes name ≡ clock_in_words clock.now) }
 {

@@ -107,7 +107,8 @@ struct Place {
 }
 
 // Whether each refused put of a window can have found a full buffer of `capacity` chunks, `opening` of them at first.
-// Of the takes, those come before it that must. With g chunks got by them, `capacity` + g must have come before it.
+// Of the takes, just those count as before it that must be. If g chunks were got up to the last empty one of them, at
+// least `capacity` + g chunks must have come before the put.
 fn refusals_fit(capacity: u32, opening: u32, puts: &[bool], takes: &[bool]) -> bool
     ensures { result ≡ refusals_fit capacity opening 0 capacity puts.now takes.now }
 {
