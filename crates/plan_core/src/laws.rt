@@ -40,7 +40,8 @@ pub fn crossfades_on_paths()
         → crossfades_on nodes i path ≤ MAX_CROSSFADES }
 {}
 
-/// A well-formed plan stays so with one more node whose children are all there, if it is no reader of a buffer.
+/// A well-formed plan stays so with one more node, if it is no reader of a buffer and stands over the others: its
+/// children are there, and its number of them, their kinds and the crossfades below it are as they must be.
 pub fn a_node_keeps_plans()
     ensures { (plan : Plan) (node : Node) → IsWellFormed plan → length plan.nodes < MAX_NODES
         → IsNodeOver plan.nodes node → IsNoReader node.op → IsWellFormed (with_node plan node) }

@@ -107,8 +107,8 @@ pub fn as_on_one_thread()
 {}
 
 /// A text, the answers without what the chunks hold, tells a whole record.
-/// Two lawful records with the same text are the same, if the ticks of one can be ordered: each chunk was put by an
-/// earlier tick than the one that got it.
+/// Two lawful records with the same text are the same, if the ticks of one can be ordered: so that each chunk is put in
+/// an earlier tick than the one that gets it.
 pub fn text_is_whole()
     ensures { (setting : Setting) (clocks : Map) → IsSetting setting clocks → (W N : ℕ) (run other : Run)
         → (one : AreWindows setting clocks.running W N run) → AreWindows setting clocks.running W N other
@@ -133,7 +133,7 @@ pub fn broken_rounds_begin_rounds()
 {}
 
 /// No put is refused, whatever the order within a window, if each window has at most W puts and the takes keep pace.
-/// They do if, where none of a window met an empty buffer, they fall behind its puts by no more than what is owed.
+/// In a window in which no take met an empty buffer, they may fall behind the puts by no more than what is owed.
 /// The buffer must have room for two windows and for D chunks, the most that is ever owed.
 pub fn paced_windows_refuse_nothing()
     ensures { (capacity W D : ℕ) (windows : List Window) (rest : List (List Sample)) → W + W + D ≤ capacity
@@ -164,8 +164,8 @@ pub fn heard_buffers_refuse_nothing()
         → AreWindows setting clocks.running W N run → count_by is_none (puts_of run buffer) ≡ 0 }
 {}
 
-/// Also a run in windows that was broken off refuses no put to a buffer whose reader is always heard, and which has room
-/// for two windows and its prefill. An output or a feed plays such a reader, or nodes above it that always use it.
+/// A run in windows that was broken off refuses no put to a buffer whose reader is always heard, and which has room for
+/// two windows and its prefill. An output or a feed plays such a reader, or nodes above it that always use it.
 pub fn broken_windows_refuse_nothing()
     ensures { (setting : Setting) (clocks : Map) → IsSetting setting clocks
         → (W N buffer m : ℕ) (above : List ℕ) (i : ℕ) (run : Run)

@@ -206,7 +206,8 @@ fn use_word(fits: bool) -> &'static str
     if fits { "used" } else { "too large" }
 }
 
-// Writes the members that say why a file or a list is of no use: it is missing, too large or no WAV file.
+// Writes the members that say why a file or a list is of no use: it is missing, too large or no WAV file. Of the last
+// the number of what is wrong is told too.
 fn push_unusable(out: &mut Out, fault: Unusable) -> Result<(), Memory>
     ensures { OnOk result (Adds out.old out.new (unusable_members fault)) }
 {

@@ -22,8 +22,8 @@ pub fn infallible_outputs_have_no_gaps()
     stream_meaning::laws::infallible_nodes_offer();
 }
 
-/// Where no buffer joins two running clocks, that is, is fed in one and read in the other, a lawful run renders what one
-/// thread renders in rounds, one tick of each clock after another. The length of its windows does not matter.
+/// Where no buffer joins two running clocks, that is, is fed in one and read in the other, a lawful run renders what
+/// one thread renders in rounds, one tick of each clock after another. The length of its windows does not matter.
 /// So it is for a replay.
 pub fn threads_render_as_one_thread()
     ensures { (files : Files) (station : Station) (run : Run) → IsWellFormed station.plan

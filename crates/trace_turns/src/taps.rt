@@ -22,8 +22,8 @@ pub struct ToldTaps {
     pub course: Course,
 }
 
-// Takes from buffer number `buffer` of the list, and says what the take met there. An `Err` leaves the buffers as they
-// were.
+// Takes from buffer number `buffer` of the list, and says what the take met there. After an `Err` the buffers are as
+// they were.
 fn take_from(buffers: &mut Vec<ToldBuffer>, buffer: u32) -> Result<Taken, Memory>
     requires { buffer < length buffers.old.items }
     ensures taken { IfOk result (λ taken. (s : BufferState) × (buffers.new.items ≡ slice_set buffers.old.items buffer s)
@@ -85,7 +85,7 @@ pub fn resume_run(
     }
 }
 
-/// Notes in `marks` how far the calls of a run came on each buffer, so that the run can go on there later.
+/// Notes in `marks`, by a buffer's number, how far the calls of a run came on it, so that the run can go on there later.
 pub fn mark_run(buffers: &[ToldBuffer], marks: &mut Vec<Mark>)
     requires { length marks.old.items ≡ length buffers.now }
     ensures many { length marks.new.items ≡ length marks.old.items }
