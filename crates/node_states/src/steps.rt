@@ -52,7 +52,7 @@ pub fn gives(part: Part, demanded: bool) -> bool
     demanded && part.slot.is_some()
 }
 
-/// What a crossfade offers next, its item: `None` if that is an empty slot, or still hangs on later slots of its child.
+/// What a crossfade offers next, its item; `None` if that is an empty slot, or if later slots of its child may alter it.
 pub fn item(state: &CrossState) -> Option<Cell>
     ensures { (slots : List Slot) (p : ℕ) → StandsFor state.now slots p → p < length (cross state.now.overlap slots)
         → result ≡ slot_at (cross state.now.overlap slots) p }
@@ -114,7 +114,7 @@ pub fn step_turn(state: &mut TurnState, gave: bool, part: Part, children: usize)
 }
 
 /// Moves a crossfade to its next item, if it `gave` the one it has, or that one is an empty slot.
-/// Nothing moves while the item still hangs on later slots of the child.
+/// Nothing moves while later slots of the child may still change the item.
 pub fn step_crossfade(state: &mut CrossState, gave: bool)
     ensures overlap { state.new.overlap ≡ state.old.overlap }
     ensures stands { (slots : List Slot) (p : ℕ) → StandsFor state.old slots p

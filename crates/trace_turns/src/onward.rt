@@ -39,7 +39,7 @@ fn end_of(ends: &[Ends], b: usize, window: u64) -> usize {
 }
 
 // Foresees whether buffer b, which another clock feeds, holds the chunks for the takes of the reader's next tick.
-// `mark` says how far its takes came; `window` is the window of the tick, after whose takes none need be foreseen.
+// `mark` says how far its takes came; the tick lies in window number `window`, so no take behind that one counts.
 // A reader in the main clock says how many cells it wants (`missing`).
 // One below a crossfade does not, so the bound in `sides.reaches` counts.
 fn can_serve(

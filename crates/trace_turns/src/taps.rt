@@ -85,7 +85,7 @@ pub fn resume_run(
     }
 }
 
-/// Notes in `marks`, by a buffer's number, how far the calls of a run came on it, so that the run can go on there later.
+/// Notes in `marks`, by a buffer's number, how far the calls of a run came on it; so the run can go on there later.
 pub fn mark_run(buffers: &[ToldBuffer], marks: &mut Vec<Mark>)
     requires { length marks.old.items ≡ length buffers.now }
     ensures many { length marks.new.items ≡ length marks.old.items }
