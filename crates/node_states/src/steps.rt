@@ -52,7 +52,7 @@ pub fn gives(part: Part, demanded: bool) -> bool
     demanded && part.slot.is_some()
 }
 
-/// What a crossfade offers next, its item; `None` if that is an empty slot, or if later slots of its child may alter it.
+/// What a crossfade offers next, its item; `None` if that is an empty slot, or if later child slots may alter it.
 pub fn item(state: &CrossState) -> Option<Cell>
     ensures { (slots : List Slot) (p : ℕ) → StandsFor state.now slots p → p < length (cross state.now.overlap slots)
         → result ≡ slot_at (cross state.now.overlap slots) p }
