@@ -12,8 +12,9 @@ use clock_infer::NodeClock;
 use node_states::NodeState;
 use stream_meaning::Part;
 
-/// Moves the states of all nodes of a clock on by one instant. By a node's number, `parts` has what it offered there,
-/// and `demanded` whether it was demanded.
+/// Moves the states of all nodes of a clock on by one instant, and leaves the states of all other nodes.
+/// By a node's number, `parts` has what it offered there, and `demanded` whether something above it demanded that.
+/// `nodes` has the chains of the nodes of each clock.
 pub fn advance_all(
     scene: &Scene<'_>,
     nodes: &ClockNodes,

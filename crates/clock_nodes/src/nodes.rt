@@ -24,7 +24,8 @@ pub struct ClockNodes {
     pub befores: Vec<u32>,
 }
 
-// The number under which the chains of nodes keep a clock: even for a main clock, odd for a sub-clock.
+// The number under which the chains of nodes keep a clock: twice that of a main clock, and one more than twice the
+// node of the crossfade for its sub-clock. So both kinds share one list.
 fn clock_number(clock: NodeClock) -> usize
     ensures is { result ≡ number_of clock }
     ensures small { result < 8589934592 }
@@ -46,8 +47,9 @@ fn numbers_of(clocks: &[NodeClock]) -> usize
     count
 }
 
-// Links each node to the next one of its clock, and each clock to its first node. Before, `firsts` says of each clock
-// that it has no node.
+// Links each node to the next one of its clock, and each clock to its first node; `clocks` has the clock of each node.
+// `firsts` goes by a clock's number, and at first says of each that it has no node; `nexts` goes by a node.
+// The nodes are gone through from the last one, so that the next one of a clock is known already.
 fn link_on(clocks: &[NodeClock], firsts: &mut [u32], nexts: &mut [u32])
     requires few { length clocks.now ≤ MAX_NODES }
     requires in_firsts { (i : ℕ) → i < length clocks.now
@@ -68,8 +70,9 @@ fn link_on(clocks: &[NodeClock], firsts: &mut [u32], nexts: &mut [u32])
     }
 }
 
-// Links each node to the one before it in its clock, and each clock to its last node. Before, `ends` says of each clock
-// that it has no node.
+// Links each node to the one before it in its clock, and each clock to its last node, in `befores` and `ends`.
+// `clocks` has the clock of each node. Both lists hold one more than the node, since 0 stands for none.
+// `ends` goes by a clock's number, and at first says of each that it has no node.
 fn link_back(clocks: &[NodeClock], ends: &mut [u32], befores: &mut [u32])
     requires few { length clocks.now ≤ MAX_NODES }
     requires in_ends { (i : ℕ) → i < length clocks.now

@@ -12,8 +12,9 @@ use plan_core::{Node, Op, Plan};
 use std::alloc::Global;
 use time_pred::SharedPred;
 
-/// For each node, by its number, whether it is infallible: whether it offers a cell at each instant, whatever the time
-/// of the week is and whatever buffers answer. `docs/fallible.md` has the rule.
+/// Marks for each node, by its number, whether it is infallible, by the rule of `docs/fallible.md`.
+/// Such a node offers a cell at each instant, whatever the time of the week is and whatever buffers answer.
+/// One pass is enough, since the children of a node have smaller numbers.
 pub fn infallible(alloc: Global, plan: &Plan) -> Result<Vec<bool>, Memory>
     requires { IsWellFormed plan.now }
     ensures size { IfOk result (λ marks. length marks.items ≡ length plan.now.nodes) }
@@ -57,6 +58,7 @@ fn some_always(preds: &[SharedPred], children: &[u32], marks: &[bool]) -> bool
 }
 
 // Whether the last of these children is infallible, as `marks` says of each node; false if there is none.
+// It decides for a sequence, which stays with its last child.
 fn last_child(children: &[u32], marks: &[bool]) -> bool
     requires { All (λ child. child < length marks.now) children.now }
     ensures { result ≡ option_map_or (mark_at marks.now) (last_of children.now) false }
@@ -67,8 +69,8 @@ fn last_child(children: &[u32], marks: &[bool]) -> bool
     }
 }
 
-// Whether a node is infallible, that is, always offers a cell: it follows from its operator and the marks of the nodes
-// before it.
+// Whether a node is infallible, that is, always offers a cell, by its operator and the `marks` of the nodes before it.
+// A playlist may end or have no usable file, and a buffer may be empty, so neither is.
 fn follows(node: &Node, marks: &[bool]) -> bool
     requires number { HasChildren node.now.op (length node.now.children) }
     requires children { All (λ child. child < length marks.now) node.now.children }

@@ -14,8 +14,9 @@ pub struct Fallible {
     pub sink: u32,
 }
 
-/// Refuses the first output without `fallible=true` whose node is not marked as infallible. A feed is never refused. It
-/// takes no memory. A node without a mark counts as one that is not infallible.
+/// Refuses the first output without `fallible=true` whose node is not infallible: `Err` has its number among the sinks.
+/// `marks` says of each node whether it is infallible; one without a mark is not.
+/// A feed of a buffer is never refused. It takes no memory.
 pub fn check_outputs(plan: &Plan, marks: &[bool]) -> Result<(), Fallible>
     requires few { length plan.now.sinks ≤ 2 ^ 32 }
     ensures accepted { OnOk result (All (λ sink. refuses (mark_at marks.now) sink ≡ false) plan.now.sinks) }

@@ -42,8 +42,8 @@ impl Desk {
         Ok(Desk { slots, marks })
     }
 
-    /// What a node offers at an instant in second `at` of the week, and if it chooses, which child it uses. `parts`
-    /// has what each node before it offered.
+    /// What a node in this state offers at an instant in second `at` of the week; if it chooses, which child it uses.
+    /// `parts` has, by a node's number, what each node before it offered; its children are among these.
     pub fn offer(
         &mut self,
         state: &NodeState,
@@ -75,8 +75,9 @@ impl Desk {
     }
 }
 
-// What a node offers at an instant, and which child it uses, by what the nodes before it did, in `parts`. `slots` and
-// `marks` are room for its children; their content does not matter.
+// What a node in this state offers at an instant in second `at` of the week, and which child it uses.
+// `parts` has, by a node's number, what each node before it offered; its children are among these.
+// `slots` and `marks` are room for its children; their content does not matter.
 fn offer_over(
     state: &NodeState,
     node: &Node,

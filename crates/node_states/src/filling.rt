@@ -13,7 +13,8 @@ use crate::NodeState;
 use op_cross::CrossState;
 
 impl NodeState {
-    /// How many cells of its child's running track settle a crossfade's item; 0 if it is settled, and for other nodes.
+    /// How many further cells of its child's running track a crossfade needs to know what it offers next.
+    /// 0 if it knows already, and for other nodes.
     pub fn room(&self) -> u32
         ensures { result ≡ room self.now }
     {
@@ -34,8 +35,8 @@ impl NodeState {
         }
     }
 
-    /// Gives a crossfade the next slots of its child: cells with these samples and this title, which go on with its
-    /// track.
+    /// Gives a crossfade the next slots of its child: cells with the samples `lefts` and `rights` and this title.
+    /// They go on with the child's running track, and are no more than it has `room` for. Other nodes are left alone.
     pub fn fill_stretch(&mut self, title: u32, lefts: &[i16], rights: &[i16])
         requires same { length rights.now ≡ length lefts.now }
         requires few { length lefts.now ≤ room self.old }
@@ -58,7 +59,7 @@ impl NodeState {
     }
 }
 
-// How many cells of a track that goes on settle the next item of a crossfade; 0 where it is settled.
+// How many cells of a track that goes on a crossfade needs to know what it offers next; 0 if it knows already.
 fn room_of(state: &CrossState) -> u32
     ensures { result ≡ (if crossing_wants state.now then track_room state.now else 0) }
 {

@@ -13,8 +13,8 @@ use time_pred::SharedPred;
 // The seconds of a week.
 const WEEK: u32 = 604_800;
 
-/// Sets a mark for each child of a node that chooses, whether it may be chosen at this second of the week: of a switch
-/// those may whose predicate holds, and else all.
+/// Sets in `marks`, for each child of a node that chooses, whether it may be chosen at this second of the week.
+/// Of a switch those children may be chosen whose predicate holds, and of any other node all.
 pub fn mark_eligible(op: &Op, at: WeekSecond, marks: &mut [bool])
     requires { HasChildren op.now (length marks.old) }
     ensures { (rate i : ℕ) (kind : Kind) (choice : Choice) (eligible : Eligible)
@@ -37,8 +37,8 @@ fn test_all(preds: &[SharedPred], at: WeekSecond, marks: &mut [bool])
     }
 }
 
-/// For how many seconds from this one on, at least 1 and at most a week, the eligible children of a node that chooses
-/// stay the same.
+/// For how many seconds from this one on the same children of a node may be chosen; this second is the first of them.
+/// It is at least 1 and at most a week, and may be fewer than it could be.
 pub fn steady_seconds(op: &Op, at: WeekSecond) -> u32
     ensures some { 0 < result }
     ensures most { result ≤ 604800 }
@@ -52,7 +52,8 @@ pub fn steady_seconds(op: &Op, at: WeekSecond) -> u32
     }
 }
 
-// For how many seconds from this one on, at most a week, each predicate stays true or false as it is now.
+// For how many seconds from this one on, at most a week, each predicate of a switch stays true or false as it is now.
+// This second is the first of them.
 fn least_steady(preds: &[SharedPred], at: WeekSecond) -> u32
     ensures some { 0 < result }
     ensures most { result ≤ 604800 }

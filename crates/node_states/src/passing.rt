@@ -8,9 +8,9 @@ ghost use Rattle.node_states.specs.Passing.{cells_before};
 use op_cross::CrossState;
 use op_mix::{Before, samples_of};
 
-/// Lets as many cells of a crossfade's child pass through it as `left` is long: takes them from the samples `before`,
-/// and writes as many items to `left` and `right`. The cells have this title and go on with the track that the
-/// crossfade holds.
+/// Lets as many cells of a crossfade's one child pass through it as `left` is long.
+/// The child's samples are taken from those of the nodes `before` it; as many items go to `left` and `right`.
+/// The cells have this title and go on with the track that the crossfade holds. Without a child nothing is written.
 pub fn pass_child(
     state: &mut CrossState,
     title: u32,

@@ -15,10 +15,10 @@ use op_mix::{Before, Sums, samples_of};
 use plan_core::Node;
 
 impl NodeState {
-    /// Makes as many instants as `left` and `right` are long, of a node that gave at the latest one and goes on as
-    /// there. Writes its samples to `left` and `right`, by those of the nodes `before` it, and moves its state on.
-    /// `pick` is the place of the child that it used at the latest instant. Where cells pass through a crossfade, those
-    /// of its child have the title `below`. `sums` is room. No memory is taken.
+    /// Makes as many instants as `left` is long, of a node that gave at the latest one and goes on as there.
+    /// Its samples go to `left` and `right`, made from those of the nodes `before` it, and its state moves on.
+    /// `pick` is the place of the child that it used at the latest instant; `sums` is room. No memory is taken.
+    /// If cells pass through a crossfade one by one, those of its child have the title `below`.
     pub fn run(
         &mut self,
         node: &Node,

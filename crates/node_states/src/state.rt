@@ -59,7 +59,8 @@ pub enum NodeState {
 }
 
 impl NodeState {
-    /// Makes the state of node `i` of a plan before the first instant of its clock.
+    /// Makes the state of node `i` of a plan, which is `node`, before the first instant of its clock.
+    /// All memory that the node needs is taken here, for a crossfade or the reader of a buffer.
     pub fn new(alloc: Global, plan: &Plan, node: &Node, i: u32) -> Result<NodeState, Memory>
         requires rate { 0 < plan.now.rate }
         requires range { IsInRange node.now.op }
@@ -93,7 +94,8 @@ impl NodeState {
         }
     }
 
-    /// Whether it is a crossfade that needs the next slot of its child, since its item is not settled yet.
+    /// Whether the node is a crossfade that needs the next slot of its child, which may still change its next item.
+    /// `false` for every other node.
     pub fn wants(&self) -> bool
         ensures wants { result ≡ wants self.now }
         ensures ends { result ≡ true → 0 < left self.now }
@@ -115,7 +117,7 @@ impl NodeState {
         }
     }
 
-    /// Gives a crossfade the next slot of its child, a cell or nothing.
+    /// Gives a crossfade that `wants` it the next slot of its child, a cell or nothing. Other nodes are left alone.
     pub fn feed(&mut self, slot: Option<Cell>)
         requires { wants self.old ≡ true }
         ensures fits { (library : Sounds) (children : ℕ) → Fits library children self.old
@@ -133,8 +135,9 @@ impl NodeState {
         }
     }
 
-    /// What the node offers at an instant in second `at` of the week, by the slots of its children; and if it chooses,
-    /// which child it uses. `marks` is room for one mark per child; its content does not matter.
+    /// What the node offers at an instant in second `at` of the week, and if it chooses, which child it uses.
+    /// `slots` has what each child offers there. Nothing of the state moves on.
+    /// `marks` is room to mark the children that may be chosen; its content does not matter.
     pub fn offer(
         &self,
         node: &Node,
@@ -182,11 +185,10 @@ impl NodeState {
         }
     }
 
-    /// How many instants, at most `most`, go on as the latest one did, as far as this node alone decides; a reader goes
-    /// on within its tick. At the latest instant it had this part, and gave if `gave` is set. `begins` says whether the
-    /// child that a selection used last begins a track there. `below` is how many instants of a crossfade's sub-clock
-    /// go on with a track, under the title `below_title`: where cells pass, each item asks for one of these, and
-    /// otherwise for none.
+    /// How many instants, at most `most`, go on as the latest one did, as far as this node alone decides.
+    /// There it had this part, and gave its cell if `gave`; `begins`: the child it used last begins a track there.
+    /// `below` is how many instants of a crossfade's sub-clock go on with a track, under the title `below_title`.
+    /// 0 where a selection that offers nothing has such a child, since it may change, or a crossfade offers nothing.
     pub fn rest(
         &self,
         part: Part,
@@ -249,8 +251,8 @@ impl NodeState {
         }
     }
 
-    /// Moves the state of a node on by one instant, at which it had this part; `is_demanded` says whether it was
-    /// demanded there, and `children` how many children it has.
+    /// Moves the state of a node on by one instant, at which it had this part; it has `children` children.
+    /// `is_demanded` says whether a node above it, or a sink, demanded it there: only then did it give its cell.
     pub fn next(&mut self, part: Part, is_demanded: bool, library: &Library, children: usize)
         requires fits { Fits library.now children self.old }
         ensures fits { Fits library.now children self.new }

@@ -21,15 +21,15 @@ use op_select::{Picked, SelectState};
 use op_turn::TurnState;
 use stream_meaning::Part;
 
-/// What a node with this slot does at an instant, if it is none that chooses among its children.
+/// Makes the part of a node that does not choose among its children: it offers this slot, and picks no child.
 pub fn unpicked(slot: Option<Cell>) -> Part
     ensures { result ≡ unpicked slot }
 {
     Part { slot, pick: None }
 }
 
-/// What a node that chooses does at an instant: it offers the cell of the child that it picked, and names the child;
-/// or it offers nothing.
+/// Makes the part of a node that chooses: it offers the cell of the child that it picked, and names the child.
+/// If it picked none, it offers nothing.
 pub fn picked(picked: Option<Picked>) -> Part
     ensures { result ≡ picked_part picked }
 {
@@ -52,7 +52,7 @@ pub fn gives(part: Part, demanded: bool) -> bool
     demanded && part.slot.is_some()
 }
 
-/// The next item that a crossfade offers; `None` if it is not settled yet, or is an empty slot.
+/// What a crossfade offers next, its item; `None` if that is an empty slot, or if later child slots may alter it.
 pub fn item(state: &CrossState) -> Option<Cell>
     ensures { (slots : List Slot) (p : ℕ) → StandsFor state.now slots p → p < length (cross state.now.overlap slots)
         → result ≡ slot_at (cross state.now.overlap slots) p }
@@ -76,8 +76,8 @@ pub fn step_leaf(state: &mut LeafState, gave: bool, library: &Library)
     }
 }
 
-/// Moves a fallback, a switch or a sequence on by an instant: if it gave, it keeps which child it used. `pick` is the
-/// child's place, and `children` how many there are.
+/// Moves a fallback, a switch or a sequence on by an instant: if it `gave`, it keeps which child it used.
+/// `pick` is that child's place, and `children` how many there are; without such a child nothing moves.
 pub fn step_selection(state: &mut SelectState, gave: bool, pick: Option<u32>, children: usize)
     requires { state.old.children ≡ children }
     ensures children { state.new.children ≡ state.old.children }
@@ -93,7 +93,8 @@ pub fn step_selection(state: &mut SelectState, gave: bool, pick: Option<u32>, ch
     }
 }
 
-/// If a rotate or a random gave, moves it on by the cell and the child of its part; `children` says how many it has.
+/// Moves a rotate or a random on, if it `gave`, by the cell that it offered and the child from which it came.
+/// Both stand in its `part`; without them nothing moves. It has `children` children.
 pub fn step_turn(state: &mut TurnState, gave: bool, part: Part, children: usize)
     requires { state.old.children ≡ children }
     ensures children { state.new.children ≡ state.old.children }
@@ -112,7 +113,8 @@ pub fn step_turn(state: &mut TurnState, gave: bool, part: Part, children: usize)
     }
 }
 
-/// Moves a crossfade whose item is settled to the next item, if it gave or the item is an empty slot.
+/// Moves a crossfade to its next item, if it `gave` the one it has, or that one is an empty slot.
+/// Nothing moves while later slots of the child may still change the item.
 pub fn step_crossfade(state: &mut CrossState, gave: bool)
     ensures overlap { state.new.overlap ≡ state.old.overlap }
     ensures stands { (slots : List Slot) (p : ℕ) → StandsFor state.old slots p

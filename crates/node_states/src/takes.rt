@@ -10,8 +10,8 @@ use liq_base::Memory;
 use op_leaf::ReaderState;
 
 impl NodeState {
-    /// At the start of a tick, a reader takes chunks from its buffer and begins the tick; other nodes do nothing. If
-    /// memory is refused, some of these takes were made.
+    /// Lets a reader take chunks from its buffer, number `buffer` of `taps`, and begin a tick; other nodes do nothing.
+    /// If memory is refused, some of these takes were made, and the tick is not begun.
     pub fn take<T: Taps>(&mut self, buffer: u32, taps: &mut T) -> Result<(), Memory>
         requires { buffer < T.buffers taps.old }
         ensures buffers { T.buffers taps.new ≡ T.buffers taps.old }
@@ -36,7 +36,8 @@ impl NodeState {
     }
 }
 
-// Takes from the buffer all chunks that a reader takes at the start of a tick, and then begins the tick.
+// Takes from buffer number `buffer` all chunks that a reader takes at the start of a tick, and then begins the tick.
+// After an `Err` some takes were made, and the tick is not begun.
 fn take_all<T: Taps>(reader: &mut ReaderState, buffer: u32, taps: &mut T) -> Result<(), Memory>
     requires { buffer < T.buffers taps.old }
     ensures buffers { T.buffers taps.new ≡ T.buffers taps.old }
@@ -49,7 +50,7 @@ fn take_all<T: Taps>(reader: &mut ReaderState, buffer: u32, taps: &mut T) -> Res
     Ok(())
 }
 
-// Takes chunks from the buffer while the reader wants one, until the buffer is found empty.
+// Takes chunks from buffer number `buffer` while the reader wants one, at most until the buffer is found empty.
 fn take_chunks<T: Taps>(reader: &mut ReaderState, buffer: u32, taps: &mut T) -> Result<(), Memory>
     requires { buffer < T.buffers taps.old }
     ensures buffers { T.buffers taps.new ≡ T.buffers taps.old }

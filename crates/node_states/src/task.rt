@@ -24,8 +24,9 @@ pub enum Task {
     Read(u32),
 }
 
-/// What node `i` does, sorted by the code that does it, in a plan of `rate` samples a second. The predicates of a
-/// switch are left out.
+/// Sorts what node `i` does by the code that does it, in a plan of `rate` samples a second.
+/// A node of `clock` is a mixer that passes its child on.
+/// The predicates of a switch are left out: they are asked at each instant which of its children may be chosen.
 pub fn task_of(node: &Node, i: u32, rate: u32) -> Task
     ensures { IsTask result (work_of rate i node.now.kind node.now.op) }
 {

@@ -53,8 +53,8 @@ impl WeekTime {
         self.place == 0
     }
 
-    /// How many instants after this one lie in its second and in those that follow, `seconds` seconds in all; a count
-    /// above u32 is cut to the largest u32.
+    /// How many instants after this one lie within `seconds` seconds, of which the second of this time is the first.
+    /// A count above u32 is cut to the largest u32.
     pub fn seconds_left(self, seconds: u32) -> u32
         requires { 0 < seconds }
         ensures { (start n j : ℕ) → TimeStands start n self → j ≤ result

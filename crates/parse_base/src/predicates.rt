@@ -16,7 +16,8 @@ use script_grammar::predicate::{PAnd, PAtom, PNot, POr};
 use script_lex::{Keyword, Symbol, Token, TokenKind};
 use std::alloc::Global;
 
-/// The predicate that the tokens begin with, and the tokens behind it. Calls nest once for each open parenthesis.
+/// Reads the predicate that the tokens begin with, and answers its tree and the tokens behind it.
+/// Calls nest once for each open parenthesis.
 ///
 /// A fault counts the tokens from the first one that cannot go on.
 #[tactic(auto, using(crate::proofs::Levels::por_levels))]
@@ -26,8 +27,9 @@ pub fn predicate(alloc: Global, tokens: &[Token]) -> Result<(POr, &[Token]), Fau
     por(alloc, tokens.len() + 1, tokens)
 }
 
-// Reads the predicate that the tokens begin with, of at most `levels` levels: one for itself, and one for each that it
-// nests. More levels than tokens are enough.
+// Reads the predicate that the tokens begin with, and answers its tree and the tokens behind it.
+// It has at most `levels` levels: one for itself, and one for each that it nests in parentheses.
+// The bound shows that reading ends; more levels than tokens are enough, so it refuses nothing.
 #[cycle(predicate)]
 fn por(alloc: Global, levels: usize, tokens: &[Token]) -> Result<(POr, &[Token]), Fault>
     ensures { Reads view_por IsWholePOr (por_by levels) tokens.now result }
@@ -39,8 +41,8 @@ fn por(alloc: Global, levels: usize, tokens: &[Token]) -> Result<(POr, &[Token])
     }
 }
 
-// Reads terms joined by `or`, the grammar's predicate: and (`or` and)*, where predicates in parentheses nest in at
-// most `levels` levels.
+// Reads terms joined by `or`, the grammar's predicate: and (`or` and)*; answers its tree and the tokens behind it.
+// Predicates in parentheses nest in at most `levels` levels.
 #[cycle(predicate)]
 #[tactic(auto, unfolding(script_grammar::specs::ReadPredicate::por_step, script_grammar::specs::Read::chain))]
 fn por_step(alloc: Global, levels: usize, tokens: &[Token]) -> Result<(POr, &[Token]), Fault>
@@ -51,7 +53,8 @@ fn por_step(alloc: Global, levels: usize, tokens: &[Token]) -> Result<(POr, &[To
     Ok((make::predicate(first, others)?, rest))
 }
 
-// Reads the further terms of a predicate, each behind an `or`: (`or` and)*.
+// Reads the further terms of a predicate, each behind an `or`: (`or` and)*. Answers them and the tokens behind them.
+// Predicates in parentheses nest in at most `levels` levels.
 #[cycle(predicate)]
 fn pands(alloc: Global, levels: usize, tokens: &[Token]) -> Result<(Vec<PAnd>, &[Token]), Fault>
     ensures shorter { IfOk result (λ x. length x.1.now ≤ length tokens.now) }
@@ -69,7 +72,8 @@ fn pands(alloc: Global, levels: usize, tokens: &[Token]) -> Result<(Vec<PAnd>, &
     Ok((items, rest))
 }
 
-// Reads one further term of a predicate: `or` and.
+// Reads one further term of a predicate: `or` and. Answers the term and the tokens behind it.
+// Predicates in parentheses nest in at most `levels` levels.
 #[cycle(predicate)]
 #[tactic(auto, unfolding(script_grammar::specs::Read::behind))]
 fn or_pand(alloc: Global, levels: usize, tokens: &[Token]) -> Result<(PAnd, &[Token]), Fault>
@@ -79,7 +83,8 @@ fn or_pand(alloc: Global, levels: usize, tokens: &[Token]) -> Result<(PAnd, &[To
     pand(alloc, levels, rest)
 }
 
-// Reads factors joined by `and`, the grammar's and: not (`and` not)*.
+// Reads factors joined by `and`, the grammar's and: not (`and` not)*; answers its tree and the tokens behind it.
+// Predicates in parentheses nest in at most `levels` levels.
 #[cycle(predicate)]
 #[tactic(auto, unfolding(script_grammar::specs::ReadPredicate::pand, script_grammar::specs::Read::chain))]
 fn pand(alloc: Global, levels: usize, tokens: &[Token]) -> Result<(PAnd, &[Token]), Fault>
@@ -90,7 +95,8 @@ fn pand(alloc: Global, levels: usize, tokens: &[Token]) -> Result<(PAnd, &[Token
     Ok((make::predicate_term(first, others)?, rest))
 }
 
-// Reads the further factors of a term, each behind an `and`: (`and` not)*.
+// Reads the further factors of a term, each behind an `and`: (`and` not)*. Answers them and the tokens behind them.
+// Predicates in parentheses nest in at most `levels` levels.
 #[cycle(predicate)]
 fn pnots(alloc: Global, levels: usize, tokens: &[Token]) -> Result<(Vec<PNot>, &[Token]), Fault>
     ensures shorter { IfOk result (λ x. length x.1.now ≤ length tokens.now) }
@@ -108,7 +114,8 @@ fn pnots(alloc: Global, levels: usize, tokens: &[Token]) -> Result<(Vec<PNot>, &
     Ok((items, rest))
 }
 
-// Reads one further factor of a term: `and` not.
+// Reads one further factor of a term: `and` not. Answers the factor and the tokens behind it.
+// Predicates in parentheses nest in at most `levels` levels.
 #[cycle(predicate)]
 #[tactic(auto, unfolding(script_grammar::specs::Read::behind))]
 fn and_pnot(alloc: Global, levels: usize, tokens: &[Token]) -> Result<(PNot, &[Token]), Fault>
@@ -118,7 +125,8 @@ fn and_pnot(alloc: Global, levels: usize, tokens: &[Token]) -> Result<(PNot, &[T
     pnot(alloc, levels, rest)
 }
 
-// Reads an atom of a predicate that may be negated, the grammar's not: `not`? atom.
+// Reads an atom of a predicate that may be negated, the grammar's not: `not`? atom. The tokens behind it come second.
+// Predicates in parentheses nest in at most `levels` levels.
 #[cycle(predicate)]
 #[tactic(auto, unfolding(script_grammar::specs::ReadPredicate::pnot))]
 fn pnot(alloc: Global, levels: usize, tokens: &[Token]) -> Result<(PNot, &[Token]), Fault>
@@ -130,6 +138,8 @@ fn pnot(alloc: Global, levels: usize, tokens: &[Token]) -> Result<(PNot, &[Token
 }
 
 // Reads an atom of a predicate: `true` | `false` | time | time `-` time | `(` predicate `)`.
+// Answers its tree and the tokens behind it. What stands in the parentheses has at most `levels` levels.
+// A fault counts the tokens from the first one that cannot go on; 0 where they are at an end.
 #[cycle(predicate)]
 #[tactic(auto, unfolding(script_grammar::specs::ReadPredicate::patom))]
 fn patom(alloc: Global, levels: usize, tokens: &[Token]) -> Result<(PAtom, &[Token]), Fault>
@@ -152,6 +162,7 @@ fn patom(alloc: Global, levels: usize, tokens: &[Token]) -> Result<(PAtom, &[Tok
 }
 
 // Reads what follows the first time of an atom, which is `from`: `-` and a second time, or nothing.
+// Answers the atom, an interval or the one time, and the tokens behind it. A `-` without a time behind it is a fault.
 #[tactic(auto, unfolding(script_grammar::specs::ReadPredicate::interval))]
 fn interval(from: TimeMark, tokens: &[Token]) -> Result<(PAtom, &[Token]), Fault>
     ensures shorter { IfOk result (λ x. length x.1.now ≤ length tokens.now) }

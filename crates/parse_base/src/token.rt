@@ -74,7 +74,7 @@ impl Class {
     }
 }
 
-/// The index of the token at which reading stands: the first of these among `total`, of which they are the last.
+/// The index, from 0, of the token at which reading stands: the first of `tokens`, which are those left of `total`.
 pub fn place(total: usize, tokens: &[Token]) -> u32
     requires within { length tokens.now ≤ total }
     requires small { total < 2 ^ 32 }
@@ -93,8 +93,8 @@ pub fn next_is(tokens: &[Token], class: Class) -> bool
     }
 }
 
-/// Reads one token, which must be of this class, and returns the tokens behind it. Any other token, or none, is a
-/// fault there.
+/// Reads one token, which must be of this class, and returns the tokens behind it; it makes no tree, so `()` stands.
+/// Any other token, or none, is a fault there, which counts the tokens that are left.
 pub fn expect(tokens: &[Token], class: Class) -> Result<((), &[Token]), Fault>
     ensures shorter { IfOk result (λ x. length x.1.now < length tokens.now) }
     ensures gives { Gives (λ x. (tt, kinds x.1.now)) result (expect (is_in class) (kinds tokens.now)) }
@@ -105,7 +105,7 @@ pub fn expect(tokens: &[Token], class: Class) -> Result<((), &[Token]), Fault>
     }
 }
 
-/// Reads one token if it is of this class: returns whether it is, and the tokens behind it, or else all the tokens.
+/// Reads one token if it is of this class. `true` comes with the tokens behind it, and `false` with all the tokens.
 pub fn perhaps(tokens: &[Token], class: Class) -> (bool, &[Token])
     ensures shorter { length result.1.now ≤ length tokens.now }
     ensures gives { perhaps (is_in class) (kinds tokens.now) ≡ Ok (result.0, kinds result.1.now) }

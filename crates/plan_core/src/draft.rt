@@ -111,8 +111,8 @@ impl Draft {
         self.plan.frame = frame;
     }
 
-    /// Adds a node, and returns its number. `TooManySources` comes exactly where `MAX_NODES` nodes are there. The plan
-    /// is unchanged after that, and where memory is refused.
+    /// Adds a node over nodes that are there, and returns its number.
+    /// `TooManySources` comes exactly where `MAX_NODES` nodes are there. After any `Err` the plan is unchanged.
     pub fn push_node(&mut self, node: Node) -> Result<u32, PlanFault>
         requires children { All (λ child. child < length self.old.nodes) node.children }
         requires few { length node.children ≤ MAX_CHILDREN }
@@ -140,8 +140,9 @@ impl Draft {
         }
     }
 
-    /// Adds an output of a node to the file of this name, of 24 bits a sample if it is `wide`, else of 16. Where there
-    /// is no room for it, which is memory or the 2^32nd sink, the plan is as it was.
+    /// Adds an output of a node to the file of this name, of 24 bits a sample if it is `wide`, else of 16.
+    /// `fallible` says that the script allows it to have gaps.
+    /// The 2^32nd sink is refused as want of memory is; after that the plan is as it was.
     pub fn push_output(
         &mut self,
         name: Text,
@@ -168,9 +169,10 @@ impl Draft {
         Ok(())
     }
 
-    /// Adds a buffer, its feed from the node `source`, and its reader, which is of this kind, and answers the reader's
-    /// number. `TooManySources` comes exactly where `MAX_NODES` nodes are there. After that, and where there is no room
-    /// for it, which is memory or the 2^32nd sink or buffer, the plan is as it was.
+    /// Adds a buffer, its feed from the node `source`, and its reader, a node of this kind.
+    /// It answers the reader's number among the nodes.
+    /// `TooManySources` comes exactly where `MAX_NODES` nodes are there.
+    /// The 2^32nd sink or buffer is refused as want of memory is. After any `Err` the plan is as it was.
     pub fn push_buffer(
         &mut self,
         alloc: Global,

@@ -21,13 +21,15 @@ pub fn fronts_are_nodes()
     ensures { (nodes : List Node) (n : ℕ) → AreNodes nodes → AreNodes (take n nodes) }
 {}
 
-/// How many crossfades are at most on a path down from a node depends on that node and on those before it alone.
+/// The most crossfades on a path down from a node depend on that node and on those before it alone, so nodes that are
+/// added later change no count.
 pub fn crossfades_rest_on_nodes_below()
     ensures { (nodes : List Node) (i : ℕ) (node : Node) → slice_get nodes i ≡ Some node
         → slice_index (crossfade_counts nodes) i ≡ crossfades_from (take i nodes) node }
 {}
 
-/// The count of a node is the most crossfades on a path down from it, and no path has more than 4.
+/// The count of a node in `crossfade_counts` is the most crossfades on a path down from it: no path has more, and one
+/// has as many. No path has more than 4.
 pub fn crossfades_on_paths()
     ensures bound { (nodes : List Node) (i : ℕ) (path : List ℕ) → AreNodes nodes → IsPathDown nodes i path
         → crossfades_on nodes i path ≤ slice_index (crossfade_counts nodes) i }
@@ -38,7 +40,8 @@ pub fn crossfades_on_paths()
         → crossfades_on nodes i path ≤ MAX_CROSSFADES }
 {}
 
-/// A well-formed plan stays so with one more node that is no reader and stands over the others.
+/// A well-formed plan stays so with one more node, if it is no reader of a buffer and stands over the others: its
+/// children are there, and its number of them, their kinds and the crossfades below it are as they must be.
 pub fn a_node_keeps_plans()
     ensures { (plan : Plan) (node : Node) → IsWellFormed plan → length plan.nodes < MAX_NODES
         → IsNodeOver plan.nodes node → IsNoReader node.op → IsWellFormed (with_node plan node) }
@@ -65,7 +68,7 @@ pub fn an_empty_plan_is_well_formed()
         → IsWellFormed (record { rate = rate; frame = frame; nodes = []; sinks = []; buffers = [] }) }
 {}
 
-/// A node that is no crossfade has no more crossfades on a path down than one of its children has.
+/// A node that is no crossfade, over nodes of a plan, has no more crossfades on a path down than a plan may have.
 pub fn only_crossfades_add_crossfades()
     ensures { (nodes : List Node) (node : Node) → AreNodes nodes → own_crossfades node.op ≡ 0
         → crossfades_from nodes node ≤ MAX_CROSSFADES }

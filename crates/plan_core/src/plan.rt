@@ -51,9 +51,9 @@ impl From<Memory> for PlanFault {
 }
 
 impl Plan {
-    /// Adds a node, whose children are nodes of the plan, at most `MAX_CHILDREN` of them, and answers its number. No
-    /// path down from it may have more than `MAX_CROSSFADES` crossfades. `TooManySources` comes exactly where
-    /// `MAX_NODES` nodes are there. The plan is unchanged after that, and where memory is refused.
+    /// Adds a node, whose children are nodes of the plan, at most `MAX_CHILDREN` of them, and answers its number.
+    /// No path down from it may have more than `MAX_CROSSFADES` crossfades; the caller sees to that.
+    /// `TooManySources` comes exactly where `MAX_NODES` nodes are there. After any `Err` the plan is unchanged.
     pub fn push_node(&mut self, node: Node) -> Result<u32, PlanFault>
         requires children { All (λ child. child < length self.old.nodes) node.children }
         requires few { length node.children ≤ MAX_CHILDREN }
@@ -76,8 +76,8 @@ impl Plan {
         Ok(number as u32)
     }
 
-    /// Adds a buffer and its feed from the node `source`, and returns the buffer's number. Where there is no room for
-    /// both, the plan is as it was.
+    /// Adds a buffer and the sink that feeds it from the node `source`, and returns the buffer's number.
+    /// The 2^32nd sink or buffer is refused as want of memory is; after any `Err` neither is added.
     pub(crate) fn push_fed(&mut self, source: u32, buffer: BufferPlan) -> Result<u32, Memory>
         ensures number { IfOk result (λ number. number ≡ length self.old.buffers) }
         ensures added { OnOk result (self.new ≡ record self.old {

@@ -8,7 +8,8 @@ use clock_infer::{ClockFault, ClockName};
 use liq_base::Memory;
 use std::alloc::Global;
 
-/// The line that is printed for a plan whose sources can have no clocks. Want of memory has none.
+/// The line that is printed for a plan whose sources can have no clocks. Want of memory is no refusal, so its line is
+/// empty.
 pub fn clock_line(alloc: Global, fault: &ClockFault) -> Result<String, Memory>
     ensures { IfOk result (λ line. string_bytes line ≡ clock_line fault.now) }
 {
@@ -24,7 +25,7 @@ pub fn clock_line(alloc: Global, fault: &ClockFault) -> Result<String, Memory>
     }
 }
 
-// The line for source number `node`, which must lie in two clocks at once.
+// The line for source number `node`, which would have to lie in the clocks `first` and `second` at once.
 fn two_clocks(
     alloc: Global,
     node: u32,
@@ -39,7 +40,8 @@ fn two_clocks(
     of_clocks(alloc, "E26 source", node, &first, &second)
 }
 
-// How a printed line calls a clock in which a source must lie: by its id, its crossfade or as that of an output.
+// How a printed line calls a clock in which a source must lie: by its id, by the crossfade that drives it, or, where it
+// may be any main clock, as that of an output.
 fn clock_name(alloc: Global, clock: &ClockName) -> Result<String, Memory>
     ensures { IfOk result (λ name. string_bytes name ≡ clock_in_words clock.now) }
 {

@@ -34,8 +34,8 @@ pub enum Fault {
 }
 
 impl Fault {
-    /// The line that is written to standard error, with its line end. What is no refusal has none: want of memory, and
-    /// a read that failed.
+    /// The line of a refusal that is written to standard error, with its line end.
+    /// Want of memory and a read that failed are no refusals, so their line is empty.
     pub fn line(&self, alloc: Global) -> Result<String, Memory>
         ensures { IfOk result (λ line. string_bytes line ≡ line_of self.now) }
     {
@@ -49,7 +49,7 @@ impl Fault {
     }
 }
 
-// The line that is printed for a script that has no plan, by the step that failed. Want of memory has none.
+// The line that is printed for a script that has no plan, by the step that failed. For want of memory it is empty.
 fn script_line(alloc: Global, fault: &ScriptFault) -> Result<String, Memory>
     ensures { IfOk result (λ line. string_bytes line ≡ script_line fault.now) }
 {
@@ -62,8 +62,8 @@ fn script_line(alloc: Global, fault: &ScriptFault) -> Result<String, Memory>
     }
 }
 
-// The line that is printed for a plan that cannot be rendered: for its files, its clocks or an output. Want of memory
-// and a read that failed have none.
+// The line that is printed for a plan that cannot be rendered: for its files, its clocks or an output.
+// For want of memory and a read that failed it is empty.
 fn station_line(alloc: Global, fault: &StationFault) -> Result<String, Memory>
     ensures { IfOk result (λ line. string_bytes line ≡ station_line fault.now) }
 {

@@ -8,8 +8,8 @@ use std::alloc::Global;
 use track_library::LoadFault;
 use wav_io::WavFault;
 
-/// The line that is printed for a plan whose audio files cannot be played. A read that failed and want of memory have
-/// none.
+/// The line that is printed for a plan whose audio files cannot be played.
+/// A read that failed and want of memory are no refusals, so their line is empty.
 pub fn file_line(alloc: Global, fault: &LoadFault) -> Result<String, Memory>
     ensures { IfOk result (λ line. string_bytes line ≡ file_line fault.now) }
 {

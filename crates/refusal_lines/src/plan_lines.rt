@@ -7,7 +7,7 @@ use liq_base::Memory;
 use script_values::{EvalFault, Limit};
 use std::alloc::Global;
 
-/// The line that is printed for a script whose evaluation makes no plan. Want of memory has none.
+/// The line that is printed for a script whose evaluation makes no plan. For want of memory it is empty.
 pub fn plan_line(alloc: Global, fault: &EvalFault) -> Result<String, Memory>
     ensures { IfOk result (λ line. string_bytes line ≡ plan_line fault.now) }
 {

@@ -24,7 +24,7 @@ pub enum ReplayFault {
     DoesNotFit,
 }
 
-/// The line that is printed for a trace from which nothing can be rendered again.
+/// The line that is printed for a trace from which nothing can be rendered again. Each of these faults has one.
 pub fn replay_line(alloc: Global, fault: &ReplayFault) -> Result<String, Memory>
     ensures { IfOk result (λ line. string_bytes line ≡ replay_line fault.now) }
 {

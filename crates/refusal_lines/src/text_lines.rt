@@ -8,7 +8,7 @@ use script_lex::LexFault;
 use script_parse::ParseFault;
 use std::alloc::Global;
 
-/// The line that is printed for a script whose bytes are no tokens. Want of memory has none.
+/// The line that is printed for a script whose bytes are no tokens. For want of memory it is empty.
 pub fn token_line(alloc: Global, fault: LexFault) -> Result<String, Memory>
     ensures { IfOk result (λ line. string_bytes line ≡ token_line fault) }
 {
@@ -21,7 +21,7 @@ pub fn token_line(alloc: Global, fault: LexFault) -> Result<String, Memory>
     }
 }
 
-/// The line that is printed for a script whose tokens follow no rule of the grammar. Want of memory has none.
+/// The line that is printed for a script whose tokens follow no rule of the grammar. For want of memory it is empty.
 pub fn syntax_line(alloc: Global, fault: ParseFault) -> Result<String, Memory>
     ensures { IfOk result (λ line. string_bytes line ≡ syntax_line fault) }
 {

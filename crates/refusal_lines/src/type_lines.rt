@@ -8,7 +8,7 @@ use liq_base::Memory;
 use std::alloc::Global;
 use typing_rules::TypeFault;
 
-/// The line that is printed for a script whose names, arguments or types are wrong. Want of memory has none.
+/// The line that is printed for a script whose names, arguments or types are wrong. For want of memory it is empty.
 pub fn type_line(alloc: Global, fault: &TypeFault) -> Result<String, Memory>
     ensures { IfOk result (λ line. string_bytes line ≡ type_line fault.now) }
 {
@@ -30,8 +30,8 @@ pub fn type_line(alloc: Global, fault: &TypeFault) -> Result<String, Memory>
     }
 }
 
-// The line for a call that lacks the argument with this label; `token` is the number of the token that names what is
-// called.
+// The line for a call that lacks the argument with this label, in statement number `statement`.
+// `token` is the number of the token that names what is called.
 fn missing(alloc: Global, statement: u32, token: u32, label: &str) -> Result<String, Memory>
     ensures { IfOk result (λ line. string_bytes line
         ≡ token_form (codes "E09") statement (codes "missing argument " ++ label.now) token) }

@@ -24,8 +24,8 @@ ghost use Rattle.run_records.specs.Records.{AreRoundsBegun, AreWindows, AreWindo
 ghost use Rattle.run_records.specs.Records.{capacity_of, puts_of, setting_in};
 ghost use Rattle.run_records.specs.Rounds.{BeginsRounds, HasNoJoin, IsAsOnOneThread, merged};
 
-/// The calls of a clock's first ticks are the same whatever the buffers answer, up to a call that got another answer:
-/// they part there, or they never do, and then the clock's outputs have the same bytes and gaps.
+/// The calls on buffers of a clock's first ticks are the same, up to a call that two runs have answered differently.
+/// They part there, or they never do; then the clock's outputs have the same bytes and gaps in both runs.
 pub fn calls_part_at_answers()
     ensures { (setting : Setting) (clocks : Map) → IsSetting setting clocks
         → (one other : ℕ → List Answer) (accepted kept : ℕ → ℕ → Bool) (m ticks : ℕ)
@@ -34,7 +34,8 @@ pub fn calls_part_at_answers()
         (HasSameOutputs (answered setting one) (answered setting other) m ticks) }
 {}
 
-/// Where the first n calls are the same, the next one is, but for its answer, or neither clock makes one.
+/// Where the first n calls of a clock on buffers are the same in two runs, the next one is too, but for its answer.
+/// Or the clock makes no further call in either.
 pub fn next_calls_are_alike()
     ensures { (setting : Setting) (clocks : Map) → IsSetting setting clocks
         → (one other : ℕ → List Answer) (accepted kept : ℕ → ℕ → Bool) (m ticks n : ℕ)
@@ -44,7 +45,8 @@ pub fn next_calls_are_alike()
         (slice_get (first_calls (answered setting other) kept m ticks) n) }
 {}
 
-/// Where all calls of the first ticks are the same, so are the bytes and the gaps of the clock's outputs.
+/// Where two runs of a clock make the same calls on buffers in their first ticks, with the same answers, its outputs
+/// have the same bytes and the same gaps.
 pub fn same_calls_make_same_outputs()
     ensures { (setting : Setting) (clocks : Map) → IsSetting setting clocks
         → (one other : ℕ → List Answer) (accepted kept : ℕ → ℕ → Bool) (m ticks : ℕ)
@@ -66,20 +68,22 @@ pub fn feeders_run()
         → feeder setting buffer < clocks.running }
 {}
 
-/// Rounds on one thread have one record at most.
+/// Rounds on one thread have one record at most: two runs that are rounds of the same ticks are the same.
+/// In a round each clock makes one tick, in the order of the clocks.
 pub fn rounds_are_one()
     ensures { (setting : Setting) (clocks : Map) → IsSetting setting clocks → (running N : ℕ) (run other : Run)
         → IsRounds setting running N run → IsRounds setting running N other → run ≡ other }
 {}
 
-/// Rounds on one thread have a record: that which follows from the setting, tick by tick, each take with what its
-/// buffer then holds.
+/// Rounds on one thread, in which each clock in turn makes one tick, have a record.
+/// It follows from the setting, tick by tick: each take gets what its buffer then holds.
 pub fn rounds_have_a_record()
     ensures { (setting : Setting) (clocks : Map) → IsSetting setting clocks → (running N : ℕ)
         → IsRounds setting running N (rounds_record setting running N) }
 {}
 
-/// Where no buffer joins two clocks, a lawful record is that of rounds, whatever the length of its windows.
+/// Where no buffer joins two running clocks, that is, is fed in one and read in the other, a lawful record is that of
+/// rounds on one thread, whatever the length of its windows. Then the windows of a buffer are merged into one.
 pub fn lawful_records_are_rounds()
     ensures { (setting : Setting) (clocks : Map) → IsSetting setting clocks → (W N : ℕ) (run : Run)
         → HasNoJoin setting clocks.running
@@ -93,8 +97,8 @@ pub fn rounds_are_lawful()
         → IsRounds setting clocks.running N run → AreWindows setting clocks.running N N run }
 {}
 
-/// Where no buffer joins two clocks, threads answer, write and miss what rounds on one thread do, and begin tracks
-/// where they do.
+/// Where no buffer joins two running clocks, a run by threads is as rounds on one thread are.
+/// Its buffers answer the same, its outputs have the same bytes and gaps, and tracks begin at the same places.
 pub fn as_on_one_thread()
     ensures { (setting : Setting) (clocks : Map) → IsSetting setting clocks → (W N : ℕ) (run other : Run)
         → HasNoJoin setting clocks.running
@@ -102,7 +106,9 @@ pub fn as_on_one_thread()
         → IsAsOnOneThread setting run other }
 {}
 
-/// A text tells a whole record: two lawful records with the same text, of which one can be ordered, are the same.
+/// A text, the answers without what the chunks hold, tells a whole record.
+/// Two lawful records with the same text are the same, if the ticks of one can be ordered: so that each chunk is put in
+/// an earlier tick than the one that gets it.
 pub fn text_is_whole()
     ensures { (setting : Setting) (clocks : Map) → IsSetting setting clocks → (W N : ℕ) (run other : Run)
         → (one : AreWindows setting clocks.running W N run) → AreWindows setting clocks.running W N other
@@ -110,8 +116,8 @@ pub fn text_is_whole()
         → IsOrdered (setting_in setting run) clocks.running one.accepted N → run ≡ other }
 {}
 
-/// Where no buffer joins two clocks, a run by threads that was broken off begins what rounds on one thread do: with
-/// some answers after its own, it has those of the rounds.
+/// Where no buffer joins two running clocks, a run by threads that was broken off begins what rounds on one thread do.
+/// With some further answers after those that it got, its takes get what those of the rounds get.
 pub fn broken_windows_begin_rounds()
     ensures { (setting : Setting) (clocks : Map) → IsSetting setting clocks → (W N : ℕ) (run rounds : Run)
         → HasNoJoin setting clocks.running
@@ -119,23 +125,25 @@ pub fn broken_windows_begin_rounds()
         → BeginsRounds setting run rounds }
 {}
 
-/// Rounds on one thread that were broken off begin the whole rounds, whatever buffers join: with some answers after its
-/// own, such a run has those of the rounds.
+/// Rounds on one thread that were broken off begin the whole rounds, also where a buffer joins two clocks.
+/// With some further answers after those that it got, such a run's takes get what those of the rounds get.
 pub fn broken_rounds_begin_rounds()
     ensures { (setting : Setting) (clocks : Map) → IsSetting setting clocks → (running N : ℕ) (run rounds : Run)
         → AreRoundsBegun setting running N run → IsRounds setting running N rounds → BeginsRounds setting run rounds }
 {}
 
-/// Windows of at most W puts that keep pace: where the buffer has room for two windows and for what may be owed, no put
-/// is refused, whatever the order within a window.
+/// No put is refused, whatever the order within a window, if each window has at most W puts and the takes keep pace.
+/// In a window in which no take met an empty buffer, they may fall behind the puts by no more than what is owed.
+/// The buffer must have room for two windows and for D chunks, the most that is ever owed.
 pub fn paced_windows_refuse_nothing()
     ensures { (capacity W D : ℕ) (windows : List Window) (rest : List (List Sample)) → W + W + D ≤ capacity
         → KeepPace W D D windows
         → IsHistory capacity [] windows rest → has_none (flat_map (λ (window : Window). window.0) windows) ≡ false }
 {}
 
-/// A lawful record refuses no put to a buffer that has room for two windows and for D chunks more, where its prefill is
-/// at most D + 1 frames and its reader lies in a main clock that runs and is demanded at each instant.
+/// A lawful record refuses no put to a buffer that has room for two windows of W ticks and for D chunks more.
+/// Its prefill must be at most D + 1 frames; a frame is the samples of a tick.
+/// Its reader must lie in a main clock that runs, and must be demanded at each instant at which it offers a cell.
 pub fn roomy_buffers_refuse_nothing()
     ensures { (setting : Setting) (clocks : Map) → IsSetting setting clocks
         → (W N D buffer m i : ℕ) (node : PlanNode) (run : Run)
@@ -147,7 +155,8 @@ pub fn roomy_buffers_refuse_nothing()
 {}
 
 /// A lawful record refuses no put to a buffer whose reader is always heard, and which has room for two windows and its
-/// prefill: so a report tells of none that found it full.
+/// prefill. A reader is always heard if an output or a feed plays it, or nodes above it that always use it.
+/// So a report tells of no put that found the buffer full.
 pub fn heard_buffers_refuse_nothing()
     ensures { (setting : Setting) (clocks : Map) → IsSetting setting clocks
         → (W N buffer m : ℕ) (above : List ℕ) (i : ℕ) (run : Run)
@@ -155,8 +164,8 @@ pub fn heard_buffers_refuse_nothing()
         → AreWindows setting clocks.running W N run → count_by is_none (puts_of run buffer) ≡ 0 }
 {}
 
-/// The record of a run in windows that was broken off refuses no put to a buffer whose reader is always heard, and
-/// which has room for two windows and its prefill.
+/// A run in windows that was broken off refuses no put to a buffer whose reader is always heard, and which has room for
+/// two windows and its prefill. An output or a feed plays such a reader, or nodes above it that always use it.
 pub fn broken_windows_refuse_nothing()
     ensures { (setting : Setting) (clocks : Map) → IsSetting setting clocks
         → (W N buffer m : ℕ) (above : List ℕ) (i : ℕ) (run : Run)

@@ -67,6 +67,7 @@ fn clock_name<'a>(plan: &Plan, clocks: &'a ClockMap, node: u32) -> &'a str
 }
 
 // Adds to a check's report the line of buffer `number`, fed in the main clock `from` and read in the main clock `to`.
+// The line ends with the samples that the reader gathers before it plays, and the chunks that the buffer may hold.
 fn push_line(
     text: &mut String,
     number: usize,

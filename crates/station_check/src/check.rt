@@ -20,9 +20,10 @@ use plan_core::Plan;
 use stations::Ready;
 use std::alloc::Global;
 
-/// The audio files and the clocks of a plan that is to be rendered for so many ticks, at most 1000000000; or its first
-/// fault, in the order of `docs/faults.md`. A check alone is that for no tick. Each file is read once, and files are as
-/// they were. No memory is taken for samples before all faults have been looked for.
+/// Checks a plan that is to be rendered for so many ticks; 0 where it is only checked.
+/// `Ok` has its audio files and its clocks, and `Err` its first fault, in the order of `docs/faults.md`.
+/// Each audio file is read once and none is written.
+/// Files are decoded last, so no memory is taken for samples before all faults have been looked for.
 pub fn check_plan<S: Shelf>(
     alloc: Global,
     plan: &Plan,
@@ -51,8 +52,8 @@ pub fn check_plan<S: Shelf>(
     Ok(Ready { library, clocks })
 }
 
-/// The clocks of a plan, as `check_plan` answers them for so many ticks, or the fault that it answers. The audio files
-/// are read, each once, and none is kept: at most one of them is held at a time.
+/// Checks a plan as `check_plan` does for so many ticks, but answers its clocks alone, or the same first fault.
+/// The audio files are read, each once, and none is kept: at most one of them is held at a time.
 pub fn check_clocks<S: Shelf>(
     alloc: Global,
     plan: &Plan,
@@ -77,8 +78,8 @@ pub fn check_clocks<S: Shelf>(
     check_rest(alloc, plan, ticks)
 }
 
-// The clocks of a plan whose audio files are there; or its first fault of outputs and clocks, if it is to be rendered
-// for so many ticks.
+// Checks all of a plan but its audio files, if it is to be rendered for so many ticks, and answers its clocks.
+// The faults come in this order: outputs that may have gaps, clocks, and outputs too long for their files.
 fn check_rest(alloc: Global, plan: &Plan, ticks: u64) -> Result<ClockMap, CheckEnd>
     requires plan { IsWellFormed plan.now }
     requires few { ticks ≤ 1000000000 }

@@ -10,7 +10,8 @@ use plan_core::Plan;
 use stations::StationFault;
 use std::alloc::Global;
 
-/// The clocks of a plan; or how a check ends where the plan has none.
+/// Assigns the nodes of a plan to clocks; the `Err` says how a check ends where the plan can have none, or where memory
+/// is refused.
 pub fn find_clocks(alloc: Global, plan: &Plan) -> Result<ClockMap, CheckEnd>
     requires { IsWellFormed plan.now }
     ensures map { IfOk result (λ clocks. OnlyClocks plan.now clocks) }

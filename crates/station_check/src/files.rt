@@ -21,7 +21,8 @@ const SIZES: Sizes = Sizes {
     all: MAX_ALL_BYTES,
 };
 
-/// The audio files of a plan, each read once and none decoded; or the first fault of their loading.
+/// Reads the audio files of a plan, each once, and keeps their bytes; none is decoded yet.
+/// The `Err` has the first fault of their loading: a read that failed, want of memory, or a refusal of the plan.
 pub fn read_files<S: Shelf>(
     alloc: Global,
     plan: &Plan,
@@ -39,7 +40,8 @@ pub fn read_files<S: Shelf>(
     }
 }
 
-/// Whether the audio files of a plan can be loaded, or the first fault of that. Each is read once, and none is kept.
+/// Checks that the audio files of a plan can be loaded: `Ok` if so, and else the first fault of that.
+/// Each is read once, and none is kept.
 pub fn check_files<S: Shelf>(alloc: Global, plan: &Plan, shelf: &mut S) -> Result<(), CheckEnd>
     requires { IsWellFormed plan.now }
     ensures can { OnOk result (ForSome (S.told shelf.old).files

@@ -22,8 +22,8 @@ pub fn output_name(alloc: Global, sink: &SinkPlan) -> Result<Text, Memory>
     }
 }
 
-/// Refuses the first output of a plan that may have gaps though the script does not allow it: it needs an infallible
-/// source and has none.
+/// Refuses the first output of a plan that may have gaps though the script does not allow it.
+/// Such an output needs an infallible source, one that offers a cell at each instant, and has none.
 pub fn check_gaps(alloc: Global, plan: &Plan) -> Result<(), CheckEnd>
     requires { IsWellFormed plan.now }
     ensures safe { OnOk result (IsUngapped plan.now) }

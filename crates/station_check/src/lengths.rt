@@ -14,7 +14,8 @@ use stations::StationFault;
 use std::alloc::Global;
 use wav_io::{header, header_wide};
 
-/// Refuses the first output that is too long for the header of its file after so many ticks, at most 1000000000.
+/// Refuses the first output of a plan that is too long after so many ticks: the size field of its WAV header cannot
+/// hold its bytes. `Ok` says that no output is.
 pub fn check_lengths(alloc: Global, plan: &Plan, ticks: u64) -> Result<(), CheckEnd>
     requires plan { IsWellFormed plan.now }
     requires few { ticks ≤ 1000000000 }
@@ -55,8 +56,8 @@ fn is_too_long(plan: &Plan, ticks: u64, sink: &SinkPlan) -> bool
     }
 }
 
-// Whether so many samples of each channel are too many for the header of a WAV file, which has 24 bits a sample if
-// `wide`, and otherwise 16.
+// Whether so many samples of each channel are too many for a WAV file: its size has no room in the header.
+// A sample has 24 bits if the file is `wide`, and otherwise 16; `kind` is mono or stereo.
 fn has_no_header(wide: bool, kind: Kind, rate: u32, samples: u64) -> bool
     requires { rate ≤ MAX_RATE }
     ensures { result ≡ is_none (header_at wide kind rate samples) }

@@ -13,9 +13,9 @@ use liq_base::Memory;
 use plan_core::{Plan, SinkPlan};
 use std::alloc::Global;
 
-/// The report of a check: a line for each output, with its clock and whether its source is infallible; and then a line
-/// for each buffer, with the main clocks in which its feed and its reader lie, the samples that it gathers before it
-/// plays, and the chunks that it may hold.
+/// Makes the report of a check. First comes a line for each output: its clock, and whether its source is infallible,
+/// that is, never silent. Then comes a line for each buffer: the main clocks of its feed and of its reader, the samples
+/// that it gathers before it plays, and the chunks that it may hold.
 pub fn check_report(alloc: Global, plan: &Plan, clocks: &ClockMap) -> Result<String, Memory>
     requires { IsWellFormed plan.now }
     ensures { IfOk result (λ text. (mark : ℕ → Bool) × IsMarking plan.now.nodes mark
@@ -67,7 +67,8 @@ fn fallible_word(infallible: bool) -> &'static str
     if infallible { "infallible" } else { "fallible" }
 }
 
-// The name of the main clock of a node; empty if it lies in a sub-clock.
+// The name of the main clock of a node; empty if it lies in a sub-clock. A node that is not there counts as one of main
+// clock 0.
 fn clock_name(clocks: &ClockMap, node: u32) -> &str
     ensures { result.now ≡ clock_name clocks.now node }
 {

@@ -20,9 +20,10 @@ use sound_looks::{ListLook, Look};
 use std::alloc::Global;
 use track_library::{Rules, Sizes};
 
-/// What a plan is, and what becomes of each file that it plays, as one object of JSON. `ats` has the byte of the script
-/// at which the call of each source begins. Each list and each audio file is read once, and of the audio files one is
-/// held at a time. Of a plan that plays none nothing is read.
+/// Tells as one object of JSON what a plan is, and what becomes of each file that it plays.
+/// `ats` has the byte of the script at which the call of each source begins; `sizes` has the most bytes of sounds.
+/// Each list and each audio file is read once, and one audio file is held at a time; without files nothing is read.
+/// A file that cannot be used is told, so an `Err` is want of memory alone.
 pub fn tell_files<S: Shelf>(
     alloc: Global,
     plan: &Plan,
@@ -64,8 +65,9 @@ pub fn tell_files<S: Shelf>(
     Ok(out.into_inner())
 }
 
-// Writes the whole JSON object of a plan and its files: the plan, what looks at its lists and audio files found, the
-// bytes of all sounds, and the limits.
+// Writes the whole JSON object of a plan and its files: the plan, its lists and audio files, the bytes of all sounds,
+// and the limits in `rules`. `lists` and `sounds` have names; `list_looks` and `looks` have what was found of each.
+// `ats` has the byte at which the call of each source begins, and `inferred` which are never silent, and the clocks.
 fn push_all(
     alloc: Global,
     out: &mut Out,

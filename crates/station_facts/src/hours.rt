@@ -24,8 +24,8 @@ const MOST_OF_ALL: u64 = 100_000;
 /// How many spans are told of a case, at most.
 const MOST_OF_CASE: u64 = 2000;
 
-/// When in the week each case of each switch of a plan is the first that holds, and when none holds, as one object of
-/// JSON. `ats` has the byte of the script at which the call of each source begins.
+/// Tells, as one object of JSON, when in the week each case of each switch of a plan is the first that holds, and when
+/// none holds. `ats` has the byte of the script at which the call of each source begins.
 pub fn tell_hours(alloc: Global, plan: &Plan, ats: &[usize]) -> Result<Vec<u8>, Memory>
     requires { length ats.now ≡ length plan.now.nodes }
     ensures { IfOk result (λ told. AreHours plan.now ats.now told.items) }
@@ -45,8 +45,9 @@ fn push_week(alloc: Global, out: &mut Out, plan: &Plan, ats: &[usize]) -> Result
     Ok(())
 }
 
-// Writes the JSON object of the switches among these sources. At most `most` spans are told of a case; `known` keeps
-// the hours of the last switch.
+// Writes the JSON object of the switches among these sources; `ats` has the byte at which the call of each begins.
+// Of a case with more than `most` spans of the week only their number is told.
+// `known` keeps the hours of the switches before, since the next one may have the same cases.
 fn push_switches<'a>(
     alloc: Global,
     out: &mut Out,
@@ -76,7 +77,8 @@ fn most_spans(nodes: &[Node]) -> u64
     share.min(MOST_OF_CASE)
 }
 
-// How many cases these sources have; where they are more than 100,000, 100,001.
+// How many cases these sources have, with one for the hours of each switch at which none holds.
+// Where they are more than 100,000, it is 100,001: then no span is told, and more need not be known.
 fn all_cases(nodes: &[Node]) -> u64
     ensures { result ≡ cases_to 0 nodes.now }
 {
@@ -87,7 +89,8 @@ fn all_cases(nodes: &[Node]) -> u64
     all
 }
 
-// How many cases this source and others with `all` cases have; where they are more than 100,000, 100,001.
+// How many cases this source and others with `all` cases have. Where they are more than 100,000, it is 100,001, so that
+// the sum cannot overflow.
 fn more_cases(all: u64, op: &Op) -> u64
     requires { all ≤ 100001 }
     ensures is { result ≡ min (all + cases_in op.now) 100001 }
@@ -107,8 +110,9 @@ fn cases_in(op: &Op) -> u64
     }
 }
 
-// Writes the object of each switch among these sources. The hours of the last switch are kept in `known`, since the
-// next one may have the same cases.
+// Writes the object of each switch among these sources, and passes over all others.
+// `ats` has the byte at which the call of each source begins; at most `most` spans are told of a case.
+// The hours of the last switches are kept in `known`, since the next one may have the same cases.
 fn push_each_switch<'a>(
     alloc: Global,
     out: &mut Out,
@@ -129,8 +133,8 @@ fn push_each_switch<'a>(
     Ok(())
 }
 
-// Writes the object of source `number` if it is a switch, and otherwise nothing; its call begins at byte `at` of the
-// script.
+// Writes the object of source `number` if it is a switch, and otherwise nothing; its call begins at byte `at`.
+// At most `most` spans are told of a case; `known` keeps the hours of the last switches for the next one.
 fn push_source<'a>(
     alloc: Global,
     out: &mut Out,
@@ -153,7 +157,7 @@ fn push_source<'a>(
 }
 
 // Finds the hours of switch `number` from the predicates of its cases, and writes its object; its call begins at byte
-// `at` of the script.
+// `at`, and at most `most` spans are told of a case. The hours stay in `known`, and are not found anew for equal cases.
 fn push_switch<'a>(
     alloc: Global,
     out: &mut Out,
@@ -173,8 +177,9 @@ fn push_switch<'a>(
     Ok(())
 }
 
-// Writes the object of switch `number`, by the spans of its cases and those at which none holds; no more than `most`
-// spans are told of a case.
+// Writes the object of switch `number`, whose call begins at byte `at` of the script.
+// `cases` has the spans of the week of each case, and `none` those at which no case holds.
+// Of a case with more than `most` spans only their number is told.
 fn push_hours(
     out: &mut Out,
     cases: &[Vec<Span>],
@@ -194,7 +199,7 @@ fn push_hours(
     Ok(())
 }
 
-// Writes the member `cases` of a switch, a list with the spans of each case.
+// Writes the member `cases` of a switch, a list with the spans of each case, unless these are more than `most`.
 fn push_cases(out: &mut Out, cases: &[Vec<Span>], most: u64) -> Result<(), Memory>
     ensures { OnOk result (Adds out.old out.new
         (list_member (codes "cases") (hours_object most) (map spans_in cases.now))) }
@@ -204,7 +209,7 @@ fn push_cases(out: &mut Out, cases: &[Vec<Span>], most: u64) -> Result<(), Memor
     end_list(out)
 }
 
-// Writes the object of each case of a switch, one after another: its spans of the week.
+// Writes the object of each case of a switch, one after another: its spans of the week, unless more than `most`.
 fn push_each_case(out: &mut Out, cases: &[Vec<Span>], most: u64) -> Result<(), Memory>
     ensures { OnOk result (Adds out.old out.new (each (hours_object most) (map spans_in cases.now))) }
 {
@@ -214,7 +219,7 @@ fn push_each_case(out: &mut Out, cases: &[Vec<Span>], most: u64) -> Result<(), M
     Ok(())
 }
 
-// Writes the member `none` of a switch, the spans at which no case holds.
+// Writes the member `none` of a switch, the spans at which no case holds, unless these are more than `most`.
 fn push_none(out: &mut Out, spans: &[Span], most: u64) -> Result<(), Memory>
     ensures { OnOk result (Adds out.old out.new (key (codes "none") ∷ hours_object most spans.now)) }
 {

@@ -19,7 +19,7 @@ pub struct Inferred {
     pub clocks: Result<ClockMap, ClockFault>,
 }
 
-/// Infers which sources of a plan are never silent, and its clocks.
+/// Infers which sources of a plan are never silent, and its clocks, or why it has none: that is no `Err` here.
 pub fn infer(alloc: Global, plan: &Plan) -> Result<Inferred, Memory>
     requires { IsWellFormed plan.now }
     ensures { IfOk result (IsInferred plan.now) }
@@ -29,7 +29,8 @@ pub fn infer(alloc: Global, plan: &Plan) -> Result<Inferred, Memory>
     Ok(Inferred { marks, clocks })
 }
 
-/// The clocks of a plan, or why it has none. Want of memory is the outer error, and no such cause.
+/// Assigns the nodes of a plan to clocks. The inner `Err` says why the plan can have none, and is told like the clocks.
+/// The outer `Err` is want of memory, after which nothing is told.
 fn clocks_of(alloc: Global, plan: &Plan) -> Result<Result<ClockMap, ClockFault>, Memory>
     requires { IsWellFormed plan.now }
     ensures { IfOk result (AreClocks plan.now) }

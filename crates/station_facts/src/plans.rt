@@ -22,8 +22,9 @@ use std::alloc::Global;
 use time_pred::SharedPred;
 use week_windows::{Known, Windows, unknown, windows_again};
 
-/// Writes to `out` what a plan is, as members of a JSON object: its rate, its tick, its outputs and its sources. `ats`
-/// has the byte of the script at which the call of each source begins.
+/// Writes to `out` what a plan is, as members of a JSON object: its rate, its tick, its outputs and its sources.
+/// `ats` has the byte of the script at which the call of each source begins.
+/// `inferred` says which sources are never silent, and in which clocks the sources lie.
 pub fn push_plan(
     alloc: Global,
     out: &mut Out,
@@ -101,7 +102,8 @@ fn push_sides(out: &mut Out, nodes: &[Node], node: u32) -> Result<(), Memory>
     }
 }
 
-// Writes the member `clock`, the name of the main clock of this node, if the plan has clocks.
+// Writes the member `clock`, the name of the main clock of this node. Nothing is written for a node of a sub-clock, or
+// where `clocks` is a fault since the plan has none.
 fn push_clock(out: &mut Out, clocks: &Result<ClockMap, ClockFault>, node: u32) -> Result<(), Memory>
     ensures { OnOk result (Adds out.old out.new (clock_members clocks.now node)) }
 {
@@ -141,8 +143,8 @@ fn push_clock_name(out: &mut Out, names: &[Text], number: u32) -> Result<(), Mem
     }
 }
 
-// Writes the member `sources` of a plan, a list with an object for each. `marks` has of each whether it is never
-// silent, and `ats` the byte of the script at which its call begins.
+// Writes the member `sources` of a plan, a list with an object for each node.
+// `marks` has of each whether it is never silent, and `ats` the byte of the script at which its call begins.
 fn push_sources(
     alloc: Global,
     out: &mut Out,
@@ -159,8 +161,8 @@ fn push_sources(
     end_list(out)
 }
 
-// Writes the object of each source, one after another. The windows of the last switch are kept in `known`, since the
-// next one may have the same cases.
+// Writes the object of each source, one after another; it ends where `marks` or `ats` have no more.
+// The windows that were found are kept in `known`, since a later switch may have the same cases.
 fn push_each_source<'a>(
     alloc: Global,
     out: &mut Out,
@@ -184,8 +186,9 @@ fn push_each_source<'a>(
     Ok(())
 }
 
-// Writes the JSON object of a source: its operator, its channels, its children, whether it is never silent, and byte
-// `at` of the script, at which its call begins.
+// Writes the JSON object of a source: its operator, its channels, its children, and two facts from elsewhere.
+// `always` says that it is never silent, and `at` is the byte of the script at which its call begins.
+// `known` keeps the windows of the switches before, for one with the same cases.
 fn push_source<'a>(
     alloc: Global,
     out: &mut Out,
@@ -229,6 +232,7 @@ fn push_each_child(out: &mut Out, children: &[u32]) -> Result<(), Memory>
 }
 
 // Writes the member `op`, the operator of a source, and members for what it has beside its children.
+// `known` keeps the windows of the switches before, for one with the same cases.
 fn push_op<'a>(
     alloc: Global,
     out: &mut Out,
@@ -301,7 +305,8 @@ fn push_choice(out: &mut Out, word: &str, sensitive: bool) -> Result<(), Memory>
     Ok(())
 }
 
-// Writes the members of a switch: its word, whether it is track-sensitive, and the windows of its cases.
+// Writes the members of a switch: its word, whether it is track-sensitive, and for each case its windows of the week,
+// found from its predicate. `known` keeps those of the switches before, which serve again where the cases are the same.
 fn push_switch<'a>(
     alloc: Global,
     out: &mut Out,

@@ -19,6 +19,7 @@ use std::alloc::Global;
 use track_library::{Rules, Unusable};
 
 /// Looks on the shelf at each list of these names, one after another, and returns what was found of each.
+/// A list that cannot be read or used is a finding too; an `Err` is want of memory alone.
 pub fn look_at_lists<S: Shelf>(
     alloc: Global,
     shelf: &mut S,
@@ -37,6 +38,7 @@ pub fn look_at_lists<S: Shelf>(
 }
 
 /// Looks on the shelf at each audio file of these names, one after another, and returns what was found of each.
+/// `rules` has the plan's rate and the most bytes of a sound. An `Err` is want of memory alone.
 pub fn look_at_sounds<S: Shelf>(
     alloc: Global,
     shelf: &mut S,
@@ -88,7 +90,8 @@ fn push_list(out: &mut Out, name: &Text, found: &ListLook) -> Result<(), Memory>
     end(out)
 }
 
-// Writes the members that say what a look at a list found: its names, or why it is of no use.
+// Writes the members that say what a look at a list found: that it could not be read, why it is of no use, or its
+// names and how many lines were skipped as no UTF-8.
 fn push_list_look(out: &mut Out, found: &ListLook) -> Result<(), Memory>
     ensures { OnOk result (Adds out.old out.new (list_look_members found.now)) }
 {
@@ -124,6 +127,7 @@ fn push_each_entry(out: &mut Out, names: &[Text]) -> Result<(), Memory>
 }
 
 /// Writes the member `sounds`: of each audio file its name and what a look at it found.
+/// `rules` has the most bytes for which a sound that is used may count.
 pub fn push_sounds(
     out: &mut Out,
     names: &[Text],
@@ -166,7 +170,8 @@ fn push_sound(out: &mut Out, name: &Text, found: Look, rules: Rules) -> Result<(
     end(out)
 }
 
-// Writes the members that say what a look at an audio file found: its facts, or why it is of no use.
+// Writes the members that say what a look at an audio file found: that it could not be read, why it is of no use, or
+// its facts and whether `rules` let it be used.
 fn push_look(out: &mut Out, found: Look, rules: Rules) -> Result<(), Memory>
     ensures { OnOk result (Adds out.old out.new (look_members rules found)) }
 {
@@ -177,7 +182,8 @@ fn push_look(out: &mut Out, found: Look, rules: Rules) -> Result<(), Memory>
     }
 }
 
-// Writes the members of a sound: whether it is used, its format and its lengths.
+// Writes the members of a sound: whether it is used, its format, its lengths, and for how many bytes it counts.
+// It is used unless it counts for more bytes than `rules.file`.
 fn push_facts(out: &mut Out, facts: Facts, rules: Rules) -> Result<(), Memory>
     ensures { OnOk result (Adds out.old out.new (facts_members rules facts)) }
 {
@@ -200,7 +206,8 @@ fn use_word(fits: bool) -> &'static str
     if fits { "used" } else { "too large" }
 }
 
-// Writes the members that say why a file or a list is of no use: it is missing, too large or no WAV file.
+// Writes the members that say why a file or a list is of no use: it is missing, too large or no WAV file. Of the last
+// the number of what is wrong is told too.
 fn push_unusable(out: &mut Out, fault: Unusable) -> Result<(), Memory>
     ensures { OnOk result (Adds out.old out.new (unusable_members fault)) }
 {
@@ -221,7 +228,8 @@ fn push_state(out: &mut Out, word: &str) -> Result<(), Memory>
     push_text(out, "state", word)
 }
 
-/// For how many bytes all sounds count that are used; more than a u64 holds count as want of memory.
+/// For how many bytes all sounds count that are used: those that count for no more than `rules.file` each.
+/// A sum that a u64 cannot hold counts as want of memory.
 pub fn all_bytes(looks: &[Look], rules: Rules) -> Result<u64, Memory>
     ensures { IfOk result (λ bytes. bytes ≡ all_bytes rules looks.now) }
 {

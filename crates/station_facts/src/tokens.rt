@@ -11,7 +11,8 @@ use liq_base::Memory;
 use script_lex::{LexFault, Token, TokenKind, lex_front};
 use std::alloc::Global;
 
-/// The tokens of a script as far as they go, and why they go no further, as one object of JSON.
+/// Tells as one object of JSON the tokens of a script, up to the first fault, and that fault if there is one.
+/// An `Err` is want of memory alone.
 pub fn tell_tokens(alloc: Global, text: &[u8]) -> Result<Vec<u8>, Memory>
     ensures { IfOk result (λ told. AreTold text.now told.items) }
 {
@@ -21,7 +22,7 @@ pub fn tell_tokens(alloc: Global, text: &[u8]) -> Result<Vec<u8>, Memory>
     Ok(out.into_inner())
 }
 
-/// What is told of each script that is longer than a script may be: no token, and fault 4.
+/// Tells of a script that is longer than a script may be: no token, and fault 4. Its text need not be read for that.
 pub fn tell_too_long(alloc: Global) -> Result<Vec<u8>, Memory>
     ensures { IfOk result (λ told. (text : List ℕ) → MAX_SCRIPT_BYTES < length text → AreTold text told.items) }
 {
@@ -108,6 +109,7 @@ fn push_stop(out: &mut Out, stop: Option<LexFault>) -> Result<(), Memory>
 }
 
 // Writes the member `fault`, the number of a fault, and `at`, the byte of the script at which it is, if it has one.
+// Want of memory is no fault of the script, so nothing is written for it.
 fn push_fault(out: &mut Out, fault: LexFault) -> Result<(), Memory>
     ensures { OnOk result (Adds out.old out.new (fault_members fault)) }
 {

@@ -12,7 +12,8 @@ ghost use Rattle.stations.specs.Streams.{HasNoGaps, body_size, bytes_of, header_
 ghost use Rattle.stream_meaning.specs.Sinks.{kind_of, ticks_bytes};
 ghost use Rattle.wav_io.specs.Header.{block_align, padded};
 
-/// Whatever buffers answer, an output of an infallible node has no gap.
+/// Whatever buffers answer, an output has no gap if its node is infallible, that is, offers a cell at each instant by
+/// the rule of `docs/fallible.md`.
 pub fn infallible_outputs_have_no_gaps()
     ensures { (files : Files) (station : Station) (run : Run) → IsWellFormed station.plan
         → IsRenderable files station.plan station.ticks station.library station.clocks → station.start < 604800
@@ -21,8 +22,9 @@ pub fn infallible_outputs_have_no_gaps()
     stream_meaning::laws::infallible_nodes_offer();
 }
 
-/// Where no buffer joins two clocks, a lawful run renders what one thread renders in rounds, whatever the length of its
-/// windows; so does a replay.
+/// Where no buffer joins two running clocks, that is, is fed in one and read in the other, a lawful run renders what
+/// one thread renders in rounds, one tick of each clock after another. The length of its windows does not matter.
+/// So it is for a replay.
 pub fn threads_render_as_one_thread()
     ensures { (files : Files) (station : Station) (run : Run) → IsWellFormed station.plan
         → IsRenderable files station.plan station.ticks station.library station.clocks → station.start < 604800
@@ -32,7 +34,8 @@ pub fn threads_render_as_one_thread()
     run_records::laws::rounds_are_one();
 }
 
-/// A rendering on one thread has one record, whether by rounds or by a trace, so it always writes and tells the same.
+/// A rendering on one thread has one record of its calls on buffers, so it always writes and tells the same.
+/// So it is for rounds, one tick of each clock after another, and for the turns of a trace.
 pub fn one_thread_has_one_record()
     ensures { (files : Files) (station : Station) (run : Run) → IsWellFormed station.plan
         → IsRenderable files station.plan station.ticks station.library station.clocks → station.start < 604800
@@ -41,8 +44,8 @@ pub fn one_thread_has_one_record()
     run_records::laws::rounds_are_one();
 }
 
-/// A rendering that was broken off begins what one thread renders in rounds, where that is determined: in rounds, or
-/// where no buffer joins two clocks.
+/// A rendering that was broken off begins what one thread renders in rounds, one tick of each clock after another.
+/// So it is where that is determined: for rounds themselves, or where no buffer joins two running clocks.
 pub fn broken_renderings_begin_those_of_one_thread()
     ensures { (files : Files) (station : Station) (run : Run) → IsWellFormed station.plan
         → IsRenderable files station.plan station.ticks station.library station.clocks → station.start < 604800
@@ -55,8 +58,8 @@ pub fn broken_renderings_begin_those_of_one_thread()
     run_records::laws::rounds_have_a_record();
 }
 
-/// The bytes of an output are its header, then those of all ticks, as many as its samples take, and then one zero byte,
-/// where these are odd.
+/// The bytes of an output are its header of 44 bytes, then those of the samples of all ticks, and then one zero byte
+/// where their count is odd, as the form of WAV files asks.
 pub fn outputs_are_whole()
     ensures bytes { (station : Station) (run : Run) (wide : Bool) (node : ℕ) → bytes_of station run wide node
         ≡ header_for (setting_of_run station run) wide station.ticks node

@@ -7,9 +7,9 @@ ghost use Rattle.trace_records.specs.Told.{IsToldLegal, are_legal, begins_true, 
 
 use buffer_ends::WindowLog;
 
-/// Whether some window of a buffer of at most `capacity` chunks, which opens with `opening`, is legal and has these
-/// answers: of its puts, true for a chunk that was accepted, and of its takes, true for a chunk that was got. It takes
-/// a time that is linear in their number.
+/// Whether a queue of at most `capacity` chunks, which holds `opening` at first, can answer so in some order of calls.
+/// `puts` are true for each chunk that was accepted, and `takes` for each that was got.
+/// It takes a time that is linear in their number.
 pub fn is_legal(capacity: u32, opening: u32, puts: &[bool], takes: &[bool]) -> bool
     requires some { 1 ≤ capacity }
     requires fits { opening ≤ capacity }
@@ -19,8 +19,9 @@ pub fn is_legal(capacity: u32, opening: u32, puts: &[bool], takes: &[bool]) -> b
     passes(capacity, opening, puts, takes)
 }
 
-/// How many chunks are left by a window of a buffer of at most `capacity`, which opens with `opening` and has these
-/// answers. `None` exactly where no legal window has them.
+/// How many chunks a window of a buffer leaves to the next one, if it holds `opening` at first and has these answers.
+/// `puts` are true for each chunk that was accepted, and `takes` for each that was got.
+/// `None` exactly where no queue of at most `capacity` chunks can answer so.
 pub fn next_opening(capacity: u32, opening: u32, puts: &[bool], takes: &[bool]) -> Option<u32>
     requires some { 1 ≤ capacity }
     requires fits { opening ≤ capacity }
@@ -51,8 +52,9 @@ pub fn are_legal(capacity: u32, windows: &[WindowLog]) -> bool
     true
 }
 
-// Whether the answers of a window pass the test for a legal one: the counts of chunks fit, no chunk of the opening is
-// missed, and each refused put had a full buffer.
+// Whether the answers of a window pass the test for a legal one, that is, one of a queue of at most `capacity` chunks.
+// No more chunks were got than were there, and no more stay than have room.
+// As long as chunks of the `opening` are left, each take got one. Each refused put can have met a full buffer.
 fn passes(capacity: u32, opening: u32, puts: &[bool], takes: &[bool]) -> bool
     ensures { result ≡ is_legal capacity opening puts.now takes.now }
 {
@@ -104,8 +106,9 @@ struct Place {
     floor: u64,
 }
 
-// Whether each refused put of a window can have found a full buffer: enough chunks came before it, by the takes that
-// must come before it.
+// Whether each refused put of a window can have found a full buffer of `capacity` chunks, `opening` of them at first.
+// Of the takes, just those count as before it that must be. If g chunks were got up to the last empty one of them, at
+// least `capacity` + g chunks must have come before the put.
 fn refusals_fit(capacity: u32, opening: u32, puts: &[bool], takes: &[bool]) -> bool
     ensures { result ≡ refusals_fit capacity opening 0 capacity puts.now takes.now }
 {
@@ -128,8 +131,9 @@ fn refusals_fit(capacity: u32, opening: u32, puts: &[bool], takes: &[bool]) -> b
     true
 }
 
-// Passes over the takes of a window that come before a refused put, from a place on: to the first empty take before
-// which `count` chunks were got, which is how many were there or put before the refused one.
+// Passes from a place on over the takes of a window that must come before a refused put, and answers the place behind.
+// `count` chunks were there or put before that put. An empty take before which fewer were got must come before it.
+// So the buffer was empty at that take, and `capacity` chunks more must have come after it: that is the new `floor`.
 fn pass(capacity: u32, count: u64, from: Place, takes: &[bool]) -> Place
     requires at { from.at ≤ length takes.now }
     requires got { from.got ≤ from.at }

@@ -24,8 +24,8 @@ use std::alloc::Global;
 use std::collections::VecDeque;
 use trace_records::are_legal;
 
-// Makes a buffer of this capacity with the answers that its log in a trace tells, before any run; and the numbers of
-// answers up to the end of each window.
+// Makes a buffer of this capacity that answers as its log in a trace tells, before any run.
+// Beside it come its `Ends`: for each window of the log, how many puts and how many takes there are up to its end.
 fn told_buffer(alloc: Global, capacity: u32, log: &BufferLog) -> Result<(ToldBuffer, Ends), Memory>
     ensures buffer { IfOk result (λ r. r.0 ≡ new_state capacity (map pair_of log.now)) }
     ensures ends { IfOk result (λ r. AreEnds (map pair_of log.now) r.1) }
@@ -56,7 +56,8 @@ fn told_buffer(alloc: Global, capacity: u32, log: &BufferLog) -> Result<(ToldBuf
     ))
 }
 
-/// Makes the buffers of a plan with the answers that a trace tells of each, and says where their windows end.
+/// Makes the buffers of a plan, each of which answers as its log in a trace tells; `logs` has one log for each plan.
+/// Beside them come their `Ends`: for each window, how many puts and takes of the buffer there are up to its end.
 pub fn told_buffers(
     alloc: Global,
     plans: &[BufferPlan],
@@ -109,9 +110,9 @@ fn overlap_of(plan: &Plan, node: u32) -> u64 {
     }
 }
 
-// A bound on the cells that the reader of a buffer, which is this node, takes in a tick, where an empty take counts as
-// the samples of a tick. A crossfade gives a tick of n samples when its sub-clock has run at most twice as many and
-// twice the overlap.
+// A bound on the cells that this node, the reader of a buffer, takes in a tick; an empty take counts as a tick.
+// The walk goes up from the node through the crossfades over it to the main clock.
+// For n samples of a crossfade its sub-clock runs at most 2n and twice (overlap + 1) instants: `times` and `more`.
 fn reach_of(plan: &Plan, clocks: &ClockMap, node: u32) -> u64 {
     let frame = u64::from(plan.frame);
     let mut times = 1u64;
@@ -134,8 +135,8 @@ fn reach_of(plan: &Plan, clocks: &ClockMap, node: u32) -> u64 {
         .saturating_add(frame.saturating_mul(3))
 }
 
-// By a buffer's number, a bound on the cells that its reader takes in a tick, with its prefill. `nodes` has the
-// readers.
+// By a buffer's number, a bound on the cells that its reader takes in a tick, with the cells of its prefill.
+// `nodes` has, by a buffer's number, the node that reads it.
 fn reaches_of(
     alloc: Global,
     plan: &Plan,
@@ -153,8 +154,8 @@ fn reaches_of(
     Ok(reaches)
 }
 
-/// Finds, for each buffer of a plan, the main clocks of its two ends, the node that reads it, and a bound on the cells
-/// which that takes in a tick.
+/// Finds, for each buffer of a plan, the main clocks of its feed and of its reader, and the node that reads it.
+/// To these comes a bound on the cells which that node takes in a tick, with the prefill.
 pub fn sides_of(alloc: Global, plan: &Plan, clocks: &ClockMap) -> Result<Sides, Memory>
     requires { IsWellFormed plan.now }
     ensures { IfOk result (λ sides. (setting : Setting) → setting.plan ≡ plan.now → setting.clocks ≡ clocks.now.of

@@ -24,8 +24,8 @@ fn is_at(ends: &[usize], window: u64, at: usize) -> bool
     ends[window as usize] == at
 }
 
-// Whether the clock is at the end of a window on a buffer: with its puts if it feeds it, and with its takes if it reads
-// it.
+// Whether the clock whose run it is made just the calls on a buffer that there are up to the end of this window.
+// Its puts count if it feeds the buffer, and its takes if it reads it.
 fn at_end(buffer: &ToldBuffer, ends: &Ends, window: u64) -> bool
     ensures right { result ≡ true → IsAtEnd buffer.now ends.now window }
     ensures wrong { result ≡ false → IsAtEnd buffer.now ends.now window → ⊥ }
@@ -39,7 +39,7 @@ fn at_end(buffer: &ToldBuffer, ends: &Ends, window: u64) -> bool
     true
 }
 
-// Whether the clock is at the end of this window on all buffers that it feeds or reads.
+// Whether the clock made just the calls that there are up to the end of this window, on all buffers it feeds or reads.
 fn at_ends(buffers: &[ToldBuffer], ends: &[Ends], window: u64) -> bool
     requires { length ends.now ≡ length buffers.now }
     ensures right { result ≡ true → AreAtEnd buffers.now ends.now window }
@@ -66,8 +66,9 @@ fn ends_with(window: u64, ticks: u64, tick: u64) -> bool
     tick == ticks - 1
 }
 
-/// How a run of `ticks` ticks goes on after tick number `tick`: as its calls were answered, but it fails if a window of
-/// `window` ticks ends there and the clock made other calls than the window has.
+/// Judges how a clock's run of `ticks` ticks goes on after tick number `tick`; `course` says how its calls were met.
+/// It is answered as it came, but `Fails` where a window of `window` ticks ends with this tick and the clock made more
+/// or fewer calls than the trace tells up to there.
 pub fn course_of(
     course: Course,
     buffers: &[ToldBuffer],

@@ -27,10 +27,10 @@ fn note_turn(turns: &mut Vec<TurnMade>, clock: u32, ticks: u64) -> Result<(), Me
     Ok(())
 }
 
-// Searches the turns by new engines, and adds them to `turns`: goes over the clocks in order, again and again, and
-// runs each from its first tick on, as far as it can be run with the chunks that are there. Returns whether all
-// `ticks` ticks of each were made; it ends if a pass over all clocks made no tick more, or if a clock cannot make its
-// ticks as the trace tells.
+// Goes over the clocks again and again, and runs each by a new engine from its first tick, as far as the chunks there
+// allow; its turns are added to `turns`. `window` is how many ticks a window has.
+// It answers `true` once all `ticks` ticks of each clock are made.
+// It answers `false` if a pass made no tick more, or if a clock cannot make its ticks as the trace tells.
 fn search_chunks(
     alloc: Global,
     station: &Station<'_>,
@@ -86,9 +86,10 @@ pub enum Search {
     Open,
 }
 
-// The number of the clock whose tick is tried when none surely has its chunks: one with a reader below a crossfade, at
-// best one whose next takes can be answered, and of these that which has made the fewest ticks. The number of all
-// clocks if there is none.
+// Picks the clock whose tick is tried when none surely has its chunks, by its number; `made` has each clock's ticks.
+// Only one with a reader below a crossfade is taken, since there the cells of a tick cannot be foreseen.
+// One whose next takes can be answered goes first, then one with fewer ticks.
+// The count of all clocks is answered if there is none.
 fn to_try(
     lives: &[LiveClock<'_>],
     buffers: &[ToldBuffer],
@@ -113,9 +114,9 @@ fn to_try(
     best
 }
 
-// Goes over the clocks in order, again and again, and lets each that seems to have its chunks go on as far as it can. A
-// pass that made no tick is followed by one that tries a clock; the search ends if this one made none, or if a call was
-// not answered as was foreseen.
+// Goes over the clocks `lives` again and again; each that seems to have its chunks goes on by a turn, added to `turns`.
+// After a pass without a tick, the next one makes a clock try a tick that may lack its chunks.
+// `Open` is answered if that pass makes none either, or if a take had to wait; `Refused` if a call has no right answer.
 fn pass_on(
     alloc: Global,
     station: &Station<'_>,
@@ -178,8 +179,8 @@ fn pass_on(
     Ok(Search::Found)
 }
 
-// Searches the turns with one engine for each clock, which is kept from turn to turn, so no tick is made again. On a
-// plan without buffers it makes no tick, and does not decide.
+// Searches the turns with one engine for each clock, which is kept from turn to turn, so no tick is made again.
+// A plan without buffers is left `Open`: its clocks wait for no chunk, so the other search decides it without a tick.
 fn find_live(
     alloc: Global,
     station: &Station<'_>,
@@ -214,8 +215,9 @@ fn find_live(
     found
 }
 
-// Searches the turns in which the clocks make all their ticks as the trace tells, and returns whether they do. If
-// engines that are kept from turn to turn do not decide, a search that makes each turn anew does, from the beginning.
+// Searches the turns in which the clocks make all their ticks as the trace tells.
+// `true`: there are such turns, and `turns` has them. `false`: no record whose ticks can be ordered has this text.
+// If engines that are kept from turn to turn do not decide, a search that runs each turn anew starts from nothing.
 fn search_turns(
     alloc: Global,
     station: &Station<'_>,
@@ -245,8 +247,9 @@ fn search_turns(
     search_chunks(alloc, station, taps, turns, sides, ends, window, ticks)
 }
 
-/// Searches the turns, one clock after another, in which the clocks make all their ticks as the trace tells; adds them
-/// to `turns`, and returns whether there are such turns. The buffers are empty again then.
+/// Searches the turns, one clock after another, in which each clock makes its `ticks` ticks as the trace tells.
+/// `true`: there are such turns, and `turns` has them. `false`: no record whose ticks can be ordered has this text.
+/// `ends` tells for each buffer where its windows of `window` ticks end. The buffers are empty again then.
 pub fn find_turns(
     alloc: Global,
     station: &Station<'_>,

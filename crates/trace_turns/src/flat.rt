@@ -7,7 +7,8 @@ use buffer_ends::WindowLog;
 use liq_base::Memory;
 use std::alloc::Global;
 
-// The answers of one end of a buffer in a window: of its puts, if `puts`, and otherwise of its takes.
+// The answers of one end of a buffer in a window: of its puts, if `puts`, and otherwise of its takes. A put answers
+// `true` if the chunk was accepted, and a take if it got one.
 fn side_of(window: &WindowLog, puts: bool) -> &[bool]
     ensures { result.now ≡ side_of puts window.now }
 {
@@ -17,8 +18,8 @@ fn side_of(window: &WindowLog, puts: bool) -> &[bool]
     &window.takes
 }
 
-/// Joins the answers of one end of a buffer over all windows, those of its puts if `puts`, and otherwise of its takes;
-/// and counts for each window how many there are up to its end.
+/// Joins the answers of one end of a buffer over all windows: those of its puts if `puts`, and otherwise of its takes.
+/// The second list has for each window how many answers there are up to its end.
 pub fn flatten(
     alloc: Global,
     windows: &[WindowLog],

@@ -17,8 +17,9 @@ use buffer_ends::BufferLog;
 use liq_base::Memory;
 use std::alloc::Global;
 
-/// Whether a trace, with as many buffers as the plan, tells a lawful record whose ticks can be ordered. If it does,
-/// `turns` has the turns in which the clocks make it, and the buffers are empty then.
+/// Whether a trace, with as many buffers as the plan, tells a lawful record whose ticks can be ordered.
+/// If it does, `turns` has the turns in which the clocks make it, and the buffers of `taps` are empty again.
+/// Each clock makes `ticks` ticks, in windows of `window` ticks; `ends` tells where they end in each buffer's `logs`.
 pub fn judge(
     alloc: Global,
     station: &Station<'_>,

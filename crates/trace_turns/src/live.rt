@@ -17,7 +17,8 @@ pub struct LiveClock<'a> {
     pub marks: Vec<Mark>,
 }
 
-// Makes main clock `clock` before its first tick, with an engine of its own and a mark at the start of each buffer.
+// Makes main clock `clock` before its first tick, with an engine of its own, and for each buffer the mark of no call.
+// An engine is refused for want of memory alone.
 fn new_clock<'a>(alloc: Global, station: &Station<'a>, clock: u32) -> Result<LiveClock<'a>, Memory>
     requires setting { IsSetting (base_at station.now) station.now.clocks.now }
     ensures new { IfOk result (λ live. IsNewClock (base_at station.now) clock live) }

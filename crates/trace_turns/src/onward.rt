@@ -38,9 +38,10 @@ fn end_of(ends: &[Ends], b: usize, window: u64) -> usize {
     ends[b].takes[window as usize]
 }
 
-// Foresees whether buffer b, which another clock feeds, has the chunks for the takes of a tick in this window that
-// follow a mark. A reader in the main clock says how many cells it wants; of another it is known how many it wants at
-// most.
+// Foresees whether buffer b, which another clock feeds, holds the chunks for the takes of the reader's next tick.
+// `mark` says how far its takes came; the tick lies in window number `window`, so no take behind that one counts.
+// A reader in the main clock says how many cells it wants (`missing`).
+// One below a crossfade does not, so the bound in `sides.reaches` counts.
 fn can_serve(
     engine: &ClockEngine<'_, NoSink>,
     buffer: &ToldBuffer,
@@ -59,8 +60,8 @@ fn can_serve(
     }
 }
 
-// Foresees whether the chunks that are there suffice for the next tick of a clock in its turn, in window number
-// `window`: whether each buffer that the clock reads and another feeds can serve it.
+// Foresees whether the clock whose turn it is has the chunks for its next tick, which lies in window number `window`.
+// `true`: each buffer that the clock reads and another feeds holds enough. A buffer it feeds itself is not asked.
 fn can_go(
     engine: &ClockEngine<'_, NoSink>,
     buffers: &[ToldBuffer],
@@ -80,7 +81,7 @@ fn can_go(
     true
 }
 
-// Whether buffer b joins another clock to clock `clock`, which reads it.
+// Whether main clock `clock` reads buffer b and another clock feeds it, so that the one may have to wait for the other.
 fn joins(sides: &Sides, b: usize, clock: u32) -> bool {
     b < sides.readers.len()
         && b < sides.feeders.len()
@@ -88,8 +89,9 @@ fn joins(sides: &Sides, b: usize, clock: u32) -> bool {
         && sides.feeders[b] != clock
 }
 
-/// Foresees whether a clock that has made `from` of its `ticks` ticks has the chunks for one more, so that a turn of
-/// it is worth while.
+/// Foresees whether a clock that has made `from` of its `ticks` ticks has the chunks for one more: `true` if a turn of
+/// it is worth while, `false` also if all its ticks are made. Each buffer that another clock feeds must hold enough.
+/// `live.marks` says how far the clock's calls came on each buffer; `ends` has where its windows of `window` ticks end.
 pub fn may_turn(
     live: &LiveClock<'_>,
     buffers: &[ToldBuffer],
@@ -124,8 +126,9 @@ pub fn may_turn(
     true
 }
 
-/// Two answers about a clock: whether some reader of it lies below a crossfade, so that it is not known how many cells
-/// the next tick takes; and whether the next take of each buffer that others feed can be answered.
+/// Asks two things of a clock, over the buffers that it reads and others feed.
+/// The first is `true` if some reader lies below a crossfade: then it is not known how many cells the next tick takes.
+/// The second is `true` if the next take of each of these buffers can be answered.
 pub fn may_try(live: &LiveClock<'_>, buffers: &[ToldBuffer], sides: &Sides) -> (bool, bool) {
     let clock = live.engine.clock();
     let mut unsure = false;
@@ -142,8 +145,8 @@ pub fn may_try(live: &LiveClock<'_>, buffers: &[ToldBuffer], sides: &Sides) -> (
 // The most ticks of a turn, so that no clock comes far ahead of the others.
 const TURN_TICKS: u64 = 16;
 
-// How many ticks a clock that has made `from` of its `ticks` ticks has made after a turn, at most: a turn is no longer
-// than `TURN_TICKS`.
+// How many ticks, of `ticks` in all, a clock has made at most after a turn that begins when it has made `from`.
+// A turn has no more than `TURN_TICKS` ticks.
 fn last_of(from: u64, ticks: u64) -> u64
     requires few { ticks ≤ 1000000000 }
     requires within { from ≤ ticks }
@@ -156,8 +159,9 @@ fn last_of(from: u64, ticks: u64) -> u64
     from + TURN_TICKS
 }
 
-/// Makes a few further ticks of a clock that has made `from` of its `ticks` ticks, as long as its takes seem to be
-/// answered. If `tried`, the first one is made in any case.
+/// Makes at most `TURN_TICKS` further ticks of a clock that has made `from` of its `ticks` ticks.
+/// It stops with `Made` before a tick for which chunks seem to lack; if `tried`, the first tick is made in any case.
+/// `Waits`: a take met no chunk after all. `Refused`: a call has no right answer, or a window ends with other calls.
 pub fn go_on(
     alloc: Global,
     engine: &mut ClockEngine<'_, NoSink>,
@@ -199,8 +203,10 @@ pub fn go_on(
     Ok(Reached::Made(until))
 }
 
-/// A turn of a clock that has made `from` of its `ticks` ticks, with the chunks that are there. If `tried`, its first
-/// tick is made in any case. The chunks that it got are let go. If the result is not `Made`, the clock cannot go on.
+/// Makes a turn of a clock that has made `from` of its `ticks` ticks, with the chunks that are there.
+/// If `tried`, its first tick is made even where chunks seem to lack.
+/// The calls go on from the clock's marks, which are set anew; the chunks that it got are freed.
+/// `Made` has its ticks in all. After `Waits` or `Refused` its engine cannot go on.
 pub fn live_turn(
     alloc: Global,
     live: &mut LiveClock<'_>,

@@ -63,6 +63,7 @@ fn is_output(sink: &SinkPlan, clocks: &[NodeClock], clock: u32) -> bool
 }
 
 // Makes sinks that keep nothing, one for each output of main clock `clock` among these sinks of a plan.
+// `clocks` has the clock of each node.
 fn count_outputs(
     alloc: Global,
     sinks: &[SinkPlan],

@@ -22,7 +22,8 @@ pub struct ToldTaps {
     pub course: Course,
 }
 
-// Takes from buffer number `buffer`, and says what the take met there.
+// Takes from buffer number `buffer` of the list, and says what the take met there. After an `Err` the buffers are as
+// they were.
 fn take_from(buffers: &mut Vec<ToldBuffer>, buffer: u32) -> Result<Taken, Memory>
     requires { buffer < length buffers.old.items }
     ensures taken { IfOk result (λ taken. (s : BufferState) × (buffers.new.items ≡ slice_set buffers.old.items buffer s)
@@ -33,7 +34,7 @@ fn take_from(buffers: &mut Vec<ToldBuffer>, buffer: u32) -> Result<Taken, Memory
     buffers[buffer as usize].take()
 }
 
-// Puts a chunk to buffer number `buffer`, and says what the put met there.
+// Puts a chunk to buffer number `buffer` of the list, and says what the put met there. An `Err` gives the chunk back.
 fn put_into(
     buffers: &mut Vec<ToldBuffer>,
     buffer: u32,
@@ -48,8 +49,9 @@ fn put_into(
     buffers[buffer as usize].put(chunk)
 }
 
-/// Begins a run of main clock `clock` from its first tick on, over all buffers. By a buffer's number, `feeders` and
-/// `readers` are the main clocks of its ends.
+/// Sets each buffer to the start of a run of main clock `clock`, from its first tick on.
+/// By a buffer's number, `feeders` and `readers` have the main clocks that feed and read it.
+/// A buffer that the clock feeds is emptied, since it puts all its chunks anew.
 pub fn begin_run(buffers: &mut Vec<ToldBuffer>, feeders: &[u32], readers: &[u32], clock: u32)
     requires feeders { length feeders.now ≡ length buffers.old.items }
     requires readers { length readers.now ≡ length buffers.old.items }
@@ -61,8 +63,9 @@ pub fn begin_run(buffers: &mut Vec<ToldBuffer>, feeders: &[u32], readers: &[u32]
     }
 }
 
-/// Goes on with the run of main clock `clock`. By a buffer's number, `marks` says how far its calls came before, and
-/// `feeders` and `readers` are the main clocks of its ends.
+/// Sets each buffer to where the run of main clock `clock` paused, so that it can go on; no chunk is dropped.
+/// By a buffer's number, `marks` says how far the clock's calls came before.
+/// By the same number, `feeders` and `readers` have the main clocks that feed and read it.
 pub fn resume_run(
     buffers: &mut Vec<ToldBuffer>,
     feeders: &[u32],
@@ -82,7 +85,7 @@ pub fn resume_run(
     }
 }
 
-/// Notes in `marks` how far the calls of a run came on each buffer, so that the run can go on there later.
+/// Notes in `marks`, by a buffer's number, how far the calls of a run came on it; so the run can go on there later.
 pub fn mark_run(buffers: &[ToldBuffer], marks: &mut Vec<Mark>)
     requires { length marks.old.items ≡ length buffers.now }
     ensures many { length marks.new.items ≡ length marks.old.items }
@@ -114,8 +117,8 @@ pub fn forget_run(buffers: &mut Vec<ToldBuffer>)
 }
 
 impl ToldTaps {
-    // Answers a take from a buffer in a run whose calls were all answered so far: a chunk or none. If it must wait or
-    // no answer is right, the course of the run says so from here on.
+    // Answers a take in a run whose calls were all answered so far: a chunk, or `None` where the trace tells of none.
+    // `None` is also given where no answer is right or the chunk is not there: the course then says `Fails` or `Waits`.
     fn take_told(&mut self, buffer: u32) -> Result<Option<Chunk>, Memory>
         requires known { buffer < length self.old.buffers.items }
         requires goes { self.old.course ≡ IsGoing }
@@ -144,8 +147,9 @@ impl ToldTaps {
         }
     }
 
-    // Answers a put of a chunk to a buffer in a run whose calls were all answered so far. If no answer is right, the
-    // course of the run says so from here on.
+    // Answers a put of a chunk to a buffer in a run whose calls were all answered so far.
+    // If no answer is right, the chunk is dropped as if accepted, and the course says `Fails` from here on.
+    // An `Err` is want of memory, and gives the chunk back.
     fn give_told(&mut self, buffer: u32, chunk: Chunk) -> Result<Gave, (Chunk, Memory)>
         requires known { buffer < length self.old.buffers.items }
         requires goes { self.old.course ≡ IsGoing }

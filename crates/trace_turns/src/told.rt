@@ -102,8 +102,9 @@ impl Model for ToldBuffer {
 }
 
 impl ToldBuffer {
-    /// Begins a run of a clock from its first tick on, which feeds the buffer or not, and reads it or not. What the
-    /// clock feeds it puts anew, so the buffer is empty then; the chunks of another clock stay.
+    /// Sets the buffer to the start of a clock's run; the clock feeds it if `fed`, and reads it if `read`.
+    /// A clock that feeds it puts all chunks anew, so the buffer is emptied; the chunks of another clock stay.
+    /// The old chunks go to `spare`, from which each put frees one, so the memory of one run serves the next.
     pub fn begin(&mut self, fed: bool, read: bool)
         ensures { self.new ≡ begun self.old fed read }
     {
@@ -172,8 +173,9 @@ impl ToldBuffer {
         }
     }
 
-    /// Foresees whether the chunks that are there suffice for the takes after this mark, until `cells` cells were got
-    /// or a take is told to find the buffer empty.
+    /// Foresees whether a clock that wants `cells` cells gets them from the chunks that are there, after this mark.
+    /// `true` also where a take is told to find the buffer empty before, or where no more takes are told.
+    /// `false` if a chunk is missing, or if one that is to be got was let go.
     pub fn serves(&self, mark: Mark, cells: u64) -> bool {
         if mark.got < self.gone {
             return false;
@@ -193,9 +195,9 @@ impl ToldBuffer {
         true
     }
 
-    /// Foresees whether the chunks that are there suffice for the takes after this mark up to take number `end`, or
-    /// until `reach` cells were got, where an empty take counts as `frame` cells. If `LOOKS` takes do not decide it,
-    /// no.
+    /// Foresees whether the chunks that are there suffice for the takes after this mark: up to take number `end`, or
+    /// until `reach` cells were got, where an empty take counts as `frame` cells.
+    /// `false` if a chunk is missing or was let go; also if `LOOKS` takes do not decide, so that a look stays short.
     pub fn serves_far(&self, mark: Mark, end: usize, reach: u64, frame: u64) -> bool {
         if mark.got < self.gone {
             return false;
@@ -240,15 +242,16 @@ impl ToldBuffer {
         self.fed && self.read
     }
 
-    // How many chunks the buffer holds that the clock has not got yet.
+    // How many of the chunks that were put to the buffer the clock has not got yet.
     fn left(&self) -> usize
         ensures { result + self.now.got ≡ length self.now.chunks }
     {
         self.put - self.got
     }
 
-    /// Answers a take as the trace tells: a chunk or none. It says so where the chunk is not there yet, was let go, or
-    /// no answer can be right.
+    /// Answers the next take as the trace tells: `Chunk`, or `Empty` if the trace tells of none.
+    /// `Waits` if the chunk is not there yet, `Lost` if it was let go.
+    /// `Never` if no take is left in the trace, or if the clock has both ends and the chunks held answer otherwise.
     pub fn take(&mut self) -> Result<Taken, Memory>
         ensures taken { IfOk result (λ taken. TakesOn self.old taken self.new) }
         ensures same { SameBuffer self.old self.new }
@@ -267,7 +270,8 @@ impl ToldBuffer {
         Ok(Taken::Empty)
     }
 
-    // Answers a take that is told to get a chunk, if the chunk is there.
+    // Answers a take that is told to get a chunk: with the chunk, if it is there.
+    // If none is left, it is `Never` where the clock itself feeds the buffer, and `Waits` where another clock may yet.
     fn take_chunk(&mut self) -> Result<Taken, Memory>
         requires gets { slice_get self.old.takes self.old.take_at ≡ Some true }
         ensures taken { IfOk result (λ taken. TakesOn self.old taken self.new) }
@@ -289,8 +293,9 @@ impl ToldBuffer {
         Ok(Taken::Chunk(chunk))
     }
 
-    /// Answers a put of a chunk as the trace tells: it is accepted, or the buffer is full and gives it back. It says
-    /// so where no answer can be right.
+    /// Answers the next put as the trace tells: `Accepted`, or `Full` with the chunk.
+    /// `Never` if no put is left in the trace, or if the clock has both ends and the chunks held answer otherwise.
+    /// An `Err` is want of memory, and gives the chunk back.
     pub fn put(&mut self, chunk: Chunk) -> Result<Put, (Chunk, Memory)>
         ensures put { IfOk result (λ put. PutsOn self.old chunk put self.new) }
         ensures same { SameBuffer self.old self.new }
@@ -309,8 +314,8 @@ impl ToldBuffer {
         Ok(Put::Full(chunk))
     }
 
-    // Answers a put that is told to be accepted: the chunk is kept, unless a buffer with both ends in the clock has no
-    // room.
+    // Answers a put that is told to be accepted: the chunk is kept.
+    // `Never` if the clock feeds and reads the buffer and it has no room. An `Err` gives the chunk back.
     fn accept(&mut self, chunk: Chunk) -> Result<Put, (Chunk, Memory)>
         requires accepts { slice_get self.old.puts self.old.put_at ≡ Some true }
         ensures put { IfOk result (λ put. PutsOn self.old chunk put self.new) }

@@ -43,8 +43,9 @@ pub enum Turn {
     Refused,
 }
 
-/// Makes the `ticks` ticks of a clock by this engine from the first one on, as far as they can be made with the chunks
-/// that are there, and says how far it came.
+/// Makes the `ticks` ticks of a clock by this new engine, as far as the chunks that are there allow.
+/// `Made` has how many were made, up to one that waits for a chunk. `Refused`: a call has no right answer, or a window
+/// of `window` ticks ends with more or fewer calls than `ends` tells.
 pub fn run_clock(
     alloc: Global,
     engine: &mut ClockEngine<'_, NoSink>,
@@ -81,8 +82,9 @@ pub fn run_clock(
     Ok(Turn::Made(ticks))
 }
 
-/// Runs clock number `clock` by a new engine from its first tick on, with the chunks that are there, and says how far
-/// it came. On a plan without buffers no tick waits, and none is made.
+/// Runs clock number `clock` by a new engine from its first tick on, with the chunks that are there.
+/// `Made` has how many of its `ticks` ticks were made; `Refused`: it cannot make them as the trace tells.
+/// On a plan without buffers no tick waits, so all count as made and none is run.
 pub fn run_turn(
     alloc: Global,
     station: &Station<'_>,
