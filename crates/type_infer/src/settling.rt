@@ -123,7 +123,7 @@ fn add_texts(
     Ok(())
 }
 
-/// Adds to `uses` those in a def's text, if there is a def, with their final kinds.
+/// Adds to `uses` those in a def's text, with their final kinds. Without a def it adds none.
 fn add_def(
     alloc: Global,
     subst: &Subst,
@@ -159,8 +159,8 @@ fn add_step(
     }
 }
 
-/// The uses that all typed statements have left, with their final kinds and in order, in a list with room for `room`
-/// uses at first.
+/// The uses that all typed statements have left, with their final kinds and in the order of the statements. A step
+/// names its def by its place in `defs`. The list has room for `room` uses at first.
 fn steps_uses(
     alloc: Global,
     subst: &Subst,
