@@ -74,7 +74,8 @@ impl LocalList {
         self.counts
     }
 
-    // Takes the chunk at the buffer's front and notes the answer; nothing where the buffer is empty.
+    // Takes the chunk at the buffer's front and notes the answer; `None` where the buffer is empty. Room for the note
+    // is made first, so that nothing is changed where memory is refused.
     fn take(&mut self) -> Result<Option<Chunk>, Memory>
         ensures same { SameBuffer self.old self.new }
         ensures step { IfOk result (λ answer. (b : ℕ) → Step (held self.old) (Took b answer) (held self.new)) }
@@ -96,8 +97,8 @@ impl LocalList {
         }
     }
 
-    // Puts a chunk at the buffer's back and notes the answer. It comes back where the buffer is full, and where
-    // memory is refused.
+    // Puts a chunk at the buffer's back and notes the answer: `Accepted`, or `Full` with the chunk. `Err` is want of
+    // memory, and hands the chunk back too. Room for the note is made first, so that nothing is changed then.
     fn give(&mut self, chunk: Chunk) -> Result<Gave, (Chunk, Memory)>
         ensures same { SameBuffer self.old self.new }
         ensures step { IfOk result (λ gave. (b : ℕ) → (call : Call) × IsGive b chunk gave call
@@ -138,7 +139,8 @@ impl LocalList {
         Ok(())
     }
 
-    // Undoes the closing of the last window, after which no call was made.
+    // Undoes the closing of the last window, after which no call was made: its answers are those of the open window
+    // again.
     fn reopen(&mut self)
         requires { (b : LocalBuffer) × (self.old ≡ closed b) }
         ensures { (b : LocalBuffer) → self.old ≡ closed b → self.new ≡ b }
@@ -170,7 +172,8 @@ pub(crate) fn take_from(lists: &mut Vec<LocalList>, buffer: u32) -> Result<Optio
     lists[buffer as usize].take()
 }
 
-// Puts a chunk into the buffer of this number. It comes back where the buffer is full or memory is refused.
+// Puts a chunk into the buffer of this number. Answers `Accepted`, or `Full` with the chunk. `Err` is want of memory,
+// and hands the chunk back too.
 pub(crate) fn give_into(
     lists: &mut Vec<LocalList>,
     buffer: u32,

@@ -90,7 +90,9 @@ impl ChunkQueue {
         here + walk_runs(false, title, runs, skip + behind, most - here).count
     }
 
-    /// Appends the cells of a chunk. Before, the queue may hold no more cells than its ring has room for.
+    /// Appends the cells of a chunk. Before, the queue may hold no more cells than its ring has room for: what is
+    /// left of the spare chunk goes into the ring first. A chunk for which there is then no room is kept whole as the
+    /// spare one.
     pub fn push(&mut self, chunk: Chunk)
         requires { length self.old.cells ≤ self.old.room }
         ensures { self.new ≡ record { cells = self.old.cells ++ chunk; room = self.old.room } }

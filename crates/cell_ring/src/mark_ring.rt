@@ -215,7 +215,8 @@ fn drop_marks(runs: &mut HeapCircularBuffer<MarkRun>, count: u32)
 }
 
 // Counts the marks of a ring from mark `from` on, at most `most`, that have this title and begin no track, up to the
-// first that does not pass; with `begins` they may begin one. The ring stands in two slices.
+// first that does not pass; with `begins` they may begin one. The ring stands in two slices, which are walked in
+// turn.
 fn walk_both(
     begins: bool,
     title: u32,
@@ -237,7 +238,8 @@ fn walk_both(
 }
 
 // Counts the marks of these runs from mark `from` on, at most `most`, that have this title and begin no track; with
-// `begins` they may begin one. It tells too whether a mark ended the count, or how far past the runs it came.
+// `begins` they may begin one. `ended`: the count was full, or a mark did not pass. If not, `skip` is how many of the
+// `from` marks lie behind these runs.
 pub(crate) fn walk_runs(begins: bool, title: u32, runs: &[MarkRun], from: u32, most: u32) -> Found
     ensures { Walked begins title (marks_in runs.now) from most result }
 {

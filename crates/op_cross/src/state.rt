@@ -92,8 +92,9 @@ impl CrossState {
         self.ready == 0 && !self.gap
     }
 
-    /// Takes the next slot of the crossfade's source: a cell, or nothing. At most twice the overlap of slots settle
-    /// its item.
+    /// Takes the next slot of the crossfade's source: a cell, or `None` for a gap. A track that begins behind another
+    /// is gathered in `next`. A gap, a third track, or as many cells in `next` as in `cells` end this, and settle all
+    /// items held before. Within one track, a cell past the overlap settles one item.
     pub fn feed(&mut self, slot: Option<Cell>)
         requires { wants self.old ≡ true }
         ensures overlap { self.new.overlap ≡ self.old.overlap }
@@ -210,7 +211,8 @@ impl CrossState {
         self.cells.take_into(left, right);
     }
 
-    /// The item at which it stands, which is settled: a cell, or nothing for a gap.
+    /// The item at which it stands, which is settled: a cell, or `None` for a gap. Where both tracks have a cell for
+    /// it, it is mixed of the two.
     pub fn offer(&self) -> Option<Cell>
         requires { wants self.now ≡ false }
         ensures item { (slots : List Slot) (p : ℕ) → StandsFor self.now slots p
@@ -285,7 +287,7 @@ impl CrossState {
     }
 
     // Writes the samples of the next items, as many as the slices are long, and goes on after them. They are faded
-    // from one track to the next.
+    // from one track to the next, in blocks of at most 256 items, for which lists on the stack suffice.
     fn copy_mixed(&mut self, left: &mut [i16], right: &mut [i16])
         requires same { length right.old ≡ length left.old }
         requires mixed { self.old.ready ≤ length self.old.next }
@@ -387,7 +389,8 @@ impl CrossState {
         }
     }
 
-    /// Goes on by one instant: to the next item, where this one was given or is empty.
+    /// Goes on by one instant. A gap at its item is over then. A settled cell goes if `gave` says that it was handed
+    /// on, and otherwise it stays for the next instant.
     pub fn advance(&mut self, gave: bool)
         requires { wants self.old ≡ false }
         ensures overlap { self.new.overlap ≡ self.old.overlap }

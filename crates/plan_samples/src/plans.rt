@@ -50,7 +50,8 @@ fn begun(alloc: Global) -> Draft
     begun_at(alloc, 44_100, 1764)
 }
 
-// A plan in the making without nodes, at so many samples a second in ticks of `frame` samples.
+// A plan in the making without nodes, at so many samples a second in ticks of `frame` samples. The call of a law does
+// nothing: it serves the contract.
 pub(crate) fn begun_at(alloc: Global, rate: u32, frame: u32) -> Draft
     requires rate { (MIN_RATE ≤ rate) × (rate ≤ MAX_RATE) }
     requires frame { (1 ≤ frame) × (frame ≤ MAX_FRAME) }

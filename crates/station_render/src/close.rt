@@ -19,8 +19,9 @@ use crate::output_sink::{OutputSink, end_if};
 use crate::{RenderFault, Rendered};
 use liq_base::{Failed, Shelf};
 
-/// Closes the sinks of all outputs in sink order, whatever was written. It returns what was told of the run, the
-/// run's fault, or that of a closing. `order` has the clock of each sink, and `groups` the sinks of each clock.
+/// Closes the sinks of all outputs in sink order, whatever was written. `wrote` is what is told of the run, or the
+/// run's fault. It is the answer too, unless all went well but a closing failed, whose fault then is. `order` has the
+/// clock of each sink, and `groups` the sinks of each clock.
 pub(crate) fn close_all<S: Shelf>(
     shelf: &mut S,
     order: &[u32],
@@ -55,7 +56,7 @@ pub(crate) fn close_all<S: Shelf>(
 }
 
 /// Closes the sinks of the outputs that were created, in sink order, after a fault of the opening, and returns this
-/// fault.
+/// fault, whatever the closings came to. `order` has the clock of each sink, and `groups` the sinks of each clock.
 pub(crate) fn close_broken<S: Shelf>(
     shelf: &mut S,
     order: &[u32],
@@ -81,8 +82,9 @@ pub(crate) fn close_broken<S: Shelf>(
     fault
 }
 
-// Closes the sinks in sink order, also those behind one whose closing failed. `well` says that all went well before; as
-// long as it does, each sink gets the byte that it owes before it is closed.
+// Closes the sinks in sink order, also those behind one whose closing failed, and tells the first failure. `order`
+// has the clock of each sink, and `groups` the sinks of each clock. `well` says that all went well before; as long as
+// it does, each sink gets the byte that it owes before it is closed.
 fn close_each<S: Shelf>(
     shelf: &mut S,
     order: &[u32],

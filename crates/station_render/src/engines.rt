@@ -229,8 +229,8 @@ fn marks_if<O: Sink>(
     marks_of(alloc, &job.plan, &job.ready.clocks, engines)
 }
 
-// What is told of a run that made all its ticks: each output's gaps and marks, and each buffer's answers. For a run
-// that broke off it is the fault.
+// What is told of a run that made all its ticks: each output's gaps (instants without a cell), each output's marks if
+// cue files are wanted, and each buffer's answers. For a run that broke off it is the fault.
 fn tell<O: Sink>(
     alloc: Global,
     job: &Job<'_>,
