@@ -72,8 +72,9 @@ pub fn generalise(
 }
 
 /// Makes the types of a def general, for `generalise`. `kinds` are the kinds (mono, stereo or a variable) at the uses
-/// of names in its text. The two sets are empty at first, and get the numbers that the def's free variables have in
-/// `subst`. In the answer a variable is its place in its set; `text` has `kinds` in this form.
+/// of names in its text. The two sets are empty at first, and get the numbers that the def's variables have in
+/// `subst`. In the general type a variable is its place in its set; in `text` an open kind is its number among the
+/// open ones.
 fn generalise_with(
     alloc: Global,
     subst: &Subst,

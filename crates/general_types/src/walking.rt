@@ -120,7 +120,7 @@ fn visit<'a>(
 }
 
 /// Gathers the free variables of all types on the stack, and of what they lead to, in `reached`. The stack is empty
-/// behind it. A walk of more than 4194304 steps is given up as if memory were refused.
+/// behind it. A walk of 4194304 steps or more is given up as if memory were refused.
 pub fn walk<'a>(
     work: &mut Vec<&'a Ty>,
     subst: &'a Subst,

@@ -62,7 +62,7 @@ pub(crate) fn begun_at(alloc: Global, rate: u32, frame: u32) -> Draft
     Draft::new(alloc, rate, frame)
 }
 
-// Gives a plan in the making an output of this node, without a name; nothing is written here.
+// Adds an output of this node, without a name, to a plan in the making. No bytes are written here.
 pub(crate) fn write(alloc: Global, draft: &mut Draft, node: u32) -> Result<(), Memory>
     requires well_formed { IsWellFormed draft.old }
     requires node { node < length draft.old.nodes }

@@ -69,8 +69,8 @@ pub fn look_at<S: Shelf>(
 }
 
 // What is told of a WAV file of `size` bytes by its head: kind, rate, width, where its samples begin, and how many
-// there are, in the file and at the rate of the plan. It counts for its own bytes, or for those at that rate if these
-// are more.
+// there are, in the file and at the rate of the plan. It counts for its own bytes, or for those of a 16-bit file at
+// that rate if these are more.
 fn facts_of(size: u64, head: Head, rules: Rules) -> Facts
     requires rules { AreRules rules }
     requires rate { 0 < head.rate }

@@ -150,7 +150,7 @@ fn take_first<O>(groups: &mut Vec<Vec<O>>, clock: u32) -> O
     groups[clock as usize].remove(0)
 }
 
-// Frees the lists of the clocks' sinks, once all are empty.
+// Frees the lists of the clocks' sinks, once all sinks are taken out of them.
 fn end_all<O>(groups: Vec<Vec<O>>)
     requires { AreAllEmpty (lists_of groups.items) }
 {
