@@ -95,7 +95,8 @@ impl<'a> PutEnd<'a> {
     }
 
     // Closes the window (the calls since the ends last met) at both ends of the queue, of which `take` is the other,
-    // and opens the next one. It returns the answers of the closed window.
+    // and opens the next one. It returns the answers of the closed window. Both ends are of one queue by the
+    // contract, so closing cannot fail.
     fn close(&mut self, alloc: Global, take: &mut TakeEnd<'_>) -> WindowLog
         requires { self.old.window.queue ≡ take.old.window.queue }
         ensures closes { Closes self.old.window take.old.window self.old.window.queue self.new.window take.new.window }

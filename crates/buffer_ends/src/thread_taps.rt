@@ -93,8 +93,8 @@ impl<'a, R> ThreadTaps<'a, R> {
     }
 
     /// Closes the window (the calls since the ends last met) of a buffer into which this clock puts, and opens the
-    /// next one. `takes` are the ends of the clock that takes from it. It returns the answers of the closed window,
-    /// and takes no memory.
+    /// next one. `takes` are the ends of the clock that takes from it. By the contract both clocks have an end of it.
+    /// It returns the answers of the closed window, and takes no memory.
     pub fn close_with(
         &mut self,
         alloc: Global,
@@ -151,8 +151,8 @@ impl<'a, R> ThreadTaps<'a, R> {
         self.local.close_one(alloc, buffer)
     }
 
-    /// How many puts and takes of a buffer succeeded and how many failed: those of its end's open window, or all
-    /// those of a buffer that the clock keeps alone.
+    /// How many puts and takes of a buffer succeeded and how many failed: at this clock's ends those of the open
+    /// window alone, and over all windows for a buffer that the clock keeps alone.
     pub fn counts(&self, buffer: u32) -> Counts
         requires { buffer < length self.now.local }
         ensures puts { (d : LocalBuffer)

@@ -189,7 +189,8 @@ fn rest_of(run: MarkRun, skip: u32) -> MarkRun
     }
 }
 
-// Drops the first `count` marks of these runs.
+// Drops the first `count` marks of these runs. A run of which some are left goes back to the front, and begins no
+// track any more.
 fn drop_marks(runs: &mut HeapCircularBuffer<MarkRun>, count: u32)
     requires some { AreSome runs.old.items }
     requires there { length (marks_in runs.old.items) ≤ runs.old.capacity }
@@ -287,8 +288,8 @@ fn run_at(runs: &[MarkRun], at: usize) -> MarkRun
     runs[at]
 }
 
-// Whether the mark at place `at` of a run counts: it has this title and begins no track, or with `begins` may begin
-// one.
+// Whether the mark at place `at` of a run is counted: it has this title and begins no track, or with `begins` may
+// begin one. The mark at place 0 alone may begin a track.
 fn passes(begins: bool, title: u32, run: MarkRun, at: u32) -> bool
     ensures { result ≡ passing begins title (Some (mark_at run at)) }
 {

@@ -85,7 +85,8 @@ fn kind_place(kinds: &mut IndexSet<u64>, kind: KindTerm) -> Result<KindTerm, Mem
 }
 
 /// A type with each variable replaced by its place in the sets `types` and `kinds`, which it joins if it is not
-/// there. Memory is refused for a type of more than so many levels.
+/// there. Each list or tuple within takes one of `levels`, which bound how deep the calls go. Where they do not
+/// suffice, memory is told as refused.
 #[cycle(numbering)]
 fn numbered(
     alloc: Global,
@@ -127,7 +128,7 @@ fn numbered(
 }
 
 /// Types with each variable replaced by its place in the sets `types` and `kinds`, which it joins if it is not there.
-/// Memory is refused for types of more than so many levels.
+/// Where a type nests more than `levels` levels deep, memory is told as refused.
 #[cycle(numbering)]
 fn all_numbered(
     alloc: Global,
@@ -160,7 +161,7 @@ fn all_resolved(alloc: Global, subst: &Subst, tys: &[Ty]) -> Result<Vec<Ty>, Mem
     Ok(settled)
 }
 
-/// For each kind the type of a source of that kind, so that kinds can be resolved as types are.
+/// For each kind the type of a source of that kind, so that kinds can be resolved and numbered as types are.
 fn sources(alloc: Global, kinds: &[KindTerm]) -> Result<Vec<Ty>, Memory>
     ensures { IfOk result (λ us. map term_of us.items ≡ map source_term kinds.now) }
 {

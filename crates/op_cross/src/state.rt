@@ -372,7 +372,8 @@ impl CrossState {
     }
 
     // How many items, at most `most`, are known to be cells of this title that begin no track, where each further
-    // cell settles one item and its source goes on with `most` cells of title `below_title`.
+    // cell settles one item and its source goes on with `most` cells of title `below_title`. The held cells come
+    // first, and those of the source count only where all these have the title.
     fn rest_through(&self, title: u32, below_title: u32, most: u32) -> u32
         requires passes { passes self.now ≡ true }
         ensures within { result ≤ most }

@@ -142,7 +142,7 @@ fn still_well(well: bool, ended: Result<(), Failed>, closed: Result<(), Failed>)
     well && ended.is_ok() && closed.is_ok()
 }
 
-// Takes the first sink of this clock out of `groups`, the list of each clock's sinks.
+// Takes the first sink of this clock out of `groups`, the list of each clock's sinks. By the contract there is one.
 fn take_first<O>(groups: &mut Vec<Vec<O>>, clock: u32) -> O
     requires { (first : O) × (rest : List O) × (slice_get (lists_of groups.old.items) clock ≡ Some (first ∷ rest)) }
     ensures { WasTaken clock (lists_of groups.old.items) result (lists_of groups.new.items) }

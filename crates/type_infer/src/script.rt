@@ -69,8 +69,8 @@ fn start<'a>(alloc: Global) -> Result<Typing<'a>, TypeFault>
     }
 }
 
-/// Makes room in the state of typing for what the statements leave, so that few lists grow step by step: each leaves
-/// one step, and binds one name at most. A statement mostly needs a type variable, and each name that it uses another
+/// Makes room in the state of typing for what the statements leave, so that its lists rarely grow. Each statement
+/// leaves one step and binds at most one name. It mostly needs a type variable, and each name that it uses another
 /// one, and perhaps one for its kind.
 fn make_room(typing: &mut Typing<'_>, front: &Front) -> Result<(), Memory>
     ensures { IsSameTyping typing.old typing.new }
