@@ -127,7 +127,8 @@ impl LocalList {
         }
     }
 
-    // Closes the open window, so that its answers go to the closed ones, and opens the next one.
+    // Closes the open window, so that its answers go to the closed ones, and opens the next one. Room for them is
+    // made first, so that nothing is changed where memory is refused.
     fn close(&mut self, alloc: Global) -> Result<(), Memory>
         ensures closed { OnOk result (self.new ≡ closed self.old) }
         ensures memory { OnErr result (self.new ≡ self.old) }
@@ -228,7 +229,7 @@ pub(crate) fn close_all(alloc: Global, lists: &mut Vec<LocalList>) -> Result<(),
 }
 
 // Gives the buffers up, and hands out the answers of their closed windows, one log for each. They are added to
-// `logs`, which is empty and has room for them.
+// `logs`, which is empty and has room for them, so that no memory is taken.
 pub(crate) fn into_logs(lists: Vec<LocalList>, mut logs: Vec<BufferLog>) -> Vec<BufferLog>
     requires empty { logs.items ≡ [] }
     requires room { length lists.items ≤ vec_capacity logs }
@@ -240,7 +241,7 @@ pub(crate) fn into_logs(lists: Vec<LocalList>, mut logs: Vec<BufferLog>) -> Vec<
     logs
 }
 
-// Undoes the closing of the last window of the first `many` buffers.
+// Undoes the closing of the last window of the first `many` buffers, since it was refused for the one behind them.
 fn reopen_first(lists: &mut Vec<LocalList>, many: usize)
     requires { (bs : List LocalBuffer) × (many ≤ length bs) × (lists.old.items ≡ closed_first many bs) }
     ensures { (bs : List LocalBuffer) → many ≤ length bs → lists.old.items ≡ closed_first many bs

@@ -129,7 +129,9 @@ impl CrossState {
         }
     }
 
-    /// How many further cells of the track that is going on settle the item at which it stands, which is not settled.
+    /// How many further cells of the track that is going on may come until the item at which it stands is settled (no
+    /// later slot changes it), which it is not yet. A track that begins behind another needs as many cells as that
+    /// has held; otherwise one cell more than the overlap has to be held.
     pub fn room(&self) -> u32
         requires { wants self.now ≡ true }
         ensures { result ≡ track_room self.now }
@@ -230,8 +232,9 @@ impl CrossState {
         Some(mixed_cell(cell, to, at, self.whole))
     }
 
-    /// How many items, from its item on and at most `most`, are settled cells of its title of which none but the first
-    /// begins a track.
+    /// How many items, from its item on and at most `most`, are settled (no later slot changes them) and cells of its
+    /// title, of which none but the first begins a track. All are cells of one track alone, or all are mixed of two,
+    /// so that `copy` takes them at once.
     pub fn ready(&self, most: u32) -> u32
         ensures cells { result ≤ ready_stretch self.now }
         ensures within { result ≤ most }
@@ -309,8 +312,8 @@ impl CrossState {
         }
     }
 
-    // Fades the next items from one track to the next, as many as the slices are long, from 1 to 256: writes their
-    // samples, and goes on after them.
+    // Fades the next items from one track to the next, as many as the slices are long, from 1 to 256. Takes the cells
+    // of both tracks off their rings, writes the mixed samples, and goes on after them.
     fn mix_block(&mut self, left: &mut [i16], right: &mut [i16])
         requires same { length right.old ≡ length left.old }
         requires few { (0 < length left.old) × (length left.old ≤ 256) }
@@ -412,7 +415,7 @@ impl CrossState {
 }
 
 // How many cells of a ring (a queue of cells), from the front one on and at most `most`, have the title of the front
-// one.
+// one, up to the first that has not.
 fn of_one_title(ring: &CellRing, most: u32) -> u32
     ensures within { result ≤ most }
     ensures some { 0 < most → 0 < result }
@@ -427,8 +430,8 @@ fn of_one_title(ring: &CellRing, most: u32) -> u32
     1 + ring.titled(title_of(ring.front()), 1, most - 1)
 }
 
-// Cell `at` of a fade from one track to the next over `whole` cells, of the cells that meet there. It has the next
-// track's title, and the first cell of the fade alone begins a track.
+// Cell `at` of a fade over `whole` cells, mixed of `from`, the cell of the track that ends, and `to`, that of the
+// next one. It has the next track's title, and the first cell of the fade alone begins a track.
 fn mixed_cell(from: Cell, to: Cell, at: u32, whole: u32) -> Cell
     requires { at < whole }
     ensures { result ≡ mixed_cell from to at whole }

@@ -57,7 +57,7 @@ fn inner(alloc: Global, total: usize, tokens: &[Token]) -> Result<(Inner, &[Toke
     Ok((Inner { bind, semicolon }, rest))
 }
 
-// Reads a binding in the body of a def: Name `=` value. Answers it and the tokens behind, where a `(` may stand.
+// Reads a binding in the body of a def: Name `=` value. Answers it and the tokens behind. A `(` may stand behind it.
 // `tokens` are the last of the script's `total`, by which `at` is an index.
 #[tactic(auto, using(crate::proofs::Arms::bind_is))]
 fn bind(alloc: Global, total: usize, tokens: &[Token]) -> Result<(Bind, &[Token]), Fault>
@@ -73,7 +73,8 @@ fn bind(alloc: Global, total: usize, tokens: &[Token]) -> Result<(Bind, &[Token]
 }
 
 // Reads `=` and a value behind the name of a binding, whose token has the index `at`. Answers the binding and the
-// tokens behind. `tokens` are the last of the script's `total`.
+// tokens behind. The value is read as loose, since a `(` may stand behind it. `tokens` are the last of the script's
+// `total`.
 fn bind_of<'a>(
     alloc: Global,
     total: usize,

@@ -199,7 +199,8 @@ fn marks_of<O: Sink>(
     Ok(all)
 }
 
-// A copy of the marks that an engine kept of one output.
+// Copies the marks (where tracks begin, with their titles) that an engine kept of one output, since the engine ends
+// before they are written.
 fn copied(alloc: Global, marks: &[CueMark]) -> Result<Vec<CueMark>, AllocError>
     ensures { IfOk result (λ own. own.items ≡ marks.now) }
 {

@@ -85,8 +85,8 @@ fn make_room(typing: &mut Typing<'_>, front: &Front) -> Result<(), Memory>
     Ok(())
 }
 
-/// Types the first `front.count` statements, which have no fault of names: answers the state of typing after them, or
-/// the first clash of types among them.
+/// Types the first `front.count` statements, which have no fault of names. Answers the state of typing after them;
+/// `Err` is the first clash of types among them, or want of memory, which 2^32 statements are told as too.
 fn type_statements<'a>(
     alloc: Global,
     statements: &'a [Stmt],
@@ -109,8 +109,8 @@ fn type_statements<'a>(
     type_with(alloc, &targets, statements, front)
 }
 
-/// Types the first `front.count` statements from a new state of typing, and answers the state after them, or the
-/// first clash of types. `targets` says by its token what each name means.
+/// Types the first `front.count` statements from a new state of typing, and answers the state after them. `Err` is
+/// the first clash of types, or want of memory. `targets` says by its token what each name means.
 fn type_with<'a>(
     alloc: Global,
     targets: &TokenTable<Target>,
