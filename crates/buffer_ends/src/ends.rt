@@ -95,7 +95,8 @@ impl<'a> PutEnd<'a> {
     }
 
     // Closes the window (the calls since the ends last met) at both ends of the queue, of which `take` is the other,
-    // and opens the next one. It returns the answers of the closed window.
+    // and opens the next one. It returns the answers of the closed window. Both ends are of one queue by the
+    // contract, so closing cannot fail.
     fn close(&mut self, alloc: Global, take: &mut TakeEnd<'_>) -> WindowLog
         requires { self.old.window.queue ≡ take.old.window.queue }
         ensures closes { Closes self.old.window take.old.window self.old.window.queue self.new.window take.new.window }
@@ -112,7 +113,8 @@ impl<'a> PutEnd<'a> {
         WindowLog { puts, takes }
     }
 
-    // Puts a chunk into the queue. It comes back where the queue is full, and where memory is refused.
+    // Puts a chunk into the queue at this end. Answers `Accepted`, or `Full` with the chunk. `Err` is want of memory,
+    // and hands the chunk back too.
     fn give<R: Wait>(&mut self, rt: &R, chunk: Chunk) -> Result<Gave, (Chunk, Memory)>
         ensures same { SameSide self.old self.new }
         ensures answer { IfOk result (Puts self.old.window chunk self.new.window) }
@@ -158,7 +160,7 @@ impl<'a> TakeEnd<'a> {
         counted(self.pass.answers())
     }
 
-    // Takes a chunk from the queue at this end; nothing where it is empty.
+    // Takes a chunk from the queue at this end; `None` where it is empty. `Err` is want of memory.
     fn take<R: Wait>(&mut self, rt: &R) -> Result<Option<Chunk>, Memory>
         ensures same { SameSide self.old self.new }
         ensures answer { IfOk result (Takes self.old.window self.new.window) }
@@ -244,8 +246,8 @@ pub(crate) fn take_place(ends: &Vec<TakeEnd<'_>>, buffer: u32) -> Option<usize>
     }
 }
 
-// Puts a chunk into the buffer whose end stands at this place. It comes back where the buffer is full or memory is
-// refused.
+// Puts a chunk into the buffer whose end stands at this place of the list. Answers `Accepted`, or `Full` with the
+// chunk. `Err` is want of memory, and hands the chunk back too.
 pub(crate) fn give_at<R: Wait>(
     rt: &R,
     ends: &mut Vec<PutEnd<'_>>,
@@ -262,7 +264,7 @@ pub(crate) fn give_at<R: Wait>(
     ends[place].give(rt, chunk)
 }
 
-// Takes a chunk from the buffer whose end stands at this place; nothing where it is empty.
+// Takes a chunk from the buffer whose end stands at this place of the list; `None` where it is empty.
 pub(crate) fn take_at<R: Wait>(
     rt: &R,
     ends: &mut Vec<TakeEnd<'_>>,

@@ -74,7 +74,8 @@ impl LocalList {
         self.counts
     }
 
-    // Takes the chunk at the buffer's front and notes the answer; nothing where the buffer is empty.
+    // Takes the chunk at the buffer's front and notes the answer; `None` where the buffer is empty. Room for the note
+    // is made first, so that nothing is changed where memory is refused.
     fn take(&mut self) -> Result<Option<Chunk>, Memory>
         ensures same { SameBuffer self.old self.new }
         ensures step { IfOk result (λ answer. (b : ℕ) → Step (held self.old) (Took b answer) (held self.new)) }
@@ -96,8 +97,8 @@ impl LocalList {
         }
     }
 
-    // Puts a chunk at the buffer's back and notes the answer. It comes back where the buffer is full, and where
-    // memory is refused.
+    // Puts a chunk at the buffer's back and notes the answer: `Accepted`, or `Full` with the chunk. `Err` is want of
+    // memory, and hands the chunk back too. Room for the note is made first, so that nothing is changed then.
     fn give(&mut self, chunk: Chunk) -> Result<Gave, (Chunk, Memory)>
         ensures same { SameBuffer self.old self.new }
         ensures step { IfOk result (λ gave. (b : ℕ) → (call : Call) × IsGive b chunk gave call
@@ -126,7 +127,8 @@ impl LocalList {
         }
     }
 
-    // Closes the open window, so that its answers go to the closed ones, and opens the next one.
+    // Closes the open window, so that its answers go to the closed ones, and opens the next one. Room for them is
+    // made first, so that nothing is changed where memory is refused.
     fn close(&mut self, alloc: Global) -> Result<(), Memory>
         ensures closed { OnOk result (self.new ≡ closed self.old) }
         ensures memory { OnErr result (self.new ≡ self.old) }
@@ -138,7 +140,8 @@ impl LocalList {
         Ok(())
     }
 
-    // Undoes the closing of the last window, after which no call was made.
+    // Undoes the closing of the last window, after which no call was made: its answers are those of the open window
+    // again.
     fn reopen(&mut self)
         requires { (b : LocalBuffer) × (self.old ≡ closed b) }
         ensures { (b : LocalBuffer) → self.old ≡ closed b → self.new ≡ b }
@@ -170,7 +173,8 @@ pub(crate) fn take_from(lists: &mut Vec<LocalList>, buffer: u32) -> Result<Optio
     lists[buffer as usize].take()
 }
 
-// Puts a chunk into the buffer of this number. It comes back where the buffer is full or memory is refused.
+// Puts a chunk into the buffer of this number. Answers `Accepted`, or `Full` with the chunk. `Err` is want of memory,
+// and hands the chunk back too.
 pub(crate) fn give_into(
     lists: &mut Vec<LocalList>,
     buffer: u32,
@@ -225,7 +229,7 @@ pub(crate) fn close_all(alloc: Global, lists: &mut Vec<LocalList>) -> Result<(),
 }
 
 // Gives the buffers up, and hands out the answers of their closed windows, one log for each. They are added to
-// `logs`, which is empty and has room for them.
+// `logs`, which is empty and has room for them, so that no memory is taken.
 pub(crate) fn into_logs(lists: Vec<LocalList>, mut logs: Vec<BufferLog>) -> Vec<BufferLog>
     requires empty { logs.items ≡ [] }
     requires room { length lists.items ≤ vec_capacity logs }
@@ -237,7 +241,7 @@ pub(crate) fn into_logs(lists: Vec<LocalList>, mut logs: Vec<BufferLog>) -> Vec<
     logs
 }
 
-// Undoes the closing of the last window of the first `many` buffers.
+// Undoes the closing of the last window of the first `many` buffers, since it was refused for the one behind them.
 fn reopen_first(lists: &mut Vec<LocalList>, many: usize)
     requires { (bs : List LocalBuffer) × (many ≤ length bs) × (lists.old.items ≡ closed_first many bs) }
     ensures { (bs : List LocalBuffer) → many ≤ length bs → lists.old.items ≡ closed_first many bs

@@ -98,7 +98,8 @@ impl LocalTaps {
         take_from(&mut self.lists, buffer)
     }
 
-    // Puts a chunk into the buffer of this number. It comes back where the buffer is full or memory is refused.
+    // Puts a chunk into the buffer of this number. Answers `Accepted`, or `Full` with the chunk. `Err` is want of
+    // memory, and hands the chunk back too.
     pub(crate) fn give_to(&mut self, buffer: u32, chunk: Chunk) -> Result<Gave, (Chunk, Memory)>
         requires { buffer < length self.old }
         ensures ok { IfOk result (λ gave. (l : LocalBuffer) × (self.new ≡ slice_set self.old buffer l) × (call : Call)
@@ -131,8 +132,8 @@ impl Taps for LocalTaps {
         self.take_of(buffer)
     }
 
-    // Puts a chunk into the buffer of this number, which the clock keeps alone. It comes back where the buffer is
-    // full or memory is refused.
+    // Puts a chunk into the buffer of this number, which the clock keeps alone. Answers `Accepted`, or `Full` with
+    // the chunk. `Err` is want of memory, and hands the chunk back too.
     fn give(&mut self, buffer: u32, chunk: Chunk) -> Result<Gave, (Chunk, Memory)> {
         self.give_to(buffer, chunk)
     }

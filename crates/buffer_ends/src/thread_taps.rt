@@ -78,8 +78,8 @@ impl<'a, R> ThreadTaps<'a, R> {
         Ok(())
     }
 
-    /// Gives the taps up, and hands out the buffers kept alone and the ends of the shared ones, with the answers of
-    /// the calls.
+    /// Gives the taps (the buffers of one clock) up, and hands out in turn the buffers that it keeps alone, its ends
+    /// that put into shared ones, and its ends that take from them. All keep the answers of their calls.
     pub fn into_parts(self) -> (LocalTaps, Vec<PutEnd<'a>>, Vec<TakeEnd<'a>>)
         ensures { (result.0 ≡ self.entry.local) × (result.1 ≡ self.entry.puts) × (result.2 ≡ self.entry.takes) }
     {
@@ -93,8 +93,8 @@ impl<'a, R> ThreadTaps<'a, R> {
     }
 
     /// Closes the window (the calls since the ends last met) of a buffer into which this clock puts, and opens the
-    /// next one. `takes` are the ends of the clock that takes from it. It returns the answers of the closed window,
-    /// and takes no memory.
+    /// next one. `takes` are the ends of the clock that takes from it. By the contract both clocks have an end of it.
+    /// It returns the answers of the closed window, and takes no memory.
     pub fn close_with(
         &mut self,
         alloc: Global,
@@ -151,8 +151,8 @@ impl<'a, R> ThreadTaps<'a, R> {
         self.local.close_one(alloc, buffer)
     }
 
-    /// How many puts and takes of a buffer succeeded and how many failed: those of its end's open window, or all
-    /// those of a buffer that the clock keeps alone.
+    /// How many puts and takes of a buffer succeeded and how many failed: at this clock's ends those of the open
+    /// window alone, and over all windows for a buffer that the clock keeps alone.
     pub fn counts(&self, buffer: u32) -> Counts
         requires { buffer < length self.now.local }
         ensures puts { (d : LocalBuffer)
@@ -198,7 +198,8 @@ impl<'a, R: Wait> Taps for ThreadTaps<'a, R> {
     }
 
     // Puts a chunk into the buffer of this number: at the clock's end, if it has one that puts, and otherwise into
-    // the list that it keeps alone.
+    // the list that it keeps alone. Answers `Accepted`, or `Full` with the chunk. `Err`, want of memory, hands it
+    // back too.
     fn give(&mut self, buffer: u32, chunk: Chunk) -> Result<Gave, (Chunk, Memory)> {
         match put_place(&self.puts, buffer) {
             Some(place) => give_at(self.rt, &mut self.puts, place, chunk),

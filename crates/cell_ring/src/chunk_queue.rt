@@ -90,7 +90,9 @@ impl ChunkQueue {
         here + walk_runs(false, title, runs, skip + behind, most - here).count
     }
 
-    /// Appends the cells of a chunk. Before, the queue may hold no more cells than its ring has room for.
+    /// Appends the cells of a chunk. Before, the queue may hold no more cells than its ring has room for: what is
+    /// left of the spare chunk goes into the ring first. A chunk for which there is then no room is kept whole as the
+    /// spare one.
     pub fn push(&mut self, chunk: Chunk)
         requires { length self.old.cells ≤ self.old.room }
         ensures { self.new ≡ record { cells = self.old.cells ++ chunk; room = self.old.room } }
@@ -108,7 +110,8 @@ impl ChunkQueue {
         }
     }
 
-    /// Drops the cell at the front, if there is one.
+    /// Drops the cell at the front, if there is one: of the ring, or where that is empty, of the spare chunk, whose
+    /// cells that went are only counted.
     pub fn pop(&mut self)
         ensures { self.new ≡ record { cells = drop 1 self.old.cells; room = self.old.room } }
     {
@@ -122,7 +125,8 @@ impl ChunkQueue {
         }
     }
 
-    /// Takes the cells at the front, as many as the slices are long, and writes their samples into the slices.
+    /// Takes the cells at the front, as many as the slices are long, and writes their samples into the slices: first
+    /// those of the ring, then those of the spare chunk behind it.
     pub fn take_into(&mut self, left: &mut [i16], right: &mut [i16])
         requires same { length right.old ≡ length left.old }
         requires there { length left.old ≤ length self.old.cells }

@@ -189,7 +189,8 @@ fn rest_of(run: MarkRun, skip: u32) -> MarkRun
     }
 }
 
-// Drops the first `count` marks of these runs.
+// Drops the first `count` marks of these runs. A run of which some are left goes back to the front, and begins no
+// track any more.
 fn drop_marks(runs: &mut HeapCircularBuffer<MarkRun>, count: u32)
     requires some { AreSome runs.old.items }
     requires there { length (marks_in runs.old.items) ≤ runs.old.capacity }
@@ -215,7 +216,8 @@ fn drop_marks(runs: &mut HeapCircularBuffer<MarkRun>, count: u32)
 }
 
 // Counts the marks of a ring from mark `from` on, at most `most`, that have this title and begin no track, up to the
-// first that does not pass; with `begins` they may begin one. The ring stands in two slices.
+// first that does not pass; with `begins` they may begin one. The ring stands in two slices, which are walked in
+// turn.
 fn walk_both(
     begins: bool,
     title: u32,
@@ -237,7 +239,8 @@ fn walk_both(
 }
 
 // Counts the marks of these runs from mark `from` on, at most `most`, that have this title and begin no track; with
-// `begins` they may begin one. It tells too whether a mark ended the count, or how far past the runs it came.
+// `begins` they may begin one. `ended`: the count was full, or a mark did not pass. If not, `skip` is how many of the
+// `from` marks lie behind these runs.
 pub(crate) fn walk_runs(begins: bool, title: u32, runs: &[MarkRun], from: u32, most: u32) -> Found
     ensures { Walked begins title (marks_in runs.now) from most result }
 {
@@ -285,8 +288,8 @@ fn run_at(runs: &[MarkRun], at: usize) -> MarkRun
     runs[at]
 }
 
-// Whether the mark at place `at` of a run counts: it has this title and begins no track, or with `begins` may begin
-// one.
+// Whether the mark at place `at` of a run is counted: it has this title and begins no track, or with `begins` may
+// begin one. The mark at place 0 alone may begin a track.
 fn passes(begins: bool, title: u32, run: MarkRun, at: u32) -> bool
     ensures { result ≡ passing begins title (Some (mark_at run at)) }
 {

@@ -61,7 +61,7 @@ impl SideRing {
         self.held.extend_from_slice(samples);
     }
 
-    /// Drops the sample at the front, if there is one.
+    /// Drops the sample at the front, if there is one: a counted 0, or one that is held.
     pub fn pop(&mut self)
         ensures { self.new ≡ buffer (drop 1 self.old.items) self.old.capacity }
     {
@@ -72,7 +72,8 @@ impl SideRing {
         }
     }
 
-    /// Takes the samples at the front, as many as the slice is long, and writes them into it.
+    /// Takes the samples at the front, as many as the slice is long, and writes them into it. As long as silence is
+    /// counted no other sample is held, so all come from one of the two.
     pub fn take_into(&mut self, into: &mut [i16])
         requires { length into.old ≤ length self.old.items }
         ensures read { into.new ≡ take (length into.old) self.old.items }

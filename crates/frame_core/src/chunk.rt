@@ -45,7 +45,7 @@ impl Chunk {
         Ok(Some(Chunk { block }))
     }
 
-    /// A second chunk that holds the same cells, without a copy. They take no memory again, and an error comes only
+    /// A second chunk that holds the same cells, without a copy, so that they take no memory again. `Err` comes only
     /// past 2^63 holders.
     pub fn share(&self) -> Result<Chunk, Memory>
         ensures { IfOk result (λ chunk. chunk ≡ self.now) }

@@ -122,7 +122,7 @@ fn are_samples(one: &[i16], other: &[i16]) -> bool
     one == other
 }
 
-// Appends samples of one side to a list that has room for them.
+// Appends samples of one side to a list that has room for them. So no memory is taken, and none can be refused.
 fn put_samples(into: &mut Vec<i16>, samples: &[i16])
     requires { vec_len into.old + length samples.now ≤ vec_capacity into.old }
     ensures items { into.new.items ≡ into.old.items ++ samples.now }

@@ -36,7 +36,8 @@ impl Model for Library {
 }
 
 impl Library {
-    /// The library of these files with their names. `leaves` has for each node the numbers of the files that it plays.
+    /// The library of these files with their names. `leaves` has for each node the numbers of the files that it
+    /// plays, which are places in `files` from 0.
     pub fn new(files: Vec<Track>, names: Vec<Text>, leaves: Vec<Vec<u32>>) -> Library
         requires { IsLibrary (record {
           files = files.items;
@@ -85,7 +86,8 @@ impl Library {
         }
     }
 
-    // The numbers of the files that a leaf (a node that plays files) plays, in order.
+    // The numbers of the files that a leaf (a node that plays files) plays, in order. Where nodes share lists,
+    // `numbers` tells which one is the leaf's; otherwise it is the one at its place.
     fn list(&self, leaf: u32) -> &[u32]
         requires { leaf < length self.now.leaves }
         ensures list { result.now ≡ tracks_of self.now leaf }
@@ -107,7 +109,8 @@ impl Library {
         self.list(leaf).len() as u32
     }
 
-    /// How many samples each channel of the file has that a leaf plays at place `track` of its list: at least 1.
+    /// How many samples each channel of the file has that a leaf (a node that plays files) plays at place `track` of
+    /// its list: at least 1.
     pub fn samples(&self, leaf: u32, track: u32) -> u64
         requires leaf { leaf < length self.now.leaves }
         requires track { track < length (tracks_of self.now leaf) }
@@ -118,8 +121,9 @@ impl Library {
         self.files[file as usize].samples()
     }
 
-    /// Writes the samples of the file that a leaf plays at place `track` of its list, from sample `at` on, for as
-    /// many cells as the slices are long. They are those that a source of this kind has.
+    /// Writes the samples of the file that a leaf (a node that plays files) plays at place `track` of its list, from
+    /// sample `at` on, for as many cells as the slices are long. They are those that `cell` has for a source of this
+    /// kind.
     pub fn read(
         &self,
         leaf: u32,

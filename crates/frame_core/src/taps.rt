@@ -26,8 +26,8 @@ pub trait Taps {
         ensures call { IfOk result (λ answer. Adds stands self.old self.new (Took buffer answer ∷ [])) }
         ensures memory { OnErr result (Adds stands self.old self.new []) };
 
-    /// Gives a chunk to a buffer. Where it is full, or memory is refused, the chunk comes back, and where memory is
-    /// refused no call was made.
+    /// Gives a chunk to a buffer: answers `Accepted`, or `Full` with the chunk where the buffer is full. `Err` is
+    /// want of memory, and hands the chunk back too; then no call was made.
     fn give(&mut self, buffer: u32, chunk: Chunk) -> Result<Gave, (Chunk, Memory)>
         requires { buffer < buffers self.old }
         ensures buffers { buffers self.new ≡ buffers self.old }

@@ -61,7 +61,8 @@ impl Track {
         }
     }
 
-    /// The audio file whose samples stand in `size` of these bytes, from byte `from` on.
+    /// The audio file whose samples stand in `size` of these bytes, from byte `from` on. Each sample has two bytes,
+    /// the lower first.
     pub fn of_bytes(kind: Kind, bytes: Vec<u8>, from: usize, size: usize) -> Track
         requires inside { from + size ≤ length bytes.items }
         requires sound { IsSound (record { kind = kind; samples = samples_from (take size (drop from bytes.items)) }) }
@@ -160,7 +161,7 @@ impl Track {
 
 impl Track {
     /// Writes the file's samples from sample `at` of each channel on, for as many cells as the slices are long. They
-    /// are those that a source of this kind has.
+    /// are those that `cell` has for a source of this kind, so that a mono source gets 0 on the right.
     pub fn read(&self, at: u64, kind: Kind, left: &mut [i16], right: &mut [i16])
         requires same { length right.old ≡ length left.old }
         requires within { at + length left.old ≤ length_of self.now }
@@ -210,7 +211,7 @@ fn held_at(held: &Held, at: usize) -> i16
     }
 }
 
-// The part of a file's bytes that holds its samples.
+// The part of a file's bytes that holds its samples: `size` bytes from byte `from` on.
 fn body_of(raw: &Raw) -> &[u8]
     requires { raw.now.from + raw.now.size ≤ length raw.now.bytes.items }
     ensures { result.now ≡ take raw.now.size (drop raw.now.from raw.now.bytes.items) }
@@ -288,7 +289,8 @@ fn read_bytes(own: Kind, bytes: &[u8], at: usize, kind: Kind, left: &mut [i16], 
 }
 
 // Writes the samples of a file at another rate, from sample `at` of each channel on, for as many cells as the slices
-// are long. The file is of kind `own`, and the source that plays it of `kind`.
+// are long. The file is of kind `own`, and the source that plays it of `kind`. For a stereo file in a mono source,
+// `right` holds the file's right side until the halves are made.
 fn read_changed(
     own: Kind,
     changed: &Changed,

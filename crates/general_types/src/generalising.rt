@@ -32,10 +32,11 @@ pub struct DefType {
     pub text: Vec<TextKind>,
 }
 
-/// Makes the types of a def general in all variables that are bound to nothing and that earlier names do not hold.
+/// Makes the types of a def general in all variables that are bound to nothing and that no earlier name holds.
 ///
-/// `params` and `answer` are what the types of its parameters and of its result were found to be, and `kinds` the kinds
-/// at the uses of its text. It takes time that grows with these alone, as they are with all that is bound put in.
+/// `params` and `answer` are the found types of its parameters and its result. `kinds` are the kinds (mono, stereo or
+/// a variable) at the uses of names in its text, use by use. The time grows with these alone, once all that is bound
+/// is put in.
 pub fn generalise(
     alloc: Global,
     subst: &Subst,
@@ -70,8 +71,10 @@ pub fn generalise(
     )
 }
 
-/// Makes the types of a def general in all variables that are bound to nothing and that earlier names do not hold.
-/// `type_numbers` and `kind_numbers` are empty sets at first, for the numbers of its variables.
+/// Makes the types of a def general, for `generalise`. `kinds` are the kinds (mono, stereo or a variable) at the uses
+/// of names in its text. The two sets are empty at first, and get the numbers that the def's variables have in
+/// `subst`. In the general type a variable is its place in its set; in `text` an open kind is its number among the
+/// open ones.
 fn generalise_with(
     alloc: Global,
     subst: &Subst,
@@ -133,9 +136,9 @@ fn generalise_with(
     })
 }
 
-/// Says what each variable of a def may stand for in its general type, and puts the kinds `named` of the def's text
-/// into that form. The text names the first `read` of the kind variables. The three lists `types`, `kinds` and `text`
-/// are empty at first.
+/// Fills three empty lists for a def's general type: `types` and `kinds` say what each of its variables may stand
+/// for, and `text` has the kinds `named` at the uses of its text. In `named` a variable is its place in
+/// `kind_numbers`. The text names the first `read` of these.
 fn say_parameters(
     alloc: Global,
     subst: &Subst,
@@ -193,7 +196,7 @@ fn push_types(
 }
 
 /// What the kind variable of this number may stand for in a def's general type: itself if an earlier name holds it,
-/// and otherwise `free`.
+/// and otherwise `free`, which is `Open` or `Unread`.
 fn kind_parameter_of(held: &Held, free: KindParameter, number: u64) -> KindParameter
     ensures { result ≡ kind_parameter held.now free number }
 {
@@ -221,8 +224,9 @@ fn push_parameters(
     Ok(())
 }
 
-/// Adds, to an empty list, what each of these kind variables may stand for in a general type. The def's text names
-/// the first `read` of them, which are open to each use.
+/// Adds, to an empty list, what each of these kind variables may stand for in a def's general type. Of those that no
+/// earlier name holds, the first `read`, which the def's text names, become `Open`. The others, which its types alone
+/// name, become `Unread`.
 fn push_kinds(
     parameters: &mut Vec<KindParameter>,
     held: &Held,
@@ -265,7 +269,8 @@ fn push_open_counts(counts: &mut Vec<u64>, parameters: &[KindParameter]) -> Resu
     Ok(())
 }
 
-/// How many open kind parameters stand before the one of this number, by `counts`, which has this for all.
+/// How many open kind parameters stand before the one of this number. `counts` has the answer for each of
+/// `parameters`, which the contract alone needs.
 fn open_before(parameters: &[KindParameter], counts: &[u64], number: u64) -> u64
     requires counts { counts.now ≡ open_counts 0 parameters.now }
     requires inside { number < length parameters.now }
@@ -275,8 +280,10 @@ fn open_before(parameters: &[KindParameter], counts: &[u64], number: u64) -> u64
     counts[number as usize]
 }
 
-/// A kind of the general type, as the def's text writes it: an open one by its number among the open ones. `counts`
-/// has for each parameter how many open ones stand before it.
+/// A kind (mono, stereo or a variable) at a use in a def's text, as the general type keeps it. A variable is a place
+/// in `parameters`: an open one becomes `Open`, with the count of open ones before it, from `counts`. All else is
+/// `Outer`: a fixed kind, or a variable that an earlier name holds. A text names no `Unread` one, so what becomes of
+/// it is of no matter.
 fn text_kind(parameters: &[KindParameter], counts: &[u64], kind: KindTerm) -> TextKind
     requires { counts.now ≡ open_counts 0 parameters.now }
     ensures { result ≡ the_text_kind parameters.now kind }
@@ -293,8 +300,8 @@ fn text_kind(parameters: &[KindParameter], counts: &[u64], kind: KindTerm) -> Te
     }
 }
 
-/// Adds, to an empty list, kinds of the general type as the def's text writes them: open ones by their number among
-/// the open ones.
+/// Adds, to an empty list, the kinds at the uses of a def's text as its general type keeps them. A variable in
+/// `kinds` is a place in `parameters`. An open one becomes its number among the open ones.
 fn push_text(
     alloc: Global,
     text: &mut Vec<TextKind>,

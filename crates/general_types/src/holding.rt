@@ -15,7 +15,8 @@ use std::alloc::Global;
 use std::marker::Model;
 use type_terms::{Subst, Ty};
 
-/// Adds to `reached` the free variables in the type of a name.
+/// Adds to `reached`, the free variables found so far, those in the type `name` of a name, with all that is bound
+/// followed.
 fn add_name(alloc: Global, subst: &Subst, reached: &mut Reached, name: &Ty) -> Result<(), Memory>
     requires over { IsOver subst.now (term_of name.now) }
     ensures { OnOk result ((names : List Term) → AreHeldBy subst.now names (held_of reached.old)
@@ -70,14 +71,16 @@ impl Held {
         }
     }
 
-    /// Whether the type variable of this number is held: it is free in the type of an earlier name.
+    /// Whether the type variable of this number is held: it is free in the type of an earlier name, and so a later
+    /// def is not general in it.
     pub fn holds_type(&self, number: u64) -> bool
         ensures { result ≡ is_held self.now.types number }
     {
         self.reached.types.contains(&number)
     }
 
-    /// Whether the kind variable of this number is held: it is free in the type of an earlier name.
+    /// Whether the kind variable of this number is held: it is free in the type of an earlier name, and so a later
+    /// def is not general in it.
     pub fn holds_kind(&self, number: u64) -> bool
         ensures { result ≡ is_held self.now.kinds number }
     {
@@ -116,7 +119,8 @@ impl Held {
         Ok(())
     }
 
-    // Notes how many variables the substitution has now, and how many of them are free.
+    // Notes how many variables the substitution has now, and how many of them are free, so that `renew` sees whether
+    // any was bound since.
     fn count(&mut self, subst: &Subst)
         ensures { self.new ≡ counted_in subst.now self.old }
     {

@@ -24,10 +24,11 @@ pub struct OpenedDef {
     pub read: usize,
 }
 
-/// The types of a def over variables of their own, in the order of first mention: the kinds of its text first.
+/// Numbers the variables of a def's types anew in the order of first mention: those in the kinds of its text first,
+/// then those in `params` and `answer`.
 ///
-/// The numbers of these in the substitution are put into the sets, and the kinds of the text into the list, all empty
-/// at first. The text names the first `read` of the kind variables, in their order.
+/// A variable's new number is the place of its old one in `types` or, for a kind, in `places`. `text` gets the given
+/// `kinds` so numbered. All three are empty at first. `read` of the answer is how many kind variables the text names.
 pub fn number_def(
     alloc: Global,
     subst: &Subst,
@@ -67,7 +68,8 @@ fn place(numbers: &mut IndexSet<u64>, number: u64) -> Result<u64, Memory>
     Ok(place as u64)
 }
 
-/// A kind with its variable replaced by the place of that in the set; a fixed kind stays.
+/// A kind with its variable replaced by the place of that in the set, which it joins at the end if it is not there. A
+/// fixed kind, mono or stereo, stays.
 fn kind_place(kinds: &mut IndexSet<u64>, kind: KindTerm) -> Result<KindTerm, Memory>
     ensures numbered { IfOk result (λ k. (ts : List ℕ)
         → IsNumbered ts kinds.old.keys ts kinds.new.keys (source_term kind) (source_term k)) }
@@ -83,7 +85,8 @@ fn kind_place(kinds: &mut IndexSet<u64>, kind: KindTerm) -> Result<KindTerm, Mem
 }
 
 /// A type with each variable replaced by its place in the sets `types` and `kinds`, which it joins if it is not
-/// there. Memory is refused for a type of more than so many levels.
+/// there. Each list or tuple within takes one of `levels`, which bound how deep the calls go. Where they do not
+/// suffice, memory is told as refused.
 #[cycle(numbering)]
 fn numbered(
     alloc: Global,
@@ -125,7 +128,7 @@ fn numbered(
 }
 
 /// Types with each variable replaced by its place in the sets `types` and `kinds`, which it joins if it is not there.
-/// Memory is refused for types of more than so many levels.
+/// Where a type nests more than `levels` levels deep, memory is told as refused.
 #[cycle(numbering)]
 fn all_numbered(
     alloc: Global,
@@ -158,7 +161,7 @@ fn all_resolved(alloc: Global, subst: &Subst, tys: &[Ty]) -> Result<Vec<Ty>, Mem
     Ok(settled)
 }
 
-/// For each kind the type of a source of that kind, so that kinds can be resolved as types are.
+/// For each kind the type of a source of that kind, so that kinds can be resolved and numbered as types are.
 fn sources(alloc: Global, kinds: &[KindTerm]) -> Result<Vec<Ty>, Memory>
     ensures { IfOk result (λ us. map term_of us.items ≡ map source_term kinds.now) }
 {
@@ -170,7 +173,7 @@ fn sources(alloc: Global, kinds: &[KindTerm]) -> Result<Vec<Ty>, Memory>
 }
 
 /// Types in numbered form: bound variables are replaced by what they are bound to, and then each free one by its
-/// place in the sets.
+/// place in the sets `types` and `kinds`, which it joins if it is not there.
 fn opened(
     alloc: Global,
     subst: &Subst,
@@ -187,7 +190,7 @@ fn opened(
 }
 
 /// A type in numbered form: bound variables are replaced by what they are bound to, and then each free one by its
-/// place in the sets.
+/// place in the sets `types` and `kinds`, which it joins if it is not there.
 fn opened_one(
     alloc: Global,
     subst: &Subst,
@@ -203,8 +206,9 @@ fn opened_one(
     numbered(alloc, types, kinds, &settled, MOST_LEVELS)
 }
 
-/// Adds the kinds of these sources to an empty list, each variable replaced by its place in the set. New places come
-/// in the order of first mention.
+/// Adds the kinds of these sources to an empty list, each variable replaced by its place in the set `kinds`. New
+/// places come in the order of first mention. A type that is no source, which no caller gives, is told as want of
+/// memory.
 fn push_places(
     places: &mut Vec<KindTerm>,
     kinds: &mut IndexSet<u64>,
@@ -230,8 +234,9 @@ fn push_places(
     Ok(())
 }
 
-/// Adds kinds to an empty list in numbered form: bound variables are replaced by what they are bound to, and then
-/// each free one by its place in the set.
+/// Adds the kinds `given` to the empty list `places` in numbered form: bound variables are replaced by what they are
+/// bound to, and then each free one by its place in the set `kinds`. They are made types of sources for this, since
+/// types are what is resolved.
 fn push_opened_kinds(
     alloc: Global,
     places: &mut Vec<KindTerm>,

@@ -38,7 +38,8 @@ pub fn push_bound_kinds(subst: &Subst, numbers: &[u64], found: &mut Vec<u64>) ->
     Ok(())
 }
 
-/// Puts the free variables of what a held type variable is bound to by now in its place.
+/// Takes a type variable out of the held ones in `reached`, and adds the free variables of what it is bound to by
+/// now. A variable that is free still comes back; one that is not held changes nothing.
 fn renew_type(
     alloc: Global,
     subst: &Subst,
@@ -56,7 +57,7 @@ fn renew_type(
     walk(&mut work, subst, reached)
 }
 
-/// Puts the free variables of what each of these held type variables is bound to by now in its place.
+/// Puts the free variables of what each of these held type variables is bound to by now in its place in `reached`.
 fn renew_types(
     alloc: Global,
     subst: &Subst,
@@ -72,7 +73,8 @@ fn renew_types(
     Ok(())
 }
 
-/// Puts the free kind variable that a held one comes to by now in its place, if it comes to one.
+/// Takes a kind variable out of the held ones in `reached`, and adds the free one that it comes to by now, if it does
+/// not come to mono or stereo. A variable that is not held changes nothing.
 fn renew_kind(subst: &Subst, reached: &mut Reached, number: u64) -> Result<(), Memory>
     requires inside { number < length subst.now.kinds }
     ensures { OnOk result (Renews subst.now [] (number ∷ []) (held_of reached.old) (held_of reached.new)) }

@@ -34,8 +34,9 @@ pub fn add_kind(subst: &Subst, kinds: &mut IndexSet<u64>, kind: KindTerm) -> Res
     }
 }
 
-/// Puts what a type variable is bound to on the stack of types to walk, if that was not done before. A variable that
-/// is bound to a variable is not noted: what that leads to is.
+/// Puts `bound`, what the type variable of this number is bound to, on the stack of types to walk, if that was not
+/// done before: `reached.passed` has the variables for which it was. One that is bound to a variable is not noted
+/// there: what that leads to is.
 fn push_bound<'a>(
     work: &mut Vec<&'a Ty>,
     reached: &mut Reached,
@@ -94,7 +95,8 @@ fn push_parts<'a>(work: &mut Vec<&'a Ty>, parts: &'a [Ty]) -> Result<(), Memory>
     Ok(())
 }
 
-/// One step of the walk that gathers free variables: takes up a type that stood on top of the stack.
+/// One step of the walk that gathers free variables: takes up a type that stood on top of the stack `work`. A free
+/// variable goes into `reached`, and the parts of a type onto the stack. A type without parts adds nothing.
 fn visit<'a>(
     work: &mut Vec<&'a Ty>,
     subst: &'a Subst,
@@ -117,8 +119,8 @@ fn visit<'a>(
     }
 }
 
-/// Gathers the free variables of all types on the stack, and of what they lead to. Too long a walk ends as if memory
-/// were refused.
+/// Gathers the free variables of all types on the stack, and of what they lead to, in `reached`. The stack is empty
+/// behind it. A walk of 4194304 steps or more is given up as if memory were refused.
 pub fn walk<'a>(
     work: &mut Vec<&'a Ty>,
     subst: &'a Subst,

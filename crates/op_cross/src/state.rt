@@ -92,8 +92,9 @@ impl CrossState {
         self.ready == 0 && !self.gap
     }
 
-    /// Takes the next slot of the crossfade's source: a cell, or nothing. At most twice the overlap of slots settle
-    /// its item.
+    /// Takes the next slot of the crossfade's source: a cell, or `None` for a gap. A track that begins behind another
+    /// is gathered in `next`. A gap, a third track, or as many cells in `next` as in `cells` end this, and settle all
+    /// items held before. Within one track, a cell past the overlap settles one item.
     pub fn feed(&mut self, slot: Option<Cell>)
         requires { wants self.old ≡ true }
         ensures overlap { self.new.overlap ≡ self.old.overlap }
@@ -128,7 +129,9 @@ impl CrossState {
         }
     }
 
-    /// How many further cells of the track that is going on settle the item at which it stands, which is not settled.
+    /// How many further cells of the track that is going on may come until the item at which it stands is settled (no
+    /// later slot changes it), which it is not yet. A track that begins behind another needs as many cells as that
+    /// has held; otherwise one cell more than the overlap has to be held.
     pub fn room(&self) -> u32
         requires { wants self.now ≡ true }
         ensures { result ≡ track_room self.now }
@@ -210,7 +213,8 @@ impl CrossState {
         self.cells.take_into(left, right);
     }
 
-    /// The item at which it stands, which is settled: a cell, or nothing for a gap.
+    /// The item at which it stands, which is settled: a cell, or `None` for a gap. Where both tracks have a cell for
+    /// it, it is mixed of the two.
     pub fn offer(&self) -> Option<Cell>
         requires { wants self.now ≡ false }
         ensures item { (slots : List Slot) (p : ℕ) → StandsFor self.now slots p
@@ -228,8 +232,9 @@ impl CrossState {
         Some(mixed_cell(cell, to, at, self.whole))
     }
 
-    /// How many items, from its item on and at most `most`, are settled cells of its title of which none but the first
-    /// begins a track.
+    /// How many items, from its item on and at most `most`, are settled (no later slot changes them) and cells of its
+    /// title, of which none but the first begins a track. All are cells of one track alone, or all are mixed of two,
+    /// so that `copy` takes them at once.
     pub fn ready(&self, most: u32) -> u32
         ensures cells { result ≤ ready_stretch self.now }
         ensures within { result ≤ most }
@@ -285,7 +290,7 @@ impl CrossState {
     }
 
     // Writes the samples of the next items, as many as the slices are long, and goes on after them. They are faded
-    // from one track to the next.
+    // from one track to the next, in blocks of at most 256 items, for which lists on the stack suffice.
     fn copy_mixed(&mut self, left: &mut [i16], right: &mut [i16])
         requires same { length right.old ≡ length left.old }
         requires mixed { self.old.ready ≤ length self.old.next }
@@ -307,8 +312,8 @@ impl CrossState {
         }
     }
 
-    // Fades the next items from one track to the next, as many as the slices are long, from 1 to 256: writes their
-    // samples, and goes on after them.
+    // Fades the next items from one track to the next, as many as the slices are long, from 1 to 256. Takes the cells
+    // of both tracks off their rings, writes the mixed samples, and goes on after them.
     fn mix_block(&mut self, left: &mut [i16], right: &mut [i16])
         requires same { length right.old ≡ length left.old }
         requires few { (0 < length left.old) × (length left.old ≤ 256) }
@@ -370,7 +375,8 @@ impl CrossState {
     }
 
     // How many items, at most `most`, are known to be cells of this title that begin no track, where each further
-    // cell settles one item and its source goes on with `most` cells of title `below_title`.
+    // cell settles one item and its source goes on with `most` cells of title `below_title`. The held cells come
+    // first, and those of the source count only where all these have the title.
     fn rest_through(&self, title: u32, below_title: u32, most: u32) -> u32
         requires passes { passes self.now ≡ true }
         ensures within { result ≤ most }
@@ -387,7 +393,8 @@ impl CrossState {
         }
     }
 
-    /// Goes on by one instant: to the next item, where this one was given or is empty.
+    /// Goes on by one instant. A gap at its item is over then. A settled cell goes if `gave` says that it was handed
+    /// on, and otherwise it stays for the next instant.
     pub fn advance(&mut self, gave: bool)
         requires { wants self.old ≡ false }
         ensures overlap { self.new.overlap ≡ self.old.overlap }
@@ -408,7 +415,7 @@ impl CrossState {
 }
 
 // How many cells of a ring (a queue of cells), from the front one on and at most `most`, have the title of the front
-// one.
+// one, up to the first that has not.
 fn of_one_title(ring: &CellRing, most: u32) -> u32
     ensures within { result ≤ most }
     ensures some { 0 < most → 0 < result }
@@ -423,8 +430,8 @@ fn of_one_title(ring: &CellRing, most: u32) -> u32
     1 + ring.titled(title_of(ring.front()), 1, most - 1)
 }
 
-// Cell `at` of a fade from one track to the next over `whole` cells, of the cells that meet there. It has the next
-// track's title, and the first cell of the fade alone begins a track.
+// Cell `at` of a fade over `whole` cells, mixed of `from`, the cell of the track that ends, and `to`, that of the
+// next one. It has the next track's title, and the first cell of the fade alone begins a track.
 fn mixed_cell(from: Cell, to: Cell, at: u32, whole: u32) -> Cell
     requires { at < whole }
     ensures { result ≡ mixed_cell from to at whole }

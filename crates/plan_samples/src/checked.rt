@@ -167,8 +167,9 @@ fn are_below(numbers: &[u32], count: usize) -> bool
     numbers.iter().all(|number| (*number as usize) < count)
 }
 
-// Whether a stereo node of this operator may have so many stereo children, with its numbers in range. Buffers and
-// what makes other kinds may not be added so.
+// Whether a stereo node of this operator may have so many stereo children, with its numbers in range. Buffers, and
+// `Mean` and `Stereo`, which change the kind, may not be added so. An operator that is not named takes any number of
+// children.
 fn suits(op: &Op, children: usize) -> bool
     ensures { result ≡ true → IsSuited op.now children }
 {

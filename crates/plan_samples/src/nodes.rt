@@ -36,7 +36,8 @@ pub(crate) fn push_amplified(alloc: Global, draft: &mut Draft, child: u32) -> Re
     Ok(())
 }
 
-// Adds a crossfade of the node `child` to a plan in the making, and answers its number.
+// Adds a crossfade of the node `child`, with an overlap of 22, to a plan in the making, and answers its number. The
+// call of a law does nothing: it serves the contract.
 pub(crate) fn push_crossfade(alloc: Global, draft: &mut Draft, child: u32) -> Result<u32, PlanFault>
     requires stereo { IsStereo draft.old }
     requires child { slice_get draft.old.nodes child ≡ Some blank }
@@ -92,7 +93,8 @@ fn push_stereo(draft: &mut Draft, op: Op, children: Vec<u32>) -> Result<u32, Pla
     Ok(number)
 }
 
-// Adds a stereo node that is no crossfade to a plan in the making, and answers its number.
+// Adds a stereo node that is no crossfade to a plan in the making, and answers its number. The call of a law does
+// nothing: it serves the contract.
 fn push_plain(draft: &mut Draft, op: Op, children: Vec<u32>) -> Result<u32, PlanFault>
     requires stereo { IsStereo draft.old }
     requires below { All (λ child. child < length draft.old.nodes) children.items }

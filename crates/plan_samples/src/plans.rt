@@ -50,7 +50,8 @@ fn begun(alloc: Global) -> Draft
     begun_at(alloc, 44_100, 1764)
 }
 
-// A plan in the making without nodes, at so many samples a second in ticks of `frame` samples.
+// A plan in the making without nodes, at so many samples a second in ticks of `frame` samples. The call of a law does
+// nothing: it serves the contract.
 pub(crate) fn begun_at(alloc: Global, rate: u32, frame: u32) -> Draft
     requires rate { (MIN_RATE ≤ rate) × (rate ≤ MAX_RATE) }
     requires frame { (1 ≤ frame) × (frame ≤ MAX_FRAME) }
@@ -61,7 +62,7 @@ pub(crate) fn begun_at(alloc: Global, rate: u32, frame: u32) -> Draft
     Draft::new(alloc, rate, frame)
 }
 
-// Gives a plan in the making an output of this node, without a name; nothing is written here.
+// Adds an output of this node, without a name, to a plan in the making. No bytes are written here.
 pub(crate) fn write(alloc: Global, draft: &mut Draft, node: u32) -> Result<(), Memory>
     requires well_formed { IsWellFormed draft.old }
     requires node { node < length draft.old.nodes }

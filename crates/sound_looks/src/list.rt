@@ -23,7 +23,7 @@ pub enum ListLook {
 }
 
 /// Reads the list of audio files of this name, and tells the names in it and how many lines are skipped, or why there
-/// are none.
+/// are none. `Err` is want of memory alone: a list that cannot be read is `Unread`.
 pub fn look_at_list<S: Shelf>(alloc: Global, shelf: &mut S, name: &str) -> Result<ListLook, Memory>
     ensures looked { IfOk result (IsListLook name.now (S.told shelf.old) (S.told shelf.new)) }
     ensures shelf { OnlyRead (S.told shelf.old) (S.told shelf.new) }

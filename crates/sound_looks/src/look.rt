@@ -47,8 +47,9 @@ pub enum Look {
     Sound(Facts),
 }
 
-/// Looks at the audio file of this name, by the rules of a plan, and tells what it holds or why it is of no use. What
-/// was read of it is given back before it returns.
+/// Looks at the audio file of this name, by the rules of a plan, and tells what it holds or why it is of no use.
+/// `Err` is want of memory alone: a file that cannot be read is `Unread`. What was read of it is given back before it
+/// returns.
 pub fn look_at<S: Shelf>(
     alloc: Global,
     shelf: &mut S,
@@ -67,8 +68,9 @@ pub fn look_at<S: Shelf>(
     }
 }
 
-// What is told of a WAV file by its head: kind, rate, width, where its samples begin, how many there are, and for how
-// many bytes it counts. The file has `size` bytes.
+// What is told of a WAV file of `size` bytes by its head: kind, rate, width, where its samples begin, and how many
+// there are, in the file and at the rate of the plan. It counts for its own bytes, or for those of a 16-bit file at
+// that rate if these are more.
 fn facts_of(size: u64, head: Head, rules: Rules) -> Facts
     requires rules { AreRules rules }
     requires rate { 0 < head.rate }

@@ -21,6 +21,7 @@ use std::alloc::Global;
 use value_parse::value;
 
 /// Reads the bindings in the body of a def, as many as there are: inner*. Answers them and the tokens behind.
+/// `tokens` are the last of the script's `total`, by which `at` is an index.
 pub fn inners(
     alloc: Global,
     total: usize,
@@ -43,7 +44,8 @@ pub fn inners(
     Ok((items, rest))
 }
 
-// Reads a binding in the body of a def, with the `;` that may stand behind it. inner: binding `;`?
+// Reads a binding in the body of a def, with the `;` that may stand behind it, and answers both with the tokens
+// behind. inner: binding `;`?. `tokens` are the last of the script's `total`.
 #[tactic(auto, unfolding(script_grammar::specs::ReadScript::inner))]
 fn inner(alloc: Global, total: usize, tokens: &[Token]) -> Result<(Inner, &[Token]), Fault>
     requires within { length tokens.now ≤ total }
@@ -55,7 +57,8 @@ fn inner(alloc: Global, total: usize, tokens: &[Token]) -> Result<(Inner, &[Toke
     Ok((Inner { bind, semicolon }, rest))
 }
 
-// Reads a binding in the body of a def: Name `=` value. A `(` may stand behind it.
+// Reads a binding in the body of a def: Name `=` value. Answers it and the tokens behind. A `(` may stand behind it.
+// `tokens` are the last of the script's `total`, by which `at` is an index.
 #[tactic(auto, using(crate::proofs::Arms::bind_is))]
 fn bind(alloc: Global, total: usize, tokens: &[Token]) -> Result<(Bind, &[Token]), Fault>
     requires within { length tokens.now ≤ total }
@@ -69,7 +72,9 @@ fn bind(alloc: Global, total: usize, tokens: &[Token]) -> Result<(Bind, &[Token]
     bind_of(alloc, total, at, name, after)
 }
 
-// Reads `=` and a value behind the name of a binding, whose token has the index `at`, and answers the binding.
+// Reads `=` and a value behind the name of a binding, whose token has the index `at`. Answers the binding and the
+// tokens behind. The value is read as loose, since a `(` may stand behind it. `tokens` are the last of the script's
+// `total`.
 fn bind_of<'a>(
     alloc: Global,
     total: usize,

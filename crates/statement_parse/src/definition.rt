@@ -19,8 +19,8 @@ use script_lex::Token;
 use std::alloc::Global;
 use value_parse::result;
 
-/// Reads a def: `def` NameOpen (param (`,` param)*)? `)` `=`? inner* expression `end`. The tokens are the last of
-/// `total`.
+/// Reads a def: `def` NameOpen (param (`,` param)*)? `)` `=`? inner* expression `end`. Answers it and the tokens
+/// behind. `tokens` are the last of the script's `total`, by which `at` is an index.
 #[tactic(auto, using(crate::proofs::Arms::def_is))]
 pub fn def(alloc: Global, total: usize, tokens: &[Token]) -> Result<(Def, &[Token]), Fault>
     requires within { length tokens.now ≤ total }
@@ -36,7 +36,7 @@ pub fn def(alloc: Global, total: usize, tokens: &[Token]) -> Result<(Def, &[Toke
 }
 
 // Reads a def from behind its name, whose token has the index `at`: (param (`,` param)*)? `)` `=`? inner* expression
-// `end`.
+// `end`. Answers the def and the tokens behind. `tokens` are the last of the script's `total`.
 fn def_of<'a>(
     alloc: Global,
     total: usize,
@@ -70,6 +70,7 @@ fn def_of<'a>(
 }
 
 // Reads the last of a def: expression `end`. Answers the expression, which is the result, and the tokens behind.
+// `tokens` are the last of the script's `total`.
 fn ended(alloc: Global, total: usize, tokens: &[Token]) -> Result<(Expr, &[Token]), Fault>
     requires within { length tokens.now ≤ total }
     requires small { total < 2 ^ 32 }
@@ -79,8 +80,8 @@ fn ended(alloc: Global, total: usize, tokens: &[Token]) -> Result<(Expr, &[Token
     before_end(result, rest)
 }
 
-// Reads `end` behind a tree that was read, and hands the tree on. It is one function for any tree, whose drop where
-// no `end` stands is then one goal.
+// Reads `end` behind the tree `item` that was read, and hands that on, with the tokens behind. It is one function for
+// any tree, whose drop where no `end` stands is then one goal for the prover.
 fn before_end<'a, T: Drop>(item: T, tokens: &'a [Token]) -> Result<(T, &'a [Token]), Fault>
     ensures shorter { IfOk result (λ x. length x.1.now < length tokens.now) }
     ensures kept { IfOk result (λ x. x.0 ≡ item) }

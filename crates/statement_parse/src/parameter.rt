@@ -18,8 +18,8 @@ use script_lex::{Symbol, Token, TokenKind};
 use std::alloc::Global;
 use value_parse::value;
 
-/// Reads the parameters of a def behind its name, and the bracket behind them: (param (`,` param)*)? `)`. The tokens
-/// are the last of `total`.
+/// Reads the parameters of a def behind its name, and the bracket behind them: (param (`,` param)*)? `)`. Answers
+/// them and the tokens behind. `tokens` are the last of the script's `total`, by which `at` is an index.
 pub fn params(
     alloc: Global,
     total: usize,
@@ -38,7 +38,7 @@ pub fn params(
 }
 
 // Reads the parameters of a def, maybe none, and the bracket behind them into a list that is empty at first: (param
-// (`,` param)*)? `)`.
+// (`,` param)*)? `)`. Answers the tokens behind. `tokens` are the last of the script's `total`.
 #[tactic(auto, unfolding(script_grammar::specs::Read::closed))]
 fn push_params<'a>(
     alloc: Global,
@@ -63,7 +63,7 @@ fn push_params<'a>(
 }
 
 // Reads the parameters of a def, at least one, and the bracket behind them into a list that is empty at first: param
-// (`,` param)* `)`.
+// (`,` param)* `)`. Answers the tokens behind. `tokens` are the last of the script's `total`.
 #[tactic(auto, unfolding(script_grammar::specs::Read::chain))]
 fn some_params<'a>(
     alloc: Global,
@@ -86,7 +86,8 @@ fn some_params<'a>(
     Ok(rest)
 }
 
-// Reads the further parameters of a def into a list that holds the first one: (`,` param)*.
+// Reads the further parameters of a def into a list that holds the first one: (`,` param)*. Answers the tokens
+// behind. `tokens` are the last of the script's `total`.
 fn more_params<'a>(
     alloc: Global,
     total: usize,
@@ -112,7 +113,8 @@ fn more_params<'a>(
     Ok(rest)
 }
 
-// Reads a comma and the parameter behind it: `,` param.
+// Reads a comma and the parameter behind it: `,` param. Answers the parameter and the tokens behind. `tokens` are the
+// last of the script's `total`.
 #[tactic(auto, unfolding(script_grammar::specs::Read::behind))]
 fn comma_param(alloc: Global, total: usize, tokens: &[Token]) -> Result<(Param, &[Token]), Fault>
     requires within { length tokens.now ≤ total }
@@ -123,7 +125,9 @@ fn comma_param(alloc: Global, total: usize, tokens: &[Token]) -> Result<(Param, 
     param(alloc, total, after)
 }
 
-// Reads a parameter of a def. param: Name | `~` Name | `~` Name `=` value
+// Reads a parameter of a def, and answers it and the tokens behind. param: Name | `~` Name | `~` Name `=` value.
+// `tokens` are the last of the script's `total`, by which `at` is an index. A syntax fault tells how many tokens were
+// left.
 #[tactic(auto, unfolding(script_grammar::specs::ReadScript::param, crate::specs::Reads::behind_tilde))]
 fn param(alloc: Global, total: usize, tokens: &[Token]) -> Result<(Param, &[Token]), Fault>
     requires within { length tokens.now ≤ total }
@@ -154,7 +158,8 @@ fn param(alloc: Global, total: usize, tokens: &[Token]) -> Result<(Param, &[Toke
     }
 }
 
-// Reads a labelled parameter behind its `~`: Name | Name `=` value.
+// Reads a labelled parameter behind its `~`: Name | Name `=` value. Answers it and the tokens behind. `tokens` are
+// the last of the script's `total`, by which `at` is an index.
 #[tactic(auto, using(crate::proofs::Arms::tilde_is))]
 fn labelled(alloc: Global, total: usize, tokens: &[Token]) -> Result<(Param, &[Token]), Fault>
     requires within { length tokens.now ≤ total }
@@ -169,8 +174,8 @@ fn labelled(alloc: Global, total: usize, tokens: &[Token]) -> Result<(Param, &[T
     label_of(alloc, total, at, name, after)
 }
 
-// Reads the default, if any, of a labelled parameter behind its name, and answers the parameter: (`=` value)?. `at`
-// is the index of the name's token.
+// Reads the default, if any, of a labelled parameter behind its name: (`=` value)?. Answers the parameter and the
+// tokens behind. `at` is the index of the name's token. `tokens` are the last of the script's `total`.
 #[tactic(auto, unfolding(crate::specs::Reads::label_of))]
 fn label_of<'a>(
     alloc: Global,
@@ -196,8 +201,8 @@ fn label_of<'a>(
     }
 }
 
-// Reads the default value of a labelled parameter behind `=`, and answers the parameter. `at` is the index of the
-// name's token.
+// Reads the default value of a labelled parameter behind `=`, and answers the parameter and the tokens behind. `at`
+// is the index of the name's token. `tokens` are the last of the script's `total`.
 fn default_of<'a>(
     alloc: Global,
     total: usize,

@@ -25,7 +25,8 @@ use value_parse::{call, choice, value};
 /// not used is never touched, and a list that does not suffice grows as it is filled.
 const TOKENS_A_STATEMENT: usize = 3;
 
-/// Reads statements up to the end of the tokens, which are the last of `total`: statement*.
+/// Reads statements up to the end of the tokens: statement*. Answers them and the tokens behind, of which there are
+/// none. `tokens` are the last of the script's `total`, by which `at` is an index.
 pub fn statements(
     alloc: Global,
     total: usize,
@@ -46,7 +47,7 @@ pub fn statements(
 }
 
 // Reads a statement and adds it to the list; answers the tokens behind it. statement: (binding | def | call | if)
-// `;`?
+// `;`?. `tokens` are the last of the script's `total`. Room in the list is made first, so that adding cannot fail.
 fn statement<'a>(
     alloc: Global,
     total: usize,
@@ -74,7 +75,8 @@ fn statement<'a>(
     }
 }
 
-// Reads a statement that is a binding and adds it to the list; answers the tokens behind it: binding `;`?
+// Reads a statement that is a binding and adds it to the list, which has room for it; answers the tokens behind it:
+// binding `;`?. `tokens` are the last of the script's `total`, by which `at` is an index.
 #[tactic(auto, using(crate::proofs::Arms::bind_is))]
 fn bind_stmt<'a>(
     alloc: Global,
@@ -95,8 +97,8 @@ fn bind_stmt<'a>(
     bind_stmt_of(alloc, total, items, at, name, after)
 }
 
-// Reads a statement that is a binding from behind its name, and adds it to the list: `=` value `;`?. `at` is the
-// index of the name's token.
+// Reads a statement that is a binding from behind its name, and adds it to the list: `=` value `;`?. Answers the
+// tokens behind. `at` is the index of the name's token. `tokens` are the last of the script's `total`.
 fn bind_stmt_of<'a>(
     alloc: Global,
     total: usize,
@@ -192,7 +194,8 @@ fn keep_if<'a>(
     Ok(keep(items, StmtPart::If(choice), rest))
 }
 
-// Adds a statement of this part, with the `;` that may stand behind it, and answers the tokens behind both.
+// Adds a statement of this part to the list, which has room for it, with the `;` that may stand behind it. Answers
+// the tokens behind both.
 fn keep<'a>(items: &mut Vec<Stmt>, part: StmtPart, tokens: &'a [Token]) -> &'a [Token]
     requires room { vec_len items.old < vec_capacity items.old }
     ensures shorter { length result.now ≤ length tokens.now }

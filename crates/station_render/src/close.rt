@@ -19,8 +19,9 @@ use crate::output_sink::{OutputSink, end_if};
 use crate::{RenderFault, Rendered};
 use liq_base::{Failed, Shelf};
 
-/// Closes the sinks of all outputs in sink order, whatever was written. It returns what was told of the run, the
-/// run's fault, or that of a closing. `order` has the clock of each sink, and `groups` the sinks of each clock.
+/// Closes the sinks of all outputs in sink order, whatever was written. `wrote` is what is told of the run, or the
+/// run's fault. It is the answer too, unless all went well but a closing failed, whose fault then is. `order` has the
+/// clock of each sink, and `groups` the sinks of each clock.
 pub(crate) fn close_all<S: Shelf>(
     shelf: &mut S,
     order: &[u32],
@@ -55,7 +56,7 @@ pub(crate) fn close_all<S: Shelf>(
 }
 
 /// Closes the sinks of the outputs that were created, in sink order, after a fault of the opening, and returns this
-/// fault.
+/// fault, whatever the closings came to. `order` has the clock of each sink, and `groups` the sinks of each clock.
 pub(crate) fn close_broken<S: Shelf>(
     shelf: &mut S,
     order: &[u32],
@@ -81,8 +82,9 @@ pub(crate) fn close_broken<S: Shelf>(
     fault
 }
 
-// Closes the sinks in sink order, also those behind one whose closing failed. `well` says that all went well before; as
-// long as it does, each sink gets the byte that it owes before it is closed.
+// Closes the sinks in sink order, also those behind one whose closing failed, and tells the first failure. `order`
+// has the clock of each sink, and `groups` the sinks of each clock. `well` says that all went well before; as long as
+// it does, each sink gets the byte that it owes before it is closed.
 fn close_each<S: Shelf>(
     shelf: &mut S,
     order: &[u32],
@@ -140,7 +142,7 @@ fn still_well(well: bool, ended: Result<(), Failed>, closed: Result<(), Failed>)
     well && ended.is_ok() && closed.is_ok()
 }
 
-// Takes the first sink of this clock out of `groups`, the list of each clock's sinks.
+// Takes the first sink of this clock out of `groups`, the list of each clock's sinks. By the contract there is one.
 fn take_first<O>(groups: &mut Vec<Vec<O>>, clock: u32) -> O
     requires { (first : O) × (rest : List O) × (slice_get (lists_of groups.old.items) clock ≡ Some (first ∷ rest)) }
     ensures { WasTaken clock (lists_of groups.old.items) result (lists_of groups.new.items) }
@@ -148,7 +150,7 @@ fn take_first<O>(groups: &mut Vec<Vec<O>>, clock: u32) -> O
     groups[clock as usize].remove(0)
 }
 
-// Frees the lists of the clocks' sinks, once all are empty.
+// Frees the lists of the clocks' sinks, once all sinks are taken out of them.
 fn end_all<O>(groups: Vec<Vec<O>>)
     requires { AreAllEmpty (lists_of groups.items) }
 {

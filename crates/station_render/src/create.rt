@@ -23,8 +23,9 @@ use plan_core::{Plan, SinkPlan};
 /// Bytes of a header.
 const HEADER_BYTES: u64 = 44;
 
-/// Creates the outputs of a plan in sink order, each with its header. `order` gets the clock of each, and `groups` has
-/// the sinks of each clock.
+/// Creates the outputs of a plan in sink order, each with its header and with room for the samples of so many ticks.
+/// `order` gets the clock of each, and `groups` has the sinks of each clock. After a fault they have those that were
+/// created.
 pub(crate) fn create_each<S: Shelf>(
     plan: &Plan,
     clocks: &ClockMap,
@@ -70,8 +71,9 @@ pub(crate) fn create_each<S: Shelf>(
     Ok(())
 }
 
-// Creates an output of this name, with its header as one piece, and adds its sink to those of its clock. Its room is
-// for exactly its bytes, with a zero byte at the end if those of its samples are odd.
+// Creates an output of this name, with its header as one piece, and adds its sink to those of its clock, also where
+// the header was refused, so that it is closed later. Its room is for exactly its bytes, with a zero byte at the end
+// if those of its samples are odd.
 fn create_one<S: Shelf>(
     shelf: &mut S,
     name: &str,

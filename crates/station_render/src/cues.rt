@@ -119,8 +119,8 @@ fn push_line(
     text.push_str("\n")
 }
 
-// Appends to a line of a cue file a space and the name of the file for which this title stands; nothing for a title
-// without a file.
+// Appends to a line of a cue file a space and the name of the file for which this title stands: title k + 1 is the
+// name of file k. Nothing comes for 0, a title without a file.
 fn push_title(text: &mut String, library: &Library, title: u32) -> Result<(), AllocError>
     ensures { OnOk result (string_bytes text.new ≡ string_bytes text.old ++ spaced (title_name library.now title)) }
 {

@@ -199,7 +199,8 @@ fn marks_of<O: Sink>(
     Ok(all)
 }
 
-// A copy of the marks that an engine kept of one output.
+// Copies the marks (where tracks begin, with their titles) that an engine kept of one output, since the engine ends
+// before they are written.
 fn copied(alloc: Global, marks: &[CueMark]) -> Result<Vec<CueMark>, AllocError>
     ensures { IfOk result (λ own. own.items ≡ marks.now) }
 {
@@ -229,8 +230,8 @@ fn marks_if<O: Sink>(
     marks_of(alloc, &job.plan, &job.ready.clocks, engines)
 }
 
-// What is told of a run that made all its ticks: each output's gaps and marks, and each buffer's answers. For a run
-// that broke off it is the fault.
+// What is told of a run that made all its ticks: each output's gaps (instants without a cell), each output's marks if
+// cue files are wanted, and each buffer's answers. For a run that broke off it is the fault.
 fn tell<O: Sink>(
     alloc: Global,
     job: &Job<'_>,

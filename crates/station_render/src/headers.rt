@@ -80,7 +80,8 @@ fn block_len(wide: bool, kind: Kind) -> u64
     if wide { 3 * channels } else { 2 * channels }
 }
 
-// The WAV header of an output of this kind, for the samples of so many ticks.
+// The WAV header of an output of this kind, for the samples of so many ticks: of 24 bits if it is `wide`, and
+// otherwise of 16 bits. The contract bounds the samples, so that there is a header for them.
 fn header_for(plan: &Plan, kind: Kind, wide: bool, ticks: u64) -> [u8; 44]
     requires plan { IsWellFormed plan.now }
     requires few { ticks ≤ 1000000000 }

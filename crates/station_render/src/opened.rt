@@ -32,7 +32,8 @@ pub(crate) struct Places<O> {
 }
 
 /// The first part of a rendering: creates the outputs in sink order, and makes the engines of all clocks, which take
-/// the sinks. After a fault it closes what it created.
+/// the sinks. Answers the places to which the sinks go back, and the engines in clock order. After a fault it closes
+/// what it created.
 pub(crate) fn open_outputs<'a, S: Shelf>(
     alloc: Global,
     job: &'a Job<'_>,

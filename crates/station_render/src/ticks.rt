@@ -19,8 +19,8 @@ use std::thread::Threads;
 use trace_log::Trace;
 use trace_replay::{RecordTurns, replay};
 
-/// Runs the engines of a job on threads, one for each clock, in windows of `window` ticks. It answers the engines and
-/// how the run ended.
+/// Runs the engines of a job on threads, one for each clock, in windows of `window` ticks. Each clock enters the
+/// `gate` before each tick. It answers the engines and how the run ended.
 pub(crate) fn tick_by_threads<'a, O: Sink + Send, G: Gate + Sync, R: Threads + Wait + Sync>(
     rt: &R,
     alloc: Global,

@@ -18,7 +18,8 @@ const PIECES: &[(&str, Result<(), Failed>, &str)] = &[
     ("f", Err(Failed), "abcde"),
 ];
 
-// Appends a piece to a sink in memory, and checks the answer and what the sink holds after it.
+// Appends a piece to a sink in memory, and checks that it answers `answer`, and that the sink holds the text `held`
+// after it.
 fn check_piece(
     rt: &impl Abort,
     sink: &mut MemSink,
@@ -38,7 +39,8 @@ fn check_pieces(rt: &impl Abort, sink: &mut MemSink, rows: &[(&str, Result<(), F
     }
 }
 
-// A sink in memory with room for 5 bytes, whose appends 1 and 3, counted from 0, stop after so many bytes.
+// A sink in memory with room for 5 bytes. Each pair is the number of an append, from 0, and after how many bytes it
+// fails; of a number that stands there twice the first counts.
 fn failing_sink(alloc: Global) -> Result<MemSink, Memory> {
     let fails = vec![in alloc; (1, 1), (3, 9), (3, 0)]?;
     MemSink::new(alloc, 5, fails)
@@ -61,7 +63,8 @@ const READS: &[(&str, u64, Result<Fetched, ShelfFault>, usize)] = &[
     ("b", 3, Ok(Fetched::Found), 6),
 ];
 
-// Reads a file from a shelf in memory: what it answers, and how many bytes were read by then.
+// Reads a file of at most `most` bytes from a shelf in memory, behind what `into` holds: what the shelf answers, and
+// how many bytes `into` has then.
 fn read_one(
     shelf: &mut MemShelf,
     into: &mut Vec<u8>,
@@ -88,7 +91,7 @@ fn check_reads(
     }
 }
 
-// A shelf in memory with the file `b`, whose read 1, counted from 0, fails.
+// A shelf in memory with the file `b`, whose second read, number 1 from 0, fails as by a device.
 fn shelf(alloc: Global) -> Result<MemShelf, Memory> {
     let mut shelf = MemShelf::new(alloc, shelf_files(alloc)?);
     shelf.fail_read(1)?;
@@ -112,7 +115,8 @@ const LOOKS: &[(&str, u64, Result<Looked, ShelfFault>, usize)] = &[
     ("b", 3, Ok(Looked::Found(3)), 6),
 ];
 
-// Looks at the first byte of a file on a shelf in memory: what it answers, and how many bytes were read by then.
+// Looks at the first byte of a file of at most `most` bytes on a shelf in memory: what the shelf answers, and how
+// many bytes `into` has then.
 fn look_once(
     shelf: &mut MemShelf,
     into: &mut Vec<u8>,

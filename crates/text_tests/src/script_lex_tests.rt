@@ -8,7 +8,8 @@ use std::fmt::Write;
 use std::process::Abort;
 use std::test::Fail;
 
-// Appends a part of a time mark, or `-` where it is not written, and a text after it.
+// Appends a part of a time mark (its day, hour, minute or second), or `-` where the mark has no such part, and the
+// text `behind` after it.
 fn push_part(text: &mut String, value: Option<u8>, behind: &str) -> Result<(), AllocError> {
     match value {
         Some(value) => write!(text, "{value}{behind}")?,
@@ -17,7 +18,8 @@ fn push_part(text: &mut String, value: Option<u8>, behind: &str) -> Result<(), A
     Ok(())
 }
 
-// A time mark as text: its day, hour, minute and second.
+// Writes a time mark as text: `Time(`, then its day, hour, minute and second, each `-` where it is not there, and
+// `)`.
 fn time(alloc: Global, mark: TimeMark) -> Result<String, AllocError> {
     let mut text = String::from_str(alloc, "Time(")?;
     push_part(&mut text, mark.day, ",")?;
@@ -27,7 +29,7 @@ fn time(alloc: Global, mark: TimeMark) -> Result<String, AllocError> {
     Ok(text)
 }
 
-// The kind of a token as text.
+// Writes the kind of a token as text: its name, and in brackets what it holds, if anything.
 fn kind(alloc: Global, kind: &TokenKind) -> Result<String, AllocError> {
     match kind {
         TokenKind::Name(name) => {
@@ -54,7 +56,8 @@ fn kind(alloc: Global, kind: &TokenKind) -> Result<String, AllocError> {
     }
 }
 
-// The tokens of a text, each as its kind and its place in bytes.
+// Lexes a text, and writes its tokens as text, each as its kind and its place in bytes. Where the lexer finds a fault
+// it answers `no tokens`.
 fn lexed(alloc: Global, source: &str) -> Result<String, AllocError> {
     match lex(alloc, source.as_bytes()) {
         Ok(tokens) => shown(alloc, &tokens),
@@ -62,7 +65,7 @@ fn lexed(alloc: Global, source: &str) -> Result<String, AllocError> {
     }
 }
 
-// Tokens as text, each as its kind and its place in bytes.
+// Writes tokens as text, each as its kind and its place in bytes.
 fn shown(alloc: Global, tokens: &[Token]) -> Result<String, AllocError> {
     let mut text = String::new(alloc);
     for token in tokens {

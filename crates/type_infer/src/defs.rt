@@ -49,8 +49,9 @@ pub fn type_def<'a>(
     type_def_with(alloc, subst, seen, held, &mut uses, def)
 }
 
-/// The general type of a def and the uses in its text; `None` where it has no typing. `uses` is empty at first and
-/// takes the uses as they are found.
+/// Types a def: answers its general type and the uses in its text, or `None` where it has no typing. `seen` are the
+/// names that it sees from outside, and `held` the free variables of earlier values. `uses` is empty at first, and
+/// gets the uses as they are found.
 fn type_def_with<'a>(
     alloc: Global,
     subst: &mut Subst,
@@ -88,7 +89,8 @@ fn answer_of(parts: &TypedParts) -> Ty
 }
 
 /// Makes a def general once its parts have types, and answers it with its general type and the uses of its text.
-/// Before that, `held` (the free variables of earlier values) is brought up to the substitution.
+/// Before that, `held` (the free variables of earlier values) is brought up to the substitution. `has_defaults` does
+/// nothing: it brings a law to the contract.
 fn general_def<'a>(
     alloc: Global,
     subst: &Subst,
@@ -131,7 +133,7 @@ fn general_type(
 }
 
 /// The general type of a def whose parts were typed, with the general kinds at the uses of its text. `params` and
-/// `kinds` are empty lists at first, for the parameters' types and the text's kinds.
+/// `kinds` are empty at first: they get the parameters' types and the kinds at `uses`.
 fn general_type_with(
     alloc: Global,
     subst: &Subst,

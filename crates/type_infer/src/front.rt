@@ -70,8 +70,8 @@ fn resolve_each<'a>(
     })
 }
 
-/// Puts into `notes` what the names of this statement mean, and nothing else, and takes the scope behind it; or returns
-/// its fault of names. `number` counts the statements from 1.
+/// Puts into `notes` what the names of this statement mean, and nothing else, and lets the scope stand behind it.
+/// `Err` is the statement's fault of names. `number` counts the statements from 1.
 fn note_names<'a>(
     alloc: Global,
     scope: &mut Scope<'a>,

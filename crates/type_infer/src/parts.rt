@@ -22,8 +22,8 @@ pub struct TypedParts {
     pub result: u64,
 }
 
-/// Types the parts of a def: the type variables of its parameters and of its result, or `None` where it has no
-/// typing. The uses in it are added to `uses`.
+/// Types the parts of a def, which sees the names in `seen` outside of it. Answers the type variables of its
+/// parameters and of its result, or `None` where it has no typing. The uses of names in it are added to `uses`.
 pub fn type_parts(
     alloc: Global,
     subst: &mut Subst,
@@ -53,8 +53,8 @@ pub fn type_parts(
     }
 }
 
-/// Types a parameter of a def: the number of its type variable, which is that of its default, where it has one, and a
-/// new one otherwise. `None` where the default has no type.
+/// Types a parameter of a def: answers the number of its type variable, which is that of its default, where it has
+/// one, and a new one otherwise. `None`: the default has no type. The uses in a default are added to `uses`.
 fn type_param(
     alloc: Global,
     subst: &mut Subst,
@@ -83,8 +83,8 @@ fn type_param(
     }
 }
 
-/// Types the parameters of a def: each by the token of its name with its type variable, or `None` where a default has
-/// no type.
+/// Types the parameters of a def: answers for each the token of its name with its type variable. `None`: a default
+/// has no type. The uses in defaults are added to `uses`.
 fn type_params(
     alloc: Global,
     subst: &mut Subst,
@@ -110,8 +110,9 @@ fn type_params(
     Ok(Some(typed))
 }
 
-/// Types a value in the body of a def, behind these parameters and inner bindings: the number of its type variable,
-/// or `None` where it has no type.
+/// Types a value in the body of a def, which sees the names in `seen` and before them `bindings`, the def's
+/// parameters and earlier inner bindings. Answers the number of its type variable, or `None` where it has no type.
+/// The uses in it are added to `uses`.
 fn type_behind<'n, 'a>(
     alloc: Global,
     subst: &mut Subst,
@@ -138,8 +139,9 @@ fn type_behind<'n, 'a>(
     type_full(alloc, subst, names, uses, full)
 }
 
-/// Types the result of a def, behind its parameters and inner bindings: the number of its type variable, or `None`
-/// where it has no type.
+/// Types the result of a def, which sees the names in `seen` and before them `bindings`, the def's parameters and
+/// inner bindings. Answers the number of its type variable, or `None` where it has no type. The uses in it are added
+/// to `uses`.
 fn type_result<'n, 'a>(
     alloc: Global,
     subst: &mut Subst,
@@ -167,7 +169,7 @@ fn type_result<'n, 'a>(
 }
 
 /// Types the bindings in a def's body, each behind the ones before it, and adds them with their type variables to
-/// `bindings`; false where one has no type.
+/// `bindings`, which has the parameters at first. The uses in them are added to `uses`. False: one has no type.
 fn type_inners(
     alloc: Global,
     subst: &mut Subst,
@@ -217,8 +219,8 @@ fn vars_of(alloc: Global, bindings: &[TypedName]) -> Result<Vec<u64>, Memory>
     Ok(vars)
 }
 
-/// Types the body of a def behind its parameters, that is, its inner bindings and its result: the number of the
-/// result's type variable, or `None` where a part has no type.
+/// Types the body of a def behind its parameters `params`: its inner bindings, then its result. Answers the number of
+/// the result's type variable, or `None` where a part has no type. The uses in it are added to `uses`.
 fn type_body(
     alloc: Global,
     subst: &mut Subst,

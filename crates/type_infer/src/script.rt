@@ -42,7 +42,8 @@ pub fn infer(alloc: Global, script: &Script) -> Result<Vec<Use>, TypeFault>
     statement_uses(alloc, &script.statements)
 }
 
-/// The state of typing before the first statement: nothing is bound, and the substitution has no variables.
+/// The state of typing before the first statement: nothing is bound, and the substitution, which is new, has no
+/// variables. The call on it does nothing: it brings a law to the contract.
 fn begun<'a>(alloc: Global, subst: Subst) -> Typing<'a>
     ensures { (targets : Targets) → IsAfter targets none result }
 {
@@ -68,8 +69,8 @@ fn start<'a>(alloc: Global) -> Result<Typing<'a>, TypeFault>
     }
 }
 
-/// Makes room in the state of typing for what the statements leave, so that few lists grow step by step: each leaves
-/// one step, and binds one name at most. A statement mostly needs a type variable, and each name that it uses another
+/// Makes room in the state of typing for what the statements leave, so that its lists rarely grow. Each statement
+/// leaves one step and binds at most one name. It mostly needs a type variable, and each name that it uses another
 /// one, and perhaps one for its kind.
 fn make_room(typing: &mut Typing<'_>, front: &Front) -> Result<(), Memory>
     ensures { IsSameTyping typing.old typing.new }
@@ -84,8 +85,8 @@ fn make_room(typing: &mut Typing<'_>, front: &Front) -> Result<(), Memory>
     Ok(())
 }
 
-/// Types the first `front.count` statements, which have no fault of names: answers the state of typing after them, or
-/// the first clash of types among them.
+/// Types the first `front.count` statements, which have no fault of names. Answers the state of typing after them;
+/// `Err` is the first clash of types among them, or want of memory, which 2^32 statements are told as too.
 fn type_statements<'a>(
     alloc: Global,
     statements: &'a [Stmt],
@@ -108,8 +109,8 @@ fn type_statements<'a>(
     type_with(alloc, &targets, statements, front)
 }
 
-/// Types the first `front.count` statements from a new state of typing, and answers the state after them, or the
-/// first clash of types. `targets` says by its token what each name means.
+/// Types the first `front.count` statements from a new state of typing, and answers the state after them. `Err` is
+/// the first clash of types, or want of memory. `targets` says by its token what each name means.
 fn type_with<'a>(
     alloc: Global,
     targets: &TokenTable<Target>,
@@ -135,7 +136,8 @@ fn type_with<'a>(
     }
 }
 
-/// Makes room for what the statements leave, and types the first `front.count` of them, up to the first clash.
+/// Makes room for what the statements leave, and types the first `front.count` of them in turn. `Err` is the first
+/// clash of types, or want of memory. `targets` says by its token what each name means.
 fn type_all<'a>(
     alloc: Global,
     typing: &mut Typing<'a>,
@@ -162,7 +164,8 @@ fn type_all<'a>(
     type_each(alloc, typing, targets, statements, front)
 }
 
-/// Types the first `front.count` statements one after another, up to the first clash.
+/// Types the first `front.count` statements one after another. `Err` is the first clash of types, with the number of
+/// its statement from 1, or want of memory.
 fn type_each<'a>(
     alloc: Global,
     typing: &mut Typing<'a>,
@@ -194,7 +197,8 @@ fn type_each<'a>(
     Ok(())
 }
 
-/// The table that says by its token what each name means. Want of memory is told as a fault of the script.
+/// The table that says by its token what each name means. Where memory is refused, `Err` is the fault `Memory` of the
+/// script.
 fn told_table(alloc: Global, names: &[Resolved]) -> Result<TokenTable<Target>, TypeFault>
     ensures table { IfOk result (λ m. targets_of m ≡ target_in (map resolved names.now)) }
     ensures refused { IfErr result (λ f. f ≡ TypeFault.Memory) }
@@ -205,7 +209,8 @@ fn told_table(alloc: Global, names: &[Resolved]) -> Result<TokenTable<Target>, T
     }
 }
 
-/// Types the statement at `index`, counted from 0, as the next one; false where no typing of those before fits it.
+/// Types the statement at `index`, counted from 0, as the next one. False: it clashes with the statements before, as
+/// no typing of them fits it. `targets` says by its token what each name means.
 fn type_next<'a>(
     alloc: Global,
     typing: &mut Typing<'a>,
@@ -231,8 +236,8 @@ fn type_next<'a>(
     Ok(yes)
 }
 
-/// Types this statement as the next one; false where there is no typing with it. Want of memory is told as a fault of
-/// the script.
+/// Types this statement as the next one, and keeps what it leaves in `typing`. False: there is no typing of the
+/// statements so far with it. Where memory is refused, `Err` is the fault `Memory` of the script.
 fn next<'a>(
     alloc: Global,
     typing: &mut Typing<'a>,
@@ -250,8 +255,8 @@ fn next<'a>(
     }
 }
 
-/// Resolves the names of a script up to its first fault of names: what they mean, and that fault. Want of memory is
-/// told as a fault of the script.
+/// Resolves the names of a script up to its first fault of names, and answers what they mean, in how many statements,
+/// and that fault. `Err` alone is want of memory; a fault of names stands within the answer.
 fn told_front(alloc: Global, statements: &[Stmt]) -> Result<Front, TypeFault>
     ensures front { IfOk result
         (λ f. IsFront (map view_stmt statements.now) f.count (map resolved f.all.items) f.fault) }
@@ -263,8 +268,8 @@ fn told_front(alloc: Global, statements: &[Stmt]) -> Result<Front, TypeFault>
     }
 }
 
-/// The end of typing: the fault of names, if there is one, and otherwise the uses of the typed statements with their
-/// final kinds, in a list with room for `room` uses at first.
+/// The end of typing: `fault`, the fault of names, if there is one. Otherwise it is the uses of the typed statements
+/// with their final kinds, in a list with room for `room` uses at first.
 fn uses_or_fault(
     alloc: Global,
     typing: Typing<'_>,
@@ -285,8 +290,8 @@ fn uses_or_fault(
     }
 }
 
-/// The uses of a script, or its first fault, once names are resolved: `front` has what they mean, up to the first
-/// fault of names.
+/// Types the statements of a script whose names are resolved, and answers their uses. `Err` is the first clash of
+/// types, or else the fault of names. `front` has what the names mean, up to that fault.
 fn answered(alloc: Global, statements: &[Stmt], front: Front) -> Result<Vec<Use>, TypeFault>
     requires front { IsFront (map view_stmt statements.now) front.count (map resolved front.all.items) front.fault }
     requires placed { IsPlaced 0 (listed (map view_stmt statements.now)) }

@@ -37,7 +37,8 @@ fn free_kind(kind: KindTerm) -> Kind
     }
 }
 
-/// The final kind of a kind term: what its variable is bound to, and stereo for one that nothing binds.
+/// The final kind of a kind term, mono or stereo: what its variable is bound to, and stereo, the default, for one
+/// that nothing binds.
 fn settle_kind(subst: &Subst, kind: KindTerm) -> Kind
     requires over { IsKindOver subst.now kind }
     ensures { IsSettledKind subst.now kind result }
@@ -78,7 +79,8 @@ fn add_founds(
     Ok(())
 }
 
-/// The final form of a kind in a def's text: an open kind keeps its number, and any other is mono or stereo for good.
+/// The final form of a kind in a def's text: an open kind, which each call gives, keeps its number as `Given`. Any
+/// other is mono or stereo for good.
 fn settle_text(subst: &Subst, kind: TextKind) -> KindOf
     requires over { IsPendingOver subst.now (pending kind) }
     ensures { IsSettledText subst.now (pending kind) result }
@@ -123,7 +125,7 @@ fn add_texts(
     Ok(())
 }
 
-/// Adds to `uses` those in a def's text, if there is a def, with their final kinds.
+/// Adds to `uses` those in a def's text, with their final kinds. Without a def it adds none.
 fn add_def(
     alloc: Global,
     subst: &Subst,
@@ -140,8 +142,8 @@ fn add_def(
     }
 }
 
-/// Adds to `uses` those that one typed statement has left, with their final kinds. A step names its def by its place
-/// in `defs`.
+/// Adds to `uses` those that one typed statement has left, with their final kinds: the uses of a bound value, of a
+/// def's text, or of what runs. A step names its def by its place in `defs`.
 fn add_step(
     alloc: Global,
     subst: &Subst,
@@ -159,8 +161,8 @@ fn add_step(
     }
 }
 
-/// The uses that all typed statements have left, with their final kinds and in order, in a list with room for `room`
-/// uses at first.
+/// The uses that all typed statements have left, with their final kinds and in the order of the statements. A step
+/// names its def by its place in `defs`. The list has room for `room` uses at first.
 fn steps_uses(
     alloc: Global,
     subst: &Subst,

@@ -37,8 +37,8 @@ pub fn type_part<'a>(
     }
 }
 
-/// What an expression outside of defs sees: the meanings of names, what statements have bound, and their defs. No
-/// name is bound within.
+/// The names that an expression outside of defs sees: what each means by its token, what statements have bound, and
+/// their defs. `inner`, the names bound within a def, is empty.
 fn outside<'n, 'a>(
     targets: &'n TokenTable<Target>,
     before: &'n Bindings,
@@ -68,8 +68,9 @@ fn add_values(alloc: Global, subst: &Subst, held: &mut Held, values: &[u64]) -> 
     Ok(())
 }
 
-/// Brings `held`, the free variables of the values' types, up to the substitution: renews what was found and adds the
-/// pending values, of which none is left. Where memory runs out, some of it may have been done.
+/// Brings `held`, the free variables of earlier values' types, up to the substitution: renews what was found, and
+/// adds those of the `pending` values, of which none is left. Only a def asks for them, so it is done just before
+/// one. Where memory runs out, some of it may have been done.
 fn catch_up(
     alloc: Global,
     subst: &Subst,

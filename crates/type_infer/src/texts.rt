@@ -33,8 +33,8 @@ pub fn push_all_kinds(kinds: &mut Vec<KindTerm>, uses: &[FoundUse]) -> Result<()
     Ok(())
 }
 
-/// The uses of a def as its general type keeps them. `text` has their general kinds one after another, of which each
-/// use takes as many as it has.
+/// The uses in a def's text as its general type keeps them. `text` has the kinds of all of them in general form, one
+/// after another, and each use takes as many as it had in `uses`.
 pub fn text_of_uses(
     alloc: Global,
     uses: &[FoundUse],
@@ -67,8 +67,8 @@ fn push_kinds(kinds: &mut Vec<KindTerm>, found: &FoundUse) -> Result<(), Memory>
     Ok(())
 }
 
-/// A kind in a def's text, as the general type tells it, in the form that a kept use has: open in the def, or from
-/// outside.
+/// Turns a kind at a use in a def's text, as the general type tells it, into the form in which the use is kept:
+/// `Open`, by its number among the def's open kinds, or `Outer`, from outside of the def.
 fn kind_of(kind: KindInText) -> TextKind
     ensures { pending result ≡ pending_of kind }
 {

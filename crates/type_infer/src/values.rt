@@ -15,7 +15,8 @@ use type_terms::Subst;
 /// room for four at its first use.
 const USES_OF_A_VALUE: usize = 2;
 
-/// Types a value outside of defs: its type variable and the uses in it, or `None` where it has no type.
+/// Types a value outside of defs, where it sees the names in `seen`: answers its type variable and the uses of names
+/// in it, or `None` where it has no type.
 pub fn value_type(
     alloc: Global,
     subst: &mut Subst,
@@ -33,7 +34,8 @@ pub fn value_type(
     }
 }
 
-/// Types a call outside of defs: its type variable and the uses in it, or `None` where it has no type.
+/// Types a call outside of defs, where it sees the names in `seen`: answers its type variable and the uses of names
+/// in it, or `None` where it has no type.
 pub fn run_type(
     alloc: Global,
     subst: &mut Subst,
@@ -51,7 +53,8 @@ pub fn run_type(
     }
 }
 
-/// Types an `if` outside of defs: its type variable and the uses in it, or `None` where it has no type.
+/// Types an `if` outside of defs, where it sees the names in `seen`: answers its type variable and the uses of names
+/// in it, or `None` where it has no type.
 pub fn choice_type(
     alloc: Global,
     subst: &mut Subst,
@@ -69,7 +72,8 @@ pub fn choice_type(
     }
 }
 
-/// An expression that was typed, with the type variable and the uses that were found, as one value.
+/// Puts the type variable and the uses that were found for an expression together, as one value. The call on `subst`
+/// does nothing: it brings a law to the contract.
 fn noted(subst: &Subst, var: u64, uses: Vec<FoundUse>) -> TypedExpr
     ensures { IsNoted subst.now var uses.items result }
 {
