@@ -26,8 +26,9 @@ use plan_core::{Node, Plan, SinkPlan};
 use std::alloc::Global;
 use stream_meaning::Part;
 
-/// The states of all clocks before the first instant, which is at `time`: of each node, the time of each sub-clock, and
-/// the latest instant, which offers nothing. Nodes that main clock `clock` does not drive have idle states.
+/// The states of all clocks before the first instant, which is at `time`: each node's state, the time of each
+/// sub-clock's next instant, and the latest instant, at which no node offers anything. Nodes that main clock `clock`
+/// does not drive have idle states.
 pub fn clocks_of(
     alloc: Global,
     scene: &Scene<'_>,

@@ -37,10 +37,9 @@ const WRITE_FAILED: u8 = 4;
 /// Memory was refused.
 const NO_MEMORY: u8 = 5;
 
-/// Does what the words ask for, and answers the status, from 0 to 5. `docs/promises.md` says what each leaves.
-/// `out` gets the report and `err` the line of a refusal; both tell no room left. A rendering without `--one-thread`,
-/// and that of a workload, runs each clock on a thread of its own, which enters the gate before each tick. A workload
-/// is rendered into a shelf of its own, and the one that was handed in stays as it was.
+/// Does what the words ask for, and answers the status: 0 done, 1 refused, 2 no form, 3 a read failed, 4 a write
+/// failed, 5 no memory. `out` gets the report, `err` the line of a refusal. Without `--one-thread` each clock runs on a
+/// thread of its own, and enters the gate before each tick. `make` renders into a shelf of its own, not into `shelf`.
 pub fn liq<S: Shelf, O: Sink, E: Sink, G: Gate + Sync, R: Threads + Wait + Sync>(
     rt: &R,
     alloc: Global,
@@ -85,8 +84,8 @@ pub fn liq<S: Shelf, O: Sink, E: Sink, G: Gate + Sync, R: Threads + Wait + Sync>
     finish(alloc, job, out, err)
 }
 
-/// Does what the words ask for where it takes no threads, and answers the status. It answers nothing exactly where they
-/// ask for a rendering by threads or for a workload, and then nothing was done. It waits for nobody.
+/// Does what the words ask for where it takes no threads, and answers the status, as `liq`. It answers `None` exactly
+/// where they ask for a rendering by threads or for a workload, and then nothing was done. It waits for nobody.
 pub fn liq_alone<S: Shelf, O: Sink, E: Sink>(
     alloc: Global,
     words: &[String],

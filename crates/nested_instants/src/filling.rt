@@ -71,10 +71,9 @@ pub fn fill_child(scene: &Scene<'_>, clocks: &mut ClockStates, k: u32)
     clocks.times[at] = clocks.times[at].next();
 }
 
-/// Feeds crossfade k further slots of its child, after the latest instant of its sub-clock, which was at `time` and
-/// whose slot it has. If instants follow that go on as that one did, and the crossfade has room, so many are made at
-/// once. Otherwise none is made, and it is kept how many go on. `levels` bounds how deep sub-clocks nest below the
-/// crossfade's clock.
+/// Feeds crossfade k the slots of its child after the latest instant of its sub-clock, which was at `time` and is fed
+/// already. If instants follow that go on as that one did, and the crossfade has room, they are made at once. Otherwise
+/// it notes how many go on, for later. `levels` bounds how deep sub-clocks nest below its clock.
 pub fn fill_on(scene: &Scene<'_>, clocks: &mut ClockStates, k: u32, time: WeekTime, levels: usize)
     requires ready { AreStatesAt scene.now time clocks.old }
     requires within { k < length scene.now.plan.now.nodes }
@@ -125,8 +124,8 @@ fn goes_for(scene: &Scene<'_>, clocks: &ClockStates, k: u32, time: WeekTime) -> 
     rest_for(scene, clocks, NodeClock::Sub(k), time, most)
 }
 
-// How many instants of its sub-clock crossfade k can use at once, at most: as many as it has room for if it wants any,
-// and otherwise those of a stretch.
+// How many instants of its sub-clock crossfade k can use at once, at most. Where it has room for slots it is that many,
+// but no more than a stretch has; where it has none, a whole stretch, which is noted for later.
 fn most_used(clocks: &ClockStates, k: u32) -> u32
     requires within { k < length clocks.now.states.items }
     ensures some { 0 < result }

@@ -123,7 +123,7 @@ fn multiplied_token(divide: bool) -> TokenKind
     }
 }
 
-// Appends the tokens of parts, each behind `or`.
+// Appends to `out` the tokens of the further parts of an expression, each behind `or`.
 #[cycle(value)]
 fn put_ands(alloc: Global, out: &mut Vec<TokenKind>, ands: &[And]) -> Result<(), Memory>
     ensures { OnOk result (out.new.items ≡ out.old.items ++ each_behind (a_keyword word.Or) (map view_and ands.now)) }
@@ -135,7 +135,7 @@ fn put_ands(alloc: Global, out: &mut Vec<TokenKind>, ands: &[And]) -> Result<(),
     Ok(())
 }
 
-// Appends the tokens of parts with `and` between.
+// Appends to `out` the tokens of a part of an expression: comparisons with `and` between.
 #[cycle(value)]
 fn put_and(alloc: Global, out: &mut Vec<TokenKind>, and: &And) -> Result<(), Memory>
     ensures { OnOk result (out.new.items ≡ out.old.items ++ spell (view_and and.now)) }
@@ -144,7 +144,7 @@ fn put_and(alloc: Global, out: &mut Vec<TokenKind>, and: &And) -> Result<(), Mem
     put_nots(alloc, out, &and.rest)
 }
 
-// Appends the tokens of parts, each behind `and`.
+// Appends to `out` the tokens of further comparisons, each behind `and`.
 #[cycle(value)]
 fn put_nots(alloc: Global, out: &mut Vec<TokenKind>, nots: &[Not]) -> Result<(), Memory>
     ensures { OnOk result (out.new.items ≡ out.old.items ++ each_behind (a_keyword word.And) (map view_not nots.now)) }
@@ -283,7 +283,7 @@ fn put_operand(
     }
 }
 
-// Appends the tokens of `%wav`, with the option `samplesize` if it has one.
+// Appends to `out` the tokens of the format `%wav`, with its option `(samplesize=size)` if it has one.
 fn put_wav(alloc: Global, out: &mut Vec<TokenKind>, size: Option<i64>) -> Result<(), Memory>
     ensures { OnOk result (out.new.items ≡ out.old.items ++ wav_tokens size) }
 {

@@ -38,7 +38,8 @@ fn append_trace(trace: &Trace, into: &mut Vec<u8>) -> Result<(), Memory>
     Ok(())
 }
 
-// Appends line `place`, counted from the one after line 0; where memory is refused, a prefix of it.
+// Appends line `place`, counted from the one after line 0: lines come by windows, and in each by buffers. Where memory
+// is refused, a prefix of it.
 #[tactic(auto, using(crate::proofs::Joins::window_inside, crate::proofs::Joins::buffer_inside, crate::proofs::Joins::some_inside))]
 fn append_place(trace: &Trace, into: &mut Vec<u8>, place: u64) -> Result<(), Memory>
     requires trace { IsTrace trace.now }
