@@ -13,8 +13,8 @@ use std::marker::{Brand, Model};
 use std::mem;
 use std::sync::Wait;
 
-// An empty queue of at most `capacity` chunks, with a pass for each of its two ends, which is the right to use that
-// end; the one that puts comes first.
+// An empty queue of at most `capacity` chunks, with a pass for each of its two ends, the one that puts first: the right
+// to use that end. `K` is the capacity as a type, for proofs.
 fn opened_at<K: Size>(
     alloc: Global,
     capacity: u32,
@@ -30,8 +30,8 @@ fn opened_at<K: Size>(
 }
 
 // Ends one window of a queue's use and opens the next with what the queue holds. It joins the passes of the two ends,
-// learns that their puts and takes were one order, and cuts them anew. An idle pass stands in for `take` meanwhile. All
-// of this is for proofs; the queue's chunks stay.
+// learns that their puts and takes were one order, and cuts them anew. An idle pass stands in for `take` meanwhile. No
+// chunk moves.
 fn turn(queue: &Ruled, put: &mut Pass<Chunk, View>, take: &mut Pass<Chunk, View>)
     requires queue { IsPassOf queue.now put.old × IsPassOf queue.now take.old }
     requires roles { ((view put.old).puts ≡ true) × ((view take.old).takes ≡ true) }

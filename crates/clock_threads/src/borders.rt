@@ -11,7 +11,8 @@ use buffer_ends::{BufferLog, TakeEnd, ThreadTaps, WindowLog};
 use liq_base::Memory;
 use std::alloc::Global;
 
-// Moves out of a task the ends of buffers at which it takes, so that another task's ends can be closed with them.
+// Moves out of a task the ends of buffers at which it takes, so that windows can be closed with them at the tasks that
+// put. `put_back` returns them.
 fn lent<'a, O, R>(alloc: Global, task: &mut Task<'_, O, ThreadTaps<'a, R>>) -> Vec<TakeEnd<'a>>
     ensures { WasLent task.old task.new result.items }
 {

@@ -44,7 +44,7 @@ fn with_window(counts: Counts, window: &WindowLog) -> Result<Counts, Memory>
 }
 
 // How many answers of each sort these windows of a buffer have: puts accepted or at a full buffer, takes with a chunk
-// or without.
+// or without. A count above 2^64 - 1 is refused, as memory is.
 fn count_windows(windows: &[WindowLog]) -> Result<Counts, Memory>
     ensures { IfOk result (λ counts. counts ≡ counts_in windows.now) }
 {

@@ -24,7 +24,7 @@ pub struct ClockState {
 
 /// Makes a segment of a clock: an instant, and then at most `most` instants that go on as it did. Returns how many
 /// these further ones are. `own` says of each node whether its own clock demands it of itself. If memory is refused,
-/// the first takes of the instant from buffers were made.
+/// some takes from buffers were made, from the first on.
 pub fn make_segment<T: Taps>(
     scene: &Scene<'_>,
     clock: NodeClock,

@@ -240,8 +240,8 @@ fn give_or_stop<T: Taps>(
     }
 }
 
-// At how many instants of whole ticks an output had nothing to play: of all, or if a fault stopped the engine, of
-// those before the tick in which it did.
+// At how many instants of whole ticks the output `port` had nothing to play. If a fault stopped the engine, those of
+// the tick in which it did are left out.
 fn whole_gaps(port: &Port, stopped: Option<TickFault>) -> u64
     ensures runs { stopped ≡ None → result ≡ port.now.gaps }
     ensures stopped { (fault : Fault) → stopped ≡ Some fault → result ≡ port.now.gaps_before }
@@ -378,8 +378,8 @@ impl<'a, O: Sink> ClockEngine<'a, O> {
     }
 
     /// The marks of this output, which is one of the clock: each instant of the ticks made at which its node offered a
-    /// cell that begins a track, and its title. A tick that stopped the engine is not among them. An engine that keeps
-    /// no marks has none.
+    /// cell that begins a track, and its title. A tick that stopped the engine is not among them. There are none where
+    /// the engine keeps no marks.
     pub fn cues(&self, sink: u32) -> &[CueMark]
         requires output { (node : ℕ) × IsOutput (setting_of self.now.parts) self.now.parts.clock sink node }
         ensures made { (ticks : ℕ) (answers rest : ℕ → List Answer) (node : ℕ)

@@ -19,7 +19,8 @@ use node_states::WeekTime;
 
 /// Makes one instant of a clock, at `time`. If it begins a tick, the clock's readers take from buffers by `taps`. Then
 /// each crossfade runs its sub-clock until it knows what it plays next. `own` marks the nodes that their own clock
-/// demands of itself. `levels` bounds how deep sub-clocks nest. If memory is refused, the first takes were made.
+/// demands of itself, and `levels` bounds how deep sub-clocks nest. If memory is refused, some takes were made, from
+/// the first on.
 #[cycle(clocks)]
 pub fn make_instant<T: Taps>(
     scene: &Scene<'_>,
@@ -99,7 +100,7 @@ fn settle<T: Taps>(
 }
 
 // Feeds all crossfades of a clock until each knows what it plays next, which is its item. `levels` bounds how deep
-// sub-clocks nest below the clock.
+// sub-clocks nest below the clock. If memory is refused, some takes from buffers were made, from the first on.
 #[cycle(clocks)]
 fn settle_all<T: Taps>(
     scene: &Scene<'_>,

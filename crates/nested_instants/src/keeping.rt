@@ -43,7 +43,7 @@ pub fn keep(scene: &Scene<'_>, clocks: &mut ClockStates, k: u32, rest: u32)
 }
 
 /// How many instants of a clock, at most `most`, go on as its latest one did, which was at `time`: so many can be made
-/// at once. 0 if the next one may differ.
+/// at once. 0 where that is not known of the next one.
 pub fn rest_for(
     scene: &Scene<'_>,
     clocks: &ClockStates,

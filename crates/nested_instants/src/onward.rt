@@ -103,8 +103,8 @@ fn run_sub(scene: &Scene<'_>, clocks: &mut ClockStates, i: u32, many: u32, level
     take_on(scene, clocks, i, many);
 }
 
-// Whether node i offered a cell at the latest instant of its clock, and is a crossfade through which cells pass as they
-// are: then its sub-clock goes on with it.
+// Whether node i offered a cell at the latest instant of its clock, and is a crossfade through which cells pass one by
+// one: then its sub-clock goes on with it.
 fn passes_on(clocks: &ClockStates, i: u32) -> bool
     requires in_held { i < length clocks.now.room.held.items }
     requires in_states { i < length clocks.now.states.items }

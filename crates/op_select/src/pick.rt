@@ -5,8 +5,8 @@ ghost use Rattle.op_select.specs.Selection.{first_offering, first_pick, first_re
 use frame_core::Cell;
 
 /// The child that a fallback or a switch uses: the first that is eligible and offers a cell; `None` where there is
-/// none. If it is `sensitive` to tracks, the child `last` used is played on while it is in the middle of one, eligible
-/// or not.
+/// none. If it is `sensitive` to tracks, child `last`, which was used last, is played on in the middle of its track,
+/// eligible or not.
 pub fn pick_first(
     sensitive: bool,
     offers: &[Option<Cell>],
@@ -23,9 +23,9 @@ pub fn pick_first(
     find_ready(offers, eligible)
 }
 
-/// The child that a sequence uses, which plays each child for one track and the last one for good. The child `last`
-/// used is played on in the middle of its track; then the first one behind it that offers a cell is used. `None` where
-/// none does.
+/// The child that a sequence uses, which plays each child for one track and the last one for good. Child `last`, which
+/// was used last, is played on to the end of its track; then the first one behind it that offers a cell is used. `None`
+/// where none does.
 pub fn pick_turn(offers: &[Option<Cell>], last: Option<u32>) -> Option<u32>
     requires { length offers.now < 2 ^ 32 }
     ensures { result ≡ turn_pick offers.now last }
@@ -43,7 +43,7 @@ pub fn pick_turn(offers: &[Option<Cell>], last: Option<u32>) -> Option<u32>
     }
 }
 
-/// Whether the child `last` used offers a cell in the middle of a track; false where none was used.
+/// Whether child `last`, which was used last, offers a cell in the middle of a track; false where none was used.
 pub fn plays_on(offers: &[Option<Cell>], last: Option<u32>) -> bool
     ensures { result ≡ plays_on offers.now last }
 {

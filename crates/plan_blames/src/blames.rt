@@ -42,8 +42,8 @@ pub fn is_red(
     }
 }
 
-// Whether a picture shows source k red for a fault of clocks: it has that fault, or asks for one of the two clocks in
-// it.
+// Whether a picture shows source k, of operator `op`, red for a fault of clocks. It does if the source has that fault,
+// or asks for one of the two clocks in it. Too many clocks and want of memory make no source red.
 fn is_clock_red(
     alloc: Global,
     clocks: &Result<ClockMap, ClockFault>,
@@ -243,7 +243,8 @@ fn push_nested(into: &mut Vec<u8>, is_it: bool) -> Result<(), Memory>
     }
 }
 
-// Appends the lines of source k where two clocks would drive a source; `is_it` says that this is source k.
+// Appends the lines of source k where the clocks `first` and `second` would drive one source. If that is source k
+// (`is_it`), its label names both; if source k asks for one of them, its label says so.
 fn push_two_clocks(
     alloc: Global,
     into: &mut Vec<u8>,
@@ -325,7 +326,8 @@ fn push_asking_words(
     }
 }
 
-// Appends to the label of source k, which asks for a clock, the clock that it wants for what it plays.
+// Appends to the label of source k, which asks for a clock, the clock that it wants for what it plays. A `clock(..)`
+// names its clock by its id; any other that asks is a crossfade.
 fn push_asking(alloc: Global, into: &mut Vec<u8>, k: u64, op: &Op) -> Result<(), Memory>
     ensures { OnOk result (into.new.items ≡ into.old.items ++ asking k op.now) }
 {

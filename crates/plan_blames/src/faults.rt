@@ -38,7 +38,7 @@ fn push_told(into: &mut Vec<u8>, fault: &ClockFault) -> Result<(), Memory>
     push_plain(into, b"\";\n")
 }
 
-// Appends the words of a picture's heading for a fault of clocks: its number and what it is.
+// Appends the words of a picture's heading for a fault of clocks: its number and what it is. Want of memory has none.
 fn push_heading(into: &mut Vec<u8>, fault: &ClockFault) -> Result<(), Memory>
     ensures { OnOk result (into.new.items ≡ into.old.items ++ heading fault.now) }
 {
@@ -131,7 +131,8 @@ fn push_own_label(into: &mut Vec<u8>, k: u64) -> Result<(), Memory>
     push_number(into, b"own clock of crossfade ", k)
 }
 
-// Appends the rest of a region, after its label, round the groups of the children of this crossfade.
+// Appends the rest of a region, after its label, round the groups of the children of crossfade `node`. `groups` has for
+// each source the number of its group, which must share one clock.
 fn push_own_rest(
     into: &mut Vec<u8>,
     nodes: &[Node],
@@ -167,7 +168,8 @@ fn push_red_rest(
     Ok(())
 }
 
-// Appends to a region the names of its sources: those that must share a clock with one of `these`.
+// Appends to a region the names of its sources: those that must share a clock with one of `these`. `groups` has for
+// each source the number of its group, which must share one clock.
 fn push_red_members(
     into: &mut Vec<u8>,
     groups: &[u32],
@@ -194,7 +196,8 @@ fn push_red_member(into: &mut Vec<u8>, is_in: bool, k: u64) -> Result<(), Memory
     }
 }
 
-// Whether source k must share a clock with one of `these`: it is in the same group.
+// Whether source k must share a clock with one of `these`: it is in the same group. `groups` has for each source the
+// number of its group.
 fn shares(groups: &[u32], these: &[u32], k: u64) -> bool
     ensures { result ≡ shares (λ source. slice_index groups.now source) these.now k }
 {

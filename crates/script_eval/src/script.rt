@@ -172,8 +172,8 @@ fn told(stmt: u32, fault: Stop) -> EvalFault
     }
 }
 
-// Ends the script's settings before a statement that is no `setting`, and at the end of the script, unless they have
-// ended. `setting` says that a `setting` comes next.
+// Ends the script's settings, unless they have ended, before a statement that is no `setting` and at the end of the
+// script. `setting` says that a `setting` comes next: then nothing is done.
 fn settle(machine: &mut Machine, setting: bool) -> Result<(), EvalFault>
     ensures { Answers (λ _. machine.new) result (settings_settled setting machine.old) }
 {
@@ -188,7 +188,7 @@ fn settle(machine: &mut Machine, setting: bool) -> Result<(), EvalFault>
 }
 
 /// Ends the settings of a script: its plan gets the length of a tick in samples, by the duration that was set. If that
-/// is out of bounds, the last setting was bad.
+/// is out of bounds, the fault `BadSetting` names the statement of the last setting.
 #[tactic(auto, unfolding(eval_meaning::specs::Scripts::settings_ended))]
 fn end_settings(machine: &mut Machine) -> Result<(), EvalFault>
     ensures { Answers (λ _. machine.new) result (settings_ended machine.old) }
@@ -272,8 +272,8 @@ fn binding(
     Ok(())
 }
 
-/// The value of an expression in a statement outside of defs: it sees the bindings of the statements before it, and no
-/// parameters.
+/// The value of an expression in a statement outside of defs. It sees the bindings of the statements before it, in
+/// `globals`, and no parameters. Sources that it makes go to the plan in `machine`.
 fn top_full(
     alloc: Global,
     defs: &Defs<'_>,
@@ -297,7 +297,8 @@ fn top_full(
     full(alloc, &scope, LEVELS, machine, node)
 }
 
-/// The value of a call that is a statement: it sees the bindings of the statements before it, and no parameters.
+/// The value of a call that is a statement. It sees the bindings of the statements before it, in `globals`, and no
+/// parameters. Sources and outputs that it makes go to the plan in `machine`.
 fn top_call(
     alloc: Global,
     defs: &Defs<'_>,
@@ -321,7 +322,8 @@ fn top_call(
     call(alloc, &scope, LEVELS, machine, node)
 }
 
-/// The value of an `if` that is a statement: it sees the bindings of the statements before it, and no parameters.
+/// The value of an `if` that is a statement. It sees the bindings of the statements before it, in `globals`, and no
+/// parameters. What it makes goes to the plan in `machine`.
 fn top_choice(
     alloc: Global,
     defs: &Defs<'_>,

@@ -41,8 +41,8 @@ pub(crate) fn cut_line(text: &[u8], window: u64, buffer: u64) -> Option<(&[u8], 
     Some((puts, takes, rest))
 }
 
-// Cuts a word, this number and a space from the front of a text: the text after them; `None` where it does not begin
-// so.
+// Cuts a word, exactly this number and a space from the front of a text, and returns the text after them; `None` where
+// it does not begin so.
 fn cut_counted<'a>(text: &'a [u8], word: &[u8], number: u64) -> Option<&'a [u8]>
     ensures found { IfSome result (λ r. text.now ≡ word.now ++ (decimal number ++ 32 ∷ r.now)) }
     ensures only { (f : List ℕ) → text.now ≡ word.now ++ (decimal number ++ 32 ∷ f)

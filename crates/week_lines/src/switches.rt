@@ -182,8 +182,8 @@ fn sure_of(alloc: Global, marks: &[bool], children: &[u32]) -> Result<Vec<bool>,
     Ok(sure)
 }
 
-// Appends the lines of a switch by what was found of its cases, the holes and the cases never chosen, and adds the
-// holes to `silent` if silence plays then.
+// Appends the lines of a switch by what was `seen` of its cases: its holes, at which no case holds, and the cases never
+// chosen. Adds the holes to `silent`, a table of bits of the week's seconds, if silence plays then.
 fn push_seen(
     alloc: Global,
     into: &mut Vec<u8>,
@@ -208,7 +208,8 @@ fn push_seen(
     Ok(())
 }
 
-// Appends the line about the holes of a switch, the spans of the week in which no case of it holds, if it has some.
+// Appends the line about the holes of a switch, if it has some: the `spans` of the week in which no case of it holds,
+// which are the same each day if `daily`.
 fn push_holes(
     alloc: Global,
     into: &mut Vec<u8>,
@@ -234,8 +235,8 @@ fn push_holes(
     }
 }
 
-// Adds the holes of a switch, the seconds of the week at which no case of it holds, to `silent`, if silence plays in
-// its place.
+// Adds the `holes` of a switch, the seconds of the week at which no case of it holds, to `silent`, if silence plays in
+// its place. Both are tables of bits.
 fn add_silence(silent: &mut [u64], instead: Instead, holes: &[u64])
     requires silent { IsTable silent.old }
     requires holes { IsTable holes.now }
