@@ -63,7 +63,7 @@ fn join_one<'q, O, R>(
 
 // Hands both ends of the queue of each buffer that joins two clocks to the tasks of these clocks, the last buffer
 // first. `passes` are the rights to put and to take at each queue. Those of a buffer within one clock are dropped: it
-// has a list and no queue.
+// is kept as a list, and its queue stays unused.
 pub(crate) fn join_all<'q, O, R>(
     wires: &[Wire],
     queues: &'q Vec<BufferQueue>,

@@ -12,8 +12,8 @@ use liq_base::{Gate, Sink};
 use std::alloc::Global;
 use std::thread::Threads;
 
-// How the run ends, if an engine stopped: by the fault of the clock with the lowest number that did; `None` if none
-// did.
+// How the run ends, if an engine stopped: by the fault of the first engine that did, which is of the clock with the
+// lowest number; `None` if none did.
 fn stopped_among<O>(engines: &[ClockEngine<'_, O>]) -> Option<End>
     ensures none { IfNone result ((k : ℕ) (d : _) → k < length engines.now
         → (slice_index_or engines.now k d).parts.stopped ≡ None) }

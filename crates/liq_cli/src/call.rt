@@ -38,8 +38,9 @@ const WRITE_FAILED: u8 = 4;
 const NO_MEMORY: u8 = 5;
 
 /// Does what the words ask for, and answers the status: 0 done, 1 refused, 2 no form, 3 a read failed, 4 a write
-/// failed, 5 no memory. `out` gets the report, `err` the line of a refusal. Without `--one-thread` each clock runs on a
-/// thread of its own, and enters the gate before each tick. `make` renders into a shelf of its own, not into `shelf`.
+/// failed, 5 no memory. `out` gets the report, `err` the line of a refusal. A rendering without `--one-thread` and a
+/// workload run each clock on its own thread, which enters the gate before each tick. A workload leaves `shelf` as it
+/// was.
 pub fn liq<S: Shelf, O: Sink, E: Sink, G: Gate + Sync, R: Threads + Wait + Sync>(
     rt: &R,
     alloc: Global,
@@ -141,8 +142,8 @@ fn finish<O: Sink, E: Sink>(
     }
 }
 
-// Writes the line of a refusal to `err`, and returns the call's status: 1, or 4 if it broke off, or 5 if memory was
-// refused.
+// Writes the line of a refusal to `err`, and returns the call's status: 1, or 4 if the line broke off, or 5 if memory
+// for it was refused.
 fn refuse<E: Sink>(alloc: Global, fault: &Fault, err: &mut E) -> u8
     requires { (E.told err.old).room ≡ None }
     ensures { MayTell (line_of fault.now) 1 (E.told err.old) (E.told err.new) result }

@@ -24,8 +24,8 @@ pub fn pick_first(
 }
 
 /// The child that a sequence uses, which plays each child for one track and the last one for good. Child `last`, which
-/// was used last, is played on to the end of its track; then the first one behind it that offers a cell is used. `None`
-/// where none does.
+/// was used last, is played on to the end of its track. Then comes the first one behind it that offers a cell, or of
+/// all if none was used. `None` where none does.
 pub fn pick_turn(offers: &[Option<Cell>], last: Option<u32>) -> Option<u32>
     requires { length offers.now < 2 ^ 32 }
     ensures { result ≡ turn_pick offers.now last }

@@ -22,8 +22,8 @@ use std::alloc::Global;
 use switches::push_switches;
 use week_plan::{filled, seconds_told};
 
-/// What is told of a plan's week, as text: the lines about its switches, and how long it is silent in all. `marks`
-/// says of each source whether it never falls silent.
+/// What is told of a plan's week, as text: when no case of a switch holds, which cases are never chosen, and how long
+/// it is silent in all. `marks` says of each source whether it never falls silent.
 pub fn week(alloc: Global, plan: &Plan, marks: &[bool]) -> Result<Vec<u8>, Memory>
     requires { IsWellFormed plan.now }
     ensures { IfOk result (λ text. IsWeek plan.now (mark_at marks.now) text.items) }

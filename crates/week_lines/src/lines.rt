@@ -85,8 +85,8 @@ fn push_clock(into: &mut Vec<u8>, below: bool) -> Result<(), Memory>
     }
 }
 
-/// Appends how long it is silent in a week, as hours, with minutes and seconds where they are not 0: nothing where it
-/// is not.
+/// Appends how long it is silent in a week, as hours, with minutes and seconds where they are not 0. Nothing is
+/// appended where it is never silent.
 pub fn push_sum(into: &mut Vec<u8>, seconds: u64) -> Result<(), Memory>
     ensures { OnOk result (into.new.items ≡ into.old.items ++ sum_line seconds) }
 {
