@@ -16,10 +16,11 @@ use std::alloc::Global;
 use std::sync::Wait;
 use std::thread::Threads;
 
-/// Renders `ticks` ticks of each clock, by a thread for each, in windows of `window` ticks; before each tick the gate
-/// is entered. The engines are those of all running clocks, in clock order, and come back so, whatever the end is. A
-/// clock that stops does so at its tick; the others end their window, and the lowest one that stopped is named. Without
-/// buffers and kept marks it takes no memory.
+/// Renders `ticks` ticks, at most 1000000000, of each clock, by a thread for each clock, in windows of `window` ticks,
+/// at least one. The engines are those of all running clocks of this plan, in clock order, and made no tick; before
+/// each tick the gate is entered. A clock that stops does so at its tick; the others end their window, and no further
+/// one begins. The same engines come back in the same order, whatever the end is. Where a sink refused bytes, the end
+/// names the lowest clock that stopped. On a plan without buffers, where no engine keeps its marks, it takes no memory.
 pub fn run_threads<'a, O: Sink + Send, G: Gate + Sync, R: Threads + Wait + Sync>(
     rt: &R,
     alloc: Global,

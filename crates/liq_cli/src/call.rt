@@ -38,9 +38,9 @@ const WRITE_FAILED: u8 = 4;
 const NO_MEMORY: u8 = 5;
 
 /// Does what the words ask for, and answers the status: 0 done, 1 refused, 2 no form, 3 a read failed, 4 a write
-/// failed, 5 no memory. `out` gets the report, `err` the line of a refusal. A rendering without `--one-thread` and a
-/// workload run each clock on its own thread, which enters the gate before each tick. A workload leaves `shelf` as it
-/// was.
+/// failed, 5 no memory. `docs/promises.md` says what each leaves. `out` gets the report, `err` the line of a refusal. A
+/// rendering without `--one-thread` and a workload run each clock on its own thread, which enters the gate before each
+/// tick. A workload has a shelf of its own and leaves `shelf` as it was.
 pub fn liq<S: Shelf, O: Sink, E: Sink, G: Gate + Sync, R: Threads + Wait + Sync>(
     rt: &R,
     alloc: Global,

@@ -18,9 +18,9 @@ use liq_base::Memory;
 use node_states::WeekTime;
 
 /// Makes one instant of a clock, at `time`. If it begins a tick, the clock's readers take from buffers by `taps`. Then
-/// each crossfade runs its sub-clock until it knows what it plays next. `own` marks the nodes that their own clock
-/// demands of itself, and `levels` bounds how deep sub-clocks nest. If memory is refused, some takes were made, from
-/// the first on.
+/// each crossfade runs its sub-clock until it knows what it plays next, and no instant more. `own` marks the nodes that
+/// their own clock demands of itself, and `levels` bounds how deep sub-clocks nest. If memory is refused, some takes
+/// were made, from the first on.
 #[cycle(clocks)]
 pub fn make_instant<T: Taps>(
     scene: &Scene<'_>,
