@@ -20,7 +20,7 @@ pub struct Wire {
     pub capacity: u32,
 }
 
-// The buffer of this number in a plan, which has one of it.
+// The buffer with this number; the plan is known to have one.
 fn buffer_at(buffers: &[BufferPlan], number: usize) -> &BufferPlan
     requires { number < length buffers.now }
     ensures { (d : ThePlan) → result.now ≡ slice_index_or buffers.now number d }

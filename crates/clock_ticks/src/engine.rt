@@ -435,9 +435,9 @@ impl<'a, O> ClockEngine<'a, O> {
         self.parts.ticks
     }
 
-    /// How many cells the reader that is this node wants more at the next tick, if it is one of the main clock; `None`
-    /// for any other node. No clause says it: a caller may go by it, and the answers of the takes show whether it was
-    /// so.
+    /// How many cells more the reader that is this node wants at the next tick; `None` if the node is no reader or not
+    /// one of the main clock. No clause says it: a caller may go by it, and the answers of the takes show whether it
+    /// was so.
     pub fn missing(&self, node: u32) -> Option<u64> {
         let of = *self.parts.scene.clocks.get(node as usize)?;
         if !is_main(of, self.parts.clock) {

@@ -9,8 +9,8 @@ use plan_core::Op;
 use time_pred::SharedPred;
 
 /// Whether a source that may offer nothing, of this operator over these children, needs this child: it would always
-/// offer something if the child did. So it is with the child of a switch's case that is always true, the last child of
-/// a sequence, and each child of any other.
+/// offer something if the child did. So it is with the child of a switch's case that is always true by its form, the
+/// last child of a sequence, and each child of any other source.
 pub fn needs(op: &Op, children: &[u32], child: u64) -> bool
     ensures { result ≡ needs op.now children.now child }
 {

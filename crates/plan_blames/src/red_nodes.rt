@@ -32,8 +32,9 @@ pub fn reds(
     Ok(reds)
 }
 
-// Whether source k is to blame for a silence: it is the `refused` one, or may offer nothing, by `marks`, and a source
-// to blame needs it. Those stand after it, and `reds` tells which they are.
+// Whether source k is to blame for a silence: it is the `refused` one, or it may offer nothing, by `marks`, and a
+// source to blame needs it. Such a source stands after it, and of all those after it `reds` says already whether they
+// are to blame.
 fn is_to_blame(nodes: &[Node], reds: &[bool], marks: &[bool], refused: u32, k: usize) -> bool
     requires here { k < length nodes.now }
     requires size { length reds.now ≡ length nodes.now }

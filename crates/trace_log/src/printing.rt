@@ -39,7 +39,7 @@ fn append_trace(trace: &Trace, into: &mut Vec<u8>) -> Result<(), Memory>
 }
 
 // Appends line `place`, counted from the one after line 0: lines come by windows, and in each by buffers. Where memory
-// is refused, a prefix of it.
+// is refused, a prefix of the line is appended.
 #[tactic(auto, using(crate::proofs::Joins::window_inside, crate::proofs::Joins::buffer_inside, crate::proofs::Joins::some_inside))]
 fn append_place(trace: &Trace, into: &mut Vec<u8>, place: u64) -> Result<(), Memory>
     requires trace { IsTrace trace.now }
