@@ -13,8 +13,8 @@ use std::marker::{Brand, Model};
 use std::mem;
 use std::sync::Wait;
 
-// An empty queue of at most `capacity` chunks, with a pass for each of its two ends, which is the right to use that
-// end; the one that puts comes first.
+// An empty queue of at most `capacity` chunks, with a pass for each of its two ends, the one that puts first: the right
+// to use that end. `K` is the capacity as a type, for proofs.
 fn opened_at<K: Size>(
     alloc: Global,
     capacity: u32,
@@ -29,8 +29,9 @@ fn opened_at<K: Size>(
     Ok((queue, put, take))
 }
 
-// Ends one window of a queue's use and opens the next: joins the passes of its two ends, learns that their puts and
-// takes were one order, and cuts them anew. The next window opens with what the queue holds.
+// Ends one window of a queue's use and opens the next with what the queue holds. It joins the passes of the two ends,
+// learns that their puts and takes were one order, and cuts them anew. An idle pass stands in for `take` meanwhile. No
+// chunk moves.
 fn turn(queue: &Ruled, put: &mut Pass<Chunk, View>, take: &mut Pass<Chunk, View>)
     requires queue { IsPassOf queue.now put.old × IsPassOf queue.now take.old }
     requires roles { ((view put.old).puts ≡ true) × ((view take.old).takes ≡ true) }
@@ -140,7 +141,8 @@ impl TakePass {
 }
 
 impl BufferQueue {
-    /// An empty queue of at most `capacity` chunks, with its two ends.
+    /// An empty queue of at most `capacity` chunks, with its two ends: the pass that puts, and the one that takes.
+    /// Their first window is open.
     pub fn new(alloc: Global, capacity: u32) -> Result<(BufferQueue, PutPass, TakePass), Memory>
         requires { 0 < capacity }
         ensures capacity { IfOk result (λ r. capacity_of r.0 ≡ capacity) }
@@ -159,7 +161,8 @@ impl BufferQueue {
         Ok((BufferQueue { queue }, put, take))
     }
 
-    /// Puts a chunk at the back. It comes back where the queue is full, and where memory is refused; then nothing was
+    /// Puts a chunk at the back, with the end `pass`, which notes whether it was accepted. Where the queue is full, the
+    /// chunk comes back in `Full`. Where memory for the note is refused, it comes back in the `Err`, and nothing was
     /// done. May wait for the other end's step.
     pub fn put<R: Wait>(
         &self,
@@ -187,8 +190,8 @@ impl BufferQueue {
         }
     }
 
-    /// Takes the chunk at the front, or nothing where the queue is empty. Where memory is refused nothing was done. May
-    /// wait for the other end's step.
+    /// Takes the chunk at the front, with the end `pass`, which notes whether there was one; `None` where the queue is
+    /// empty. Where memory for the note is refused, nothing was done. May wait for the other end's step.
     pub fn take<R: Wait>(&self, rt: &R, pass: &mut TakePass) -> Result<Option<Chunk>, Memory>
         requires { pass.old.queue ≡ self.now }
         ensures same { (pass.new.queue ≡ pass.old.queue) × (pass.new.opening ≡ pass.old.opening) }
@@ -210,8 +213,9 @@ impl BufferQueue {
         }
     }
 
-    /// Ends the window, hands out its two lists of answers, true for accepted and got, and opens the next one with what
-    /// the queue holds. Neither waits nor takes memory.
+    /// Ends the window and opens the next one with what the queue holds. Hands out the answers of the puts, true for
+    /// accepted, and those of the takes, true for got. It neither waits nor takes memory, and the answer is always
+    /// `Ok`.
     pub fn close_window(
         &self,
         alloc: Global,

@@ -11,7 +11,8 @@ use buffer_ends::{BufferLog, TakeEnd, ThreadTaps, WindowLog};
 use liq_base::Memory;
 use std::alloc::Global;
 
-// Moves out of a task the ends of buffers at which it takes, so that another task's ends can be closed with them.
+// Moves out of a task the ends of buffers at which it takes, so that windows can be closed with them at the tasks that
+// put. `put_back` returns them.
 fn lent<'a, O, R>(alloc: Global, task: &mut Task<'_, O, ThreadTaps<'a, R>>) -> Vec<TakeEnd<'a>>
     ensures { WasLent task.old task.new result.items }
 {
@@ -26,8 +27,8 @@ fn put_back<'a, O, R>(task: &mut Task<'_, O, ThreadTaps<'a, R>>, takes: Vec<Take
     task.taps.put_back(takes);
 }
 
-// Closes the window of a buffer at the task that puts, with the ends at which the other clock's task takes. Returns the
-// window's answers.
+// Closes the window of a buffer that two clocks share, and returns the answers of its puts and takes in it. `task` is
+// of the clock that puts; `takes` are the taking ends of the other clock's task, lent for this.
 fn close_giver<O, R>(
     alloc: Global,
     task: &mut Task<'_, O, ThreadTaps<'_, R>>,
@@ -41,7 +42,9 @@ fn close_giver<O, R>(
     task.taps.close_with(alloc, takes, buffer)
 }
 
-// Closes the window of a buffer between the clocks `from` and `to`. Returns the window's answers.
+// Closes the window of a buffer that clock `from` fills and another clock, `to`, reads; both are places in `tasks`.
+// Returns the answers of the puts and takes in the window. The reader's ends are lent out for it, as only one task can
+// be borrowed at a time.
 fn close_join<O, R>(
     alloc: Global,
     tasks: &mut [Task<'_, O, ThreadTaps<'_, R>>],
@@ -61,7 +64,8 @@ fn close_join<O, R>(
     log
 }
 
-// Adds the answers of a window to a buffer's log, unless memory was refused before, by `kept`.
+// Adds the answers of one window to a buffer's log. `kept` is the outcome for the buffers before it: if memory was
+// refused there, nothing is added, and that refusal is answered.
 fn add_window(
     kept: Result<(), Memory>,
     log: &mut BufferLog,
@@ -74,8 +78,8 @@ fn add_window(
     Ok(())
 }
 
-// Closes the window of each buffer between two clocks, and adds its answers to the buffer's log, as long as there is
-// memory.
+// Closes the window of each buffer between two clocks, and adds its answers to the buffer's log; `wires` and `logs`
+// have one for each buffer. Once memory is refused, the windows are closed still, but no more answers are kept.
 pub(crate) fn close_joins<O, R>(
     alloc: Global,
     tasks: &mut [Task<'_, O, ThreadTaps<'_, R>>],
@@ -100,8 +104,8 @@ pub(crate) fn close_joins<O, R>(
     kept
 }
 
-// Closes the window of a buffer with both ends in one clock, in that clock's task: its answers are kept in the task's
-// list.
+// Closes the window of a buffer with both ends in one clock, in that clock's task. The window's answers are kept in the
+// task's list of this buffer.
 fn close_list<O, R>(
     alloc: Global,
     task: &mut Task<'_, O, ThreadTaps<'_, R>>,

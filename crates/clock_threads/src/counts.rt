@@ -7,7 +7,7 @@ use buffer_ends::{BufferLog, Counts, WindowLog};
 use liq_base::Memory;
 use std::alloc::Global;
 
-// How many answers of a buffer's end are true, which moved a chunk, and how many are not.
+// Of these answers of a buffer's end, how many are true, and how many are false: true where a chunk was moved.
 fn counted(answers: &[bool]) -> (u64, u64)
     ensures yes { result.0 ≡ count_by yes answers.now }
     ensures no { result.1 ≡ count_by not answers.now }
@@ -24,8 +24,8 @@ fn added(one: u64, other: u64) -> Result<u64, Memory>
     one.checked_add(other).ok_or(Memory)
 }
 
-// Adds the answers of a window of ticks to a buffer's counts: puts accepted or at a full buffer, takes with a chunk or
-// without.
+// The counts of a buffer with the answers of a further window added. Puts were accepted or met a full buffer; takes got
+// a chunk or met an empty one. A count above 2^64 - 1 is refused, as memory is.
 fn with_window(counts: Counts, window: &WindowLog) -> Result<Counts, Memory>
     ensures { IfOk result (λ sum. sum ≡ more_counts counts (counts_of window.now)) }
 {
@@ -44,7 +44,7 @@ fn with_window(counts: Counts, window: &WindowLog) -> Result<Counts, Memory>
 }
 
 // How many answers of each sort these windows of a buffer have: puts accepted or at a full buffer, takes with a chunk
-// or without.
+// or without. A count above 2^64 - 1 is refused, as memory is.
 fn count_windows(windows: &[WindowLog]) -> Result<Counts, Memory>
     ensures { IfOk result (λ counts. counts ≡ counts_in windows.now) }
 {

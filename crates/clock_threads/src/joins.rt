@@ -11,7 +11,8 @@ use buffer_queue::{BufferQueue, PutPass, TakePass};
 use liq_base::Memory;
 use std::alloc::Global;
 
-// Adds to a clock's task an end at which it puts. Its buffer has a lower number than those of the ends before.
+// Adds to a clock's task an end at which it puts. Its buffer has a lower number than those of the ends before, as the
+// ends are handed out from the last buffer to the first.
 fn add_put<'q, O, R>(
     task: &mut Task<'_, O, ThreadTaps<'q, R>>,
     end: PutEnd<'q>,
@@ -24,7 +25,8 @@ fn add_put<'q, O, R>(
     task.taps.add_put(end)
 }
 
-// Adds to a clock's task an end at which it takes.
+// Adds to a clock's task an end at which it takes. Its buffer has a lower number than those of the ends before, as the
+// ends are handed out from the last buffer to the first.
 fn add_take<'q, O, R>(
     task: &mut Task<'_, O, ThreadTaps<'q, R>>,
     end: TakeEnd<'q>,
@@ -37,7 +39,8 @@ fn add_take<'q, O, R>(
     task.taps.add_take(end)
 }
 
-// Hands the ends of a buffer to two clocks: `put` to clock `from`, and `take` to clock `to`.
+// Hands the ends of a buffer to two clocks: `put` to clock `from`, which fills it, and `take` to clock `to`, which
+// reads it. A clock's number is its task's place in `tasks`.
 fn join_one<'q, O, R>(
     tasks: &mut [Task<'_, O, ThreadTaps<'q, R>>],
     from: usize,
@@ -59,7 +62,8 @@ fn join_one<'q, O, R>(
 }
 
 // Hands both ends of the queue of each buffer that joins two clocks to the tasks of these clocks, the last buffer
-// first. Ends of other buffers are dropped.
+// first. `passes` are the rights to put and to take at each queue. Those of a buffer within one clock are dropped: it
+// is kept as a list, and its queue stays unused.
 pub(crate) fn join_all<'q, O, R>(
     wires: &[Wire],
     queues: &'q Vec<BufferQueue>,

@@ -21,7 +21,8 @@ pub(crate) fn no_logs(alloc: Global, count: usize) -> Result<Vec<BufferLog>, Mem
     Ok(logs)
 }
 
-// Moves the logs of a clock's lists to `logs`, for the buffers with both ends in this clock.
+// Moves the logs of the buffers with both ends in clock `clock` from `lists` to `logs`; both have one for each buffer.
+// A log of any other buffer stays as it is.
 pub(crate) fn take_logs(wires: &[Wire], clock: usize, lists: Vec<BufferLog>, logs: &mut [BufferLog])
     ensures { TookLogs wires.now clock lists.items logs.old logs.new }
 {

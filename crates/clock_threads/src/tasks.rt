@@ -13,8 +13,8 @@ use liq_base::Memory;
 use plan_core::Plan;
 use std::alloc::Global;
 
-// For each of `count` clocks, its lists of all buffers of the plan, without a call: it uses those of the buffers with
-// both ends in it.
+// For each of `count` clocks, a list for each buffer of the plan, with no put or take yet. A clock uses those of the
+// buffers with both ends in it.
 fn locals_of(alloc: Global, plan: &Plan, count: usize) -> Result<Vec<LocalTaps>, Memory>
     ensures { IfOk result (λ locals. AreLocals plan.now count locals.items) }
 {
@@ -25,8 +25,8 @@ fn locals_of(alloc: Global, plan: &Plan, count: usize) -> Result<Vec<LocalTaps>,
     Ok(locals)
 }
 
-// Makes a task of each engine, in the same order: the engine with taps that have no ends yet. If memory is refused,
-// the engines stay where they are.
+// Takes all engines out of `engines` and makes a task of each, in the same order: the engine with taps that have no
+// ends of queues yet. If memory is refused, the engines stay where they are.
 pub(crate) fn tasks_of<'a, 'q, O, R>(
     rt: &'q R,
     alloc: Global,
@@ -51,8 +51,9 @@ pub(crate) fn tasks_of<'a, 'q, O, R>(
     Ok(tasks)
 }
 
-// Takes the tasks apart after a run: the engines go back to `engines`, in the same order, and the answers of the
-// buffers with both ends in one clock to `logs`.
+// Takes the tasks apart after a run, and puts their engines back into `engines`, in the same order. The answers of each
+// buffer with both ends in one clock are moved to `logs`. `wires` has the two clocks of each buffer. The ends at queues
+// are dropped.
 pub(crate) fn engines_of<'a, O, R>(
     wires: &[Wire],
     tasks: Vec<Task<'a, O, ThreadTaps<'_, R>>>,

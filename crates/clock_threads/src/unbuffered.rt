@@ -15,8 +15,9 @@ use liq_base::{Gate, Sink};
 use std::alloc::Global;
 use std::thread::Threads;
 
-// All clocks make `ticks` ticks, in windows of `window` ticks, over a plan without buffers. Where no engine keeps its
-// marks it takes no memory.
+// All clocks make `ticks` ticks, in windows of `window` ticks, over a plan without buffers; the gate is entered before
+// each tick. The answer is the end alone: there are no counts and logs. Where no engine keeps its marks of tracks, the
+// run takes no memory.
 pub(crate) fn run_unbuffered<O: Sink + Send, G: Gate + Sync, R: Threads + Sync>(
     rt: &R,
     alloc: Global,

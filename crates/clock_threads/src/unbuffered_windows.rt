@@ -12,8 +12,8 @@ use liq_base::{Gate, Sink};
 use std::alloc::Global;
 use std::thread::Threads;
 
-// How the run ends, if an engine stopped: by the fault of the clock with the lowest number that did; `None` if none
-// did.
+// How the run ends, if an engine stopped: by the fault of the first engine that did, which is of the clock with the
+// lowest number; `None` if none did.
 fn stopped_among<O>(engines: &[ClockEngine<'_, O>]) -> Option<End>
     ensures none { IfNone result ((k : ℕ) (d : _) → k < length engines.now
         → (slice_index_or engines.now k d).parts.stopped ≡ None) }
@@ -27,8 +27,9 @@ fn stopped_among<O>(engines: &[ClockEngine<'_, O>]) -> Option<End>
     None
 }
 
-/// All engines make `ticks` ticks over a plan without buffers, in windows of `window` ticks. Where no engine keeps its
-/// marks it takes no memory.
+/// All engines make `ticks` ticks over a plan without buffers, in windows of `window` ticks; the gate is entered before
+/// each tick. After a window in which an engine stopped, no further one begins. Where no engine keeps its marks of
+/// tracks, it takes no memory.
 pub fn run_unbuffered_windows<O: Sink + Send, G: Gate + Sync, R: Threads + Sync>(
     rt: &R,
     alloc: Global,

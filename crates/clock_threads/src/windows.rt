@@ -17,7 +17,8 @@ use std::alloc::Global;
 use std::sync::Wait;
 use std::thread::Threads;
 
-// How a run ends that this fault of main clock `clock` stopped.
+// How a run ends that this fault of main clock `clock` stopped: by the clock and sink whose bytes were refused, or for
+// want of memory.
 pub(crate) fn end_of(clock: u32, fault: TickFault) -> End
     ensures { result ≡ end_by clock fault }
 {
@@ -51,7 +52,9 @@ fn tell_joins<G: Gate>(wires: &[Wire], gate: &G) {
     }
 }
 
-/// All clocks make `ticks` ticks, in windows of `window` ticks. The gate is told first which clocks a buffer joins.
+/// All clocks make `ticks` ticks, in windows of `window` ticks; the gate is told first which clocks a buffer joins.
+/// After each window the answers of the buffers go to `logs` and to the tasks' lists. It ends early where a clock
+/// stopped or memory is refused.
 pub fn run_windows<O: Sink + Send, G: Gate + Sync, R: Threads + Wait + Sync>(
     rt: &R,
     alloc: Global,

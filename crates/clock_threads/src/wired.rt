@@ -26,8 +26,8 @@ use std::alloc::Global;
 use std::sync::Wait;
 use std::thread::Threads;
 
-// Runs the tasks of all clocks: hands each the ends of its buffers' queues, and makes all `ticks` ticks, window by
-// window.
+// Runs the tasks of all clocks over `wires`, the two clocks of each buffer. It hands each task the ends of its buffers'
+// queues, by `passes`, and makes all `ticks` ticks in windows of `window`. The answers go to `logs`.
 fn run_tasks<'q, O: Sink + Send, G: Gate + Sync, R: Threads + Wait + Sync>(
     rt: &R,
     alloc: Global,
@@ -75,7 +75,8 @@ pub(crate) fn ended(alloc: Global, end: End) -> RunEnd
     }
 }
 
-// What a run answers: if it is done, its logs and the counts of their answers, and otherwise only its end.
+// The result of a run that ended with `end`: if it is done, its logs and the counts of their answers, and otherwise
+// only its end. If memory for the counts is refused, the end is that.
 fn told(alloc: Global, logs: Vec<BufferLog>, end: End) -> RunEnd
     ensures done { result.end ≡ Done → (end ≡ Done) × (result.logs.items ≡ logs.items)
         × (result.counts.items ≡ map counts_in logs.items) }
@@ -90,8 +91,8 @@ fn told(alloc: Global, logs: Vec<BufferLog>, end: End) -> RunEnd
     }
 }
 
-// All clocks make `ticks` ticks over these wires, in windows of `window` ticks. The engines come back, whatever the end
-// is.
+// All clocks make `ticks` ticks in windows of `window` ticks, over `wires`: for each buffer, the clock that fills it
+// and the one that reads it. The engines come back in `engines`, whatever the end is.
 pub(crate) fn run_wired<'a, O: Sink + Send, G: Gate + Sync, R: Threads + Wait + Sync>(
     rt: &R,
     alloc: Global,

@@ -20,7 +20,7 @@ pub struct Wire {
     pub capacity: u32,
 }
 
-// The buffer of this number in a plan, where there is one.
+// The buffer with this number; the plan is known to have one.
 fn buffer_at(buffers: &[BufferPlan], number: usize) -> &BufferPlan
     requires { number < length buffers.now }
     ensures { (d : ThePlan) → result.now ≡ slice_index_or buffers.now number d }
@@ -28,8 +28,8 @@ fn buffer_at(buffers: &[BufferPlan], number: usize) -> &BufferPlan
     &buffers[number]
 }
 
-// The wire of a buffer, which names the main clocks of its two ends: that of node `feed`, which fills it, and that of
-// node `reads`, which reads it, or the first again if that clock does not run.
+// The wire of a buffer: the main clocks of its two ends and its capacity in chunks. Node `feed` fills the buffer, and
+// node `reads` reads it. If the reader's clock does not run, `to` is the feed's clock, too.
 fn wire_of(plan: &Plan, clocks: &ClockMap, feed: u32, reads: u32, buffer: &BufferPlan) -> Wire
     ensures { (other : Setting)
         → IsWireAt (over plan.now clocks.now.of other) clocks.now.running feed reads buffer.now.capacity result }
@@ -47,7 +47,8 @@ fn wire_of(plan: &Plan, clocks: &ClockMap, feed: u32, reads: u32, buffer: &Buffe
     }
 }
 
-// For each buffer of a plan, its wire: from which main clock it is filled, at which it is read, and its capacity.
+// For each buffer of a plan, its wire: from which main clock it is filled, at which it is read, and its capacity. Where
+// there are 2^32 buffers or more, it answers as if memory were refused.
 pub(crate) fn wires_of(alloc: Global, plan: &Plan, clocks: &ClockMap) -> Result<Vec<Wire>, Memory>
     requires { IsWellFormed plan.now }
     ensures wires { IfOk result (λ wires. AreFirstWires plan.now clocks.now (length plan.now.buffers) wires.items) }

@@ -23,8 +23,8 @@ pub struct ClockState {
 }
 
 /// Makes a segment of a clock: an instant, and then at most `most` instants that go on as it did. Returns how many
-/// these are. `own` says of each node whether its own clock demands it of itself. Whatever instants the states stood
-/// for, they stand for those of the segment too.
+/// these further ones are. `own` says of each node whether its own clock demands it of itself. If memory is refused,
+/// some takes from buffers were made, from the first on.
 pub fn make_segment<T: Taps>(
     scene: &Scene<'_>,
     clock: NodeClock,

@@ -78,8 +78,8 @@ fn begin_list(list: &mut CueList)
     list.before = list.marks.len();
 }
 
-/// If marks are kept, adds to each output's list the track that begins in its node at the latest instant, `at`, if one
-/// does. If memory is refused, some outputs got theirs.
+/// If marks are kept, adds to the list of each output, of `ports`, the track that begins in its node at the latest
+/// instant of `clocks`, if one does. Instant `at` is its mark. If memory is refused, some outputs got theirs.
 pub fn mark_all(
     cues: &mut Cues,
     ports: &[Port],
@@ -104,8 +104,8 @@ pub fn mark_all(
     mark_lists(&mut cues.lists, ports, at, clocks)
 }
 
-// Adds to each output's list the track that begins in its node at the latest instant, `at`, if one does. If memory is
-// refused, some outputs got theirs.
+// Adds to the list of each output, of `ports`, the track that begins in its node at the latest instant of `clocks`, if
+// one does. Instant `at` is its mark. If memory is refused, some outputs got theirs.
 fn mark_lists(
     lists: &mut Vec<CueList>,
     ports: &[Port],
@@ -131,7 +131,8 @@ fn mark_lists(
     Ok(())
 }
 
-// Adds a mark, the instant `at` and the title, to the list of an output whose slot there begins a track.
+// Adds a mark to the list of an output if `slot`, what its node offers at instant `at`, is a cell that begins a track.
+// The mark is that instant and the track's title.
 fn mark_list(list: &mut CueList, at: u64, slot: Option<Cell>) -> Result<(), Memory>
     ensures kept { OnOk result (HasKept (marks_of at (slot ∷ [])) list.old list.new) }
     ensures refused { OnErr result (HasKept [] list.old list.new) }

@@ -87,7 +87,9 @@ impl<'a, O> Model for ClockEngine<'a, O> {
     ghost invariant = { λ e. IsWhole (record { parts = e.parts; outs = e.outs.items }) };
 }
 
-// The parts of a new engine of main clock `clock`, whose first instant lies in second `start` of the week.
+// The parts of a new engine of main clock `clock`, whose first instant lies in second `start` of the week. `scene` is
+// the plan with its clocks and its library of files. The engine has made no tick, keeps no marks of tracks and has not
+// stopped.
 fn make_parts<'a>(
     alloc: Global,
     scene: Scene<'a>,
@@ -135,8 +137,8 @@ fn make_parts<'a>(
     })
 }
 
-// Makes the instants of the next tick: outputs and feeds take the slots of their nodes, and it is marked where tracks
-// begin.
+// Makes the instants of the next tick; by `taps` readers take from buffers. The ports of outputs and the feeds take
+// what their nodes offer, and `cues` gets a mark where a track begins. Sinks and buffers get nothing yet.
 fn run_parts<T: Taps>(parts: &mut EngineParts<'_>, taps: &mut T) -> Result<(), Memory>
     requires parts { AreParts parts.old }
     requires few { parts.old.ticks < 1000000000 }
@@ -175,7 +177,8 @@ fn run_parts<T: Taps>(parts: &mut EngineParts<'_>, taps: &mut T) -> Result<(), M
     )
 }
 
-// Makes the instants of the next tick. If memory is refused, it notes this fault, by which the engine has stopped.
+// Makes the instants of the next tick, as `run_parts`. If memory is refused, it notes this fault in `parts.stopped`, by
+// which the engine has stopped, and answers it.
 fn run_or_stop<T: Taps>(parts: &mut EngineParts<'_>, taps: &mut T) -> Result<(), TickFault>
     requires parts { AreParts parts.old }
     requires few { parts.old.ticks < 1000000000 }
@@ -210,8 +213,8 @@ fn run_or_stop<T: Taps>(parts: &mut EngineParts<'_>, taps: &mut T) -> Result<(),
     }
 }
 
-// Puts the chunk of cells that each feed gathered in the tick into its buffer. If memory is refused, it notes this
-// fault, by which the engine has stopped.
+// Puts the chunk of cells that each feed gathered in the tick into its buffer, by `taps`. If memory is refused, it
+// notes this fault in `parts.stopped`, by which the engine has stopped, and answers it.
 fn give_or_stop<T: Taps>(
     alloc: Global,
     parts: &mut EngineParts<'_>,
@@ -237,8 +240,8 @@ fn give_or_stop<T: Taps>(
     }
 }
 
-// At how many instants of whole ticks an output had nothing to play: of all, or if a fault stopped the engine, of
-// those before the tick in which it did.
+// At how many instants of whole ticks the output `port` had nothing to play. If a fault stopped the engine, those of
+// the tick in which it did are left out.
 fn whole_gaps(port: &Port, stopped: Option<TickFault>) -> u64
     ensures runs { stopped ≡ None → result ≡ port.now.gaps }
     ensures stopped { (fault : Fault) → stopped ≡ Some fault → result ≡ port.now.gaps_before }
@@ -298,7 +301,8 @@ impl<'a, O: Sink> ClockEngine<'a, O> {
     }
 
     /// Makes a tick: its readers take from the taps, each output of the clock takes its bytes, in one piece and in sink
-    /// order, and then each feed gives its chunk, in sink order. A fault stops the engine.
+    /// order, and then each feed gives its chunk, in sink order. A fault stops the engine: memory was refused, or the
+    /// sink that it names refused its bytes.
     pub fn tick<T: Taps>(&mut self, alloc: Global, taps: &mut T) -> Result<(), TickFault>
         requires runs { self.old.parts.stopped ≡ None }
         requires few { self.old.parts.ticks < 1000000000 }
@@ -353,7 +357,7 @@ impl<'a, O: Sink> ClockEngine<'a, O> {
     }
 
     /// At how many instants of the ticks made the node of this output, which is one of the clock, offered nothing. A
-    /// tick that stopped the engine is not among them.
+    /// tick that stopped the engine is not among them. 0 for a sink that is no output of the clock.
     pub fn gaps(&self, sink: u32) -> u64
         requires output { (node : ℕ) × IsOutput (setting_of self.now.parts) self.now.parts.clock sink node }
         ensures made { (ticks : ℕ) (answers rest : ℕ → List Answer) (node : ℕ)
@@ -374,8 +378,8 @@ impl<'a, O: Sink> ClockEngine<'a, O> {
     }
 
     /// The marks of this output, which is one of the clock: each instant of the ticks made at which its node offered a
-    /// cell that begins a track, and its title. A tick that stopped the engine is not among them. An engine that keeps
-    /// no marks has none.
+    /// cell that begins a track, and its title. A tick that stopped the engine is not among them. There are none where
+    /// the engine keeps no marks.
     pub fn cues(&self, sink: u32) -> &[CueMark]
         requires output { (node : ℕ) × IsOutput (setting_of self.now.parts) self.now.parts.clock sink node }
         ensures made { (ticks : ℕ) (answers rest : ℕ → List Answer) (node : ℕ)
@@ -431,9 +435,9 @@ impl<'a, O> ClockEngine<'a, O> {
         self.parts.ticks
     }
 
-    /// How many cells the reader that is this node wants more at the next tick, if it is one of the main clock; `None`
-    /// for any other node. No clause says it: a caller may go by it, and the answers of the takes show whether it was
-    /// so.
+    /// How many cells more the reader that is this node wants at the next tick; `None` if the node is no reader or not
+    /// one of the main clock. No clause says it: a caller may go by it, and the answers of the takes show whether it
+    /// was so.
     pub fn missing(&self, node: u32) -> Option<u64> {
         let of = *self.parts.scene.clocks.get(node as usize)?;
         if !is_main(of, self.parts.clock) {

@@ -10,7 +10,7 @@ use nested_instants::ClockStates;
 use stream_meaning::slot_of;
 
 /// Each output takes the slots of its node in the latest segment: those of an instant, and of `many` more that were
-/// made at once, as they go on as it did. There are `nodes` nodes.
+/// made at once, as they go on as it did. `nodes`, the number of nodes, is for the contract alone.
 pub fn hear_all(ports: &mut Vec<Port>, clocks: &ClockStates, many: u32, nodes: usize)
     requires stretch_room { HasStretchRoom nodes clocks.now.room }
     requires short { many ≤ 2048 }
@@ -24,7 +24,7 @@ pub fn hear_all(ports: &mut Vec<Port>, clocks: &ClockStates, many: u32, nodes: u
 }
 
 // An output takes the slots of its node in the latest segment: those of an instant, and of `many` more that were made
-// at once, as they go on as it did.
+// at once, as they go on as it did. `nodes`, the number of nodes, is for the contract alone.
 fn hear_one(port: &mut Port, clocks: &ClockStates, many: u32, nodes: usize)
     requires stretch_room { HasStretchRoom nodes clocks.now.room }
     requires short { many ≤ 2048 }
@@ -42,7 +42,7 @@ fn hear_one(port: &mut Port, clocks: &ClockStates, many: u32, nodes: usize)
 }
 
 /// Each feed takes the slots of its node in the latest segment: those of an instant, and of `many` more that were made
-/// at once, as they go on as it did. There are `nodes` nodes.
+/// at once, as they go on as it did. `nodes`, the number of nodes, is for the contract alone.
 pub fn feed_all(feeds: &mut Vec<FeedPort>, clocks: &ClockStates, many: u32, nodes: usize)
     requires stretch_room { HasStretchRoom nodes clocks.now.room }
     requires short { many ≤ 2048 }
@@ -56,7 +56,7 @@ pub fn feed_all(feeds: &mut Vec<FeedPort>, clocks: &ClockStates, many: u32, node
 }
 
 // A feed takes the slots of its node in the latest segment: those of an instant, and of `many` more that were made at
-// once, as they go on as it did.
+// once, as they go on as it did. `nodes`, the number of nodes, is for the contract alone.
 fn feed_one(feed: &mut FeedPort, clocks: &ClockStates, many: u32, nodes: usize)
     requires stretch_room { HasStretchRoom nodes clocks.now.room }
     requires short { many ≤ 2048 }

@@ -15,7 +15,8 @@ use liq_base::Memory;
 use plan_core::SinkPlan;
 use std::alloc::Global;
 
-/// The outputs of main clock `clock` before the first tick, in sink order.
+/// The outputs that main clock `clock` drives, before the first tick, in sink order. Each has room for the bytes of a
+/// tick.
 pub fn ports_of(alloc: Global, scene: &Scene<'_>, clock: u32) -> Result<Vec<Port>, Memory>
     requires in_clocks { length scene.now.clocks.now ≡ length scene.now.plan.now.nodes }
     requires frame { scene.now.plan.now.frame ≤ 65536 }
@@ -40,7 +41,8 @@ pub fn ports_of(alloc: Global, scene: &Scene<'_>, clock: u32) -> Result<Vec<Port
     Ok(ports)
 }
 
-// The output that is sink `sink` of the plan, before the first tick; its samples have three bytes if it is wide.
+// The output that is sink `sink` of the plan and plays node `node`, before the first tick, with room for the bytes of a
+// tick. Its samples have three bytes if it is `wide`.
 fn port_of(
     alloc: Global,
     scene: &Scene<'_>,
@@ -68,7 +70,8 @@ fn port_of(
     })
 }
 
-/// The feeds of main clock `clock` before the first tick, in sink order.
+/// The feeds of buffers that main clock `clock` drives, before the first tick, in sink order. Each has room for the
+/// cells of a tick.
 pub fn feeds_of(alloc: Global, scene: &Scene<'_>, clock: u32) -> Result<Vec<FeedPort>, Memory>
     requires in_clocks { length scene.now.clocks.now ≡ length scene.now.plan.now.nodes }
     requires frame { scene.now.plan.now.frame ≤ 65536 }

@@ -26,8 +26,9 @@ use plan_core::{Node, Plan, SinkPlan};
 use std::alloc::Global;
 use stream_meaning::Part;
 
-/// The states of all clocks before the first instant, which is at `time`. Nodes that main clock `clock` does not drive
-/// have idle states.
+/// The states of all clocks before the first instant, which is at `time`: each node's state, the time of each
+/// sub-clock's next instant, and the latest instant, at which no node offers anything. Nodes that main clock `clock`
+/// does not drive have idle states.
 pub fn clocks_of(
     alloc: Global,
     scene: &Scene<'_>,
@@ -65,7 +66,8 @@ pub fn clocks_of(
     })
 }
 
-// What is kept of the latest instant, before the first one: no node offers anything, and none is demanded.
+// What is kept of the latest instant of main clock `clock`, before the first one. No node offers anything, and none is
+// demanded.
 fn latest_of(alloc: Global, scene: &Scene<'_>, clock: u32) -> Result<Latest, Memory>
     ensures { IfOk result (IsLatest scene.now.clocks.now) }
 {
@@ -161,8 +163,9 @@ fn state_of(
     Ok(NodeState::Idle)
 }
 
-// Whether a main clock drives node i, which lies in it or in a sub-clock below it. It goes up by as many clocks as
-// there are nodes, which is more than nest in any plan.
+// Whether main clock `clock` drives node i, which lies in it or in a sub-clock below it. From a sub-clock it goes up to
+// the clock of its crossfade, at most as often as there are nodes. No plan nests so deep; where it did not end, the
+// answer is true.
 fn is_driven(clocks: &[NodeClock], clock: u32, i: u32) -> bool
     ensures { result ≡ false → (rank : ℕ) → IsUnder clocks.now (NodeClock.Main clock) rank i → ⊥ }
 {
@@ -209,7 +212,7 @@ fn demand_roots(scene: &Scene<'_>, own: &mut [bool])
     keep_roots(scene, own);
 }
 
-// Sets in `demanded` the node that each of these sinks plays.
+// Sets in `demanded`, a mark for each node, the node that each of these sinks plays; other marks stay.
 fn demand_sinks(sinks: &[SinkPlan], demanded: &mut [bool])
     requires { All (λ sink. sink_node sink < length demanded.old) sinks.now }
     ensures { (i : ℕ) → slice_index_or demanded.new i false
@@ -220,8 +223,8 @@ fn demand_sinks(sinks: &[SinkPlan], demanded: &mut [bool])
     }
 }
 
-// Turns marks of the nodes of sinks into marks of the nodes that their own clock asks for: in a sub-clock, the
-// crossfade's child instead of the nodes of sinks.
+// Turns `own`, which marks the nodes of sinks, into marks of the nodes that their own clock asks for at each instant.
+// In a main clock these stay; in a sub-clock its crossfade's child alone is marked.
 fn keep_roots(scene: &Scene<'_>, own: &mut [bool])
     requires in_clocks { length scene.now.clocks.now ≡ length own.old }
     requires demanded { (i : ℕ) → slice_index_or own.old i false

@@ -14,8 +14,9 @@ use frame_core::Taps;
 use liq_base::Memory;
 use op_mix::MAX_STRETCH;
 
-/// Makes the instants of a tick of a clock, segment by segment, and lets its outputs and feeds hear their nodes; its
-/// first instant is `start`. Where memory is refused some of the takes of the tick were made, from the first on.
+/// Makes the instants of a tick, from instant `start` on, segment by segment: an instant, and those that go on as it
+/// did. Outputs (`ports`) and `feeds` take what their nodes offer, and `cues` the tracks that begin. `own` marks the
+/// nodes that their own clock demands. If memory is refused, some takes were made, from the first on.
 pub fn run_tick<T: Taps>(
     scene: &Scene<'_>,
     clock: NodeClock,

@@ -37,10 +37,10 @@ const WRITE_FAILED: u8 = 4;
 /// Memory was refused.
 const NO_MEMORY: u8 = 5;
 
-/// Does what the words ask for, and answers the status, from 0 to 5. `docs/promises.md` says what each leaves.
-/// `out` gets the report and `err` the line of a refusal; both tell no room left. A rendering without `--one-thread`,
-/// and that of a workload, runs each clock on a thread of its own, which enters the gate before each tick. A workload
-/// is rendered into a shelf of its own, and the one that was handed in stays as it was.
+/// Does what the words ask for, and answers the status: 0 done, 1 refused, 2 no form, 3 a read failed, 4 a write
+/// failed, 5 no memory. `docs/promises.md` says what each leaves. `out` gets the report, `err` the line of a refusal. A
+/// rendering without `--one-thread` and a workload run each clock on its own thread, which enters the gate before each
+/// tick. A workload has a shelf of its own and leaves `shelf` as it was.
 pub fn liq<S: Shelf, O: Sink, E: Sink, G: Gate + Sync, R: Threads + Wait + Sync>(
     rt: &R,
     alloc: Global,
@@ -85,8 +85,8 @@ pub fn liq<S: Shelf, O: Sink, E: Sink, G: Gate + Sync, R: Threads + Wait + Sync>
     finish(alloc, job, out, err)
 }
 
-/// Does what the words ask for where it takes no threads, and answers the status. It answers nothing exactly where they
-/// ask for a rendering by threads or for a workload, and then nothing was done. It waits for nobody.
+/// Does what the words ask for where it takes no threads, and answers the status, as `liq`. It answers `None` exactly
+/// where they ask for a rendering by threads or for a workload, and then nothing was done. It waits for nobody.
 pub fn liq_alone<S: Shelf, O: Sink, E: Sink>(
     alloc: Global,
     words: &[String],
@@ -142,8 +142,8 @@ fn finish<O: Sink, E: Sink>(
     }
 }
 
-// Writes the line of a refusal to `err`, and returns the call's status: 1, or 4 if it broke off, or 5 if memory was
-// refused.
+// Writes the line of a refusal to `err`, and returns the call's status: 1, or 4 if the line broke off, or 5 if memory
+// for it was refused.
 fn refuse<E: Sink>(alloc: Global, fault: &Fault, err: &mut E) -> u8
     requires { (E.told err.old).room ≡ None }
     ensures { MayTell (line_of fault.now) 1 (E.told err.old) (E.told err.new) result }

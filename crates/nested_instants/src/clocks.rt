@@ -17,11 +17,10 @@ use frame_core::Taps;
 use liq_base::Memory;
 use node_states::WeekTime;
 
-/// Makes one instant of a clock, at `time`. If it begins a tick, the clock's readers take. Then its crossfades run
-/// their sub-clocks until their items are settled, and no instant more. `own` says of each node whether its own clock
-/// demands it of itself, and `levels` bounds how deep sub-clocks nest below the clock. Whatever instants the states
-/// stood for, they stand for one more of this clock. If memory is refused, some of the calls of the instant were made,
-/// from the first on.
+/// Makes one instant of a clock, at `time`. If it begins a tick, the clock's readers take from buffers by `taps`. Then
+/// each crossfade runs its sub-clock until it knows what it plays next, and no instant more. `own` marks the nodes that
+/// their own clock demands of itself, and `levels` bounds how deep sub-clocks nest. If memory is refused, some takes
+/// were made, from the first on.
 #[cycle(clocks)]
 pub fn make_instant<T: Taps>(
     scene: &Scene<'_>,
@@ -53,8 +52,9 @@ pub fn make_instant<T: Taps>(
     Ok(())
 }
 
-// Feeds node k, if it is a crossfade, slots of its child until its item is settled: it knows what it plays next. For
-// each its sub-clock makes instants. `levels` bounds how deep sub-clocks nest below its clock.
+// Feeds node k, if it is a crossfade, slots of its child until it knows what it plays next: its item is settled. For
+// each slot its sub-clock makes an instant, or many at once. `levels` bounds how deep sub-clocks nest below the node's
+// clock. If memory is refused, some takes from buffers were made.
 #[cycle(clocks)]
 fn settle<T: Taps>(
     scene: &Scene<'_>,
@@ -100,7 +100,7 @@ fn settle<T: Taps>(
 }
 
 // Feeds all crossfades of a clock until each knows what it plays next, which is its item. `levels` bounds how deep
-// sub-clocks nest below the clock.
+// sub-clocks nest below the clock. If memory is refused, some takes from buffers were made, from the first on.
 #[cycle(clocks)]
 fn settle_all<T: Taps>(
     scene: &Scene<'_>,

@@ -71,10 +71,9 @@ pub fn fill_child(scene: &Scene<'_>, clocks: &mut ClockStates, k: u32)
     clocks.times[at] = clocks.times[at].next();
 }
 
-/// Feeds crossfade k further slots of its child, after the latest instant of its sub-clock, which was at `time` and
-/// whose slot it has. If instants follow that go on as that one did, and the crossfade has room, so many are made at
-/// once. Otherwise none is made, and it is kept how many go on. `levels` bounds how deep sub-clocks nest below the
-/// crossfade's clock.
+/// Feeds crossfade k the slots of its child after the latest instant of its sub-clock, which was at `time` and is fed
+/// already. If instants follow that go on as that one did, and the crossfade has room, they are made at once. Otherwise
+/// it notes how many go on, for later. `levels` bounds how deep sub-clocks nest below its clock.
 pub fn fill_on(scene: &Scene<'_>, clocks: &mut ClockStates, k: u32, time: WeekTime, levels: usize)
     requires ready { AreStatesAt scene.now time clocks.old }
     requires within { k < length scene.now.plan.now.nodes }
@@ -99,8 +98,8 @@ pub fn fill_on(scene: &Scene<'_>, clocks: &mut ClockStates, k: u32, time: WeekTi
     fill_lane(scene, clocks, k, many);
 }
 
-// How many instants of the sub-clock of crossfade k go on as its latest one did, at `time`; no more than the crossfade
-// can use, and 0 if its child offered nothing there.
+// How many instants of the sub-clock of crossfade k go on as its latest one did, which was at `time`. They are no more
+// than the crossfade can use, and 0 if its child offered nothing there.
 fn goes_for(scene: &Scene<'_>, clocks: &ClockStates, k: u32, time: WeekTime) -> u32
     requires ready { AreStatesAt scene.now time clocks.now }
     requires within { k < length scene.now.plan.now.nodes }
@@ -125,8 +124,8 @@ fn goes_for(scene: &Scene<'_>, clocks: &ClockStates, k: u32, time: WeekTime) -> 
     rest_for(scene, clocks, NodeClock::Sub(k), time, most)
 }
 
-// How many instants of its sub-clock crossfade k can use at once, at most: as many as it has room for if it wants any,
-// and otherwise those of a stretch.
+// How many instants of its sub-clock crossfade k can use at once, at most. Where its item is not settled, so many as
+// settle it, but no more than a stretch has. Where it is, a whole stretch, which is noted for later.
 fn most_used(clocks: &ClockStates, k: u32) -> u32
     requires within { k < length clocks.now.states.items }
     ensures some { 0 < result }
@@ -138,8 +137,8 @@ fn most_used(clocks: &ClockStates, k: u32) -> u32
     }
 }
 
-// How many of the next `rest` slots of its child crossfade k takes at once: no more than it has room for, and no more
-// than a stretch has.
+// How many of the next `rest` slots of its child crossfade k takes at once: no more than settle its item, and no more
+// than a stretch has, 2048.
 fn wanted(clocks: &ClockStates, k: u32, rest: u32) -> u32
     requires within { k < length clocks.now.states.items }
     ensures rest { result ≤ rest }
@@ -185,7 +184,8 @@ fn fill_lane(scene: &Scene<'_>, clocks: &mut ClockStates, k: u32, many: u32)
     clocks.times[at] = clocks.times[at].later(many);
 }
 
-// Feeds a crossfade the samples of node `child` in the latest stretch, of `count` instants, as cells of this title.
+// Feeds a crossfade, whose state this is, the samples of node `child` in the latest stretch, of `count` instants, which
+// `stretch_room` holds. They become cells of this title.
 fn fill_samples(
     state: &mut NodeState,
     stretch_room: &StretchRoom,

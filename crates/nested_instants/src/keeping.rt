@@ -16,7 +16,8 @@ use clock_instants::rest_of;
 use clock_nodes::Scene;
 use node_states::WeekTime;
 
-/// Notes that `rest` instants of the sub-clock of crossfade k go on as its latest one did; 0 forgets what was noted.
+/// Notes that after the latest instant of the sub-clock of crossfade k, `rest` instants go on as it did, so that these
+/// can be made at once later. 0 forgets what was noted.
 pub fn keep(scene: &Scene<'_>, clocks: &mut ClockStates, k: u32, rest: u32)
     requires scene { IsScene scene.now }
     requires ranks { (rank : Clock → ℕ) × HasRanks scene.now.clocks.now rank }
@@ -41,7 +42,8 @@ pub fn keep(scene: &Scene<'_>, clocks: &mut ClockStates, k: u32, rest: u32)
     clocks.room.rests[k as usize] = rest;
 }
 
-/// How many instants of a clock, at most `most`, go on as its latest one did, which was at `time`.
+/// How many instants of a clock, at most `most`, go on as its latest one did, which was at `time`: so many can be made
+/// at once. 0 where that is not known of the next one.
 pub fn rest_for(
     scene: &Scene<'_>,
     clocks: &ClockStates,
@@ -74,7 +76,7 @@ pub fn rest_for(
     )
 }
 
-/// Moves the time of the sub-clock of crossfade k on by `many` instants.
+/// Moves the time of the sub-clock of crossfade k on by `many` instants, which were made at once.
 pub fn take_on(scene: &Scene<'_>, clocks: &mut ClockStates, k: u32, many: u32)
     requires clocks { AreClockStates scene.now clocks.old }
     requires within { k < length scene.now.plan.now.nodes }

@@ -18,8 +18,9 @@ use clock_infer::NodeClock;
 use clock_instants::run_nodes;
 use clock_nodes::Scene;
 
-/// Makes `many` instants of a clock, which go on as its latest one did: first those of the sub-clocks of its crossfades
-/// through which cells pass, and then what its own nodes do. `levels` bounds how deep sub-clocks nest below the clock.
+/// Makes `many` instants of a clock at once, which go on as its latest one did. First come those of the sub-clocks of
+/// its crossfades that offered a cell which passed through, and then what its own nodes do. `levels` bounds how deep
+/// sub-clocks nest below the clock.
 #[cycle(onward)]
 pub fn run_clock(
     scene: &Scene<'_>,
@@ -47,7 +48,8 @@ pub fn run_clock(
     run_own(scene, clocks, clock, many);
 }
 
-// Makes `many` instants of the sub-clock of each crossfade of a clock that gave and through which cells pass.
+// Makes `many` instants of the sub-clock of each crossfade of a clock that offered a cell at the latest instant and
+// through which cells pass now. `levels` bounds how deep sub-clocks nest below the clock.
 #[cycle(onward)]
 fn run_subs(scene: &Scene<'_>, clocks: &mut ClockStates, clock: NodeClock, many: u32, levels: usize)
     requires ready { CanRunClock scene.now clock many clocks.old }
@@ -70,8 +72,9 @@ fn run_subs(scene: &Scene<'_>, clocks: &mut ClockStates, clock: NodeClock, many:
     }
 }
 
-// Makes `many` instants of the sub-clock of node i, if that is a crossfade that gave and through which cells pass, and
-// moves the sub-clock's time on.
+// Makes `many` instants of the sub-clock of node i and moves its time on, if the node is a crossfade that offered a
+// cell at the latest instant and through which cells pass. What was noted of the sub-clock is forgotten. `levels`
+// bounds how deep sub-clocks nest below the node's clock.
 #[cycle(onward)]
 fn run_sub(scene: &Scene<'_>, clocks: &mut ClockStates, i: u32, many: u32, levels: usize)
     requires ready { CanRunClock scene.now (slice_index_or scene.now.clocks.now i (NodeClock.Main 0)) many clocks.old }
@@ -100,7 +103,8 @@ fn run_sub(scene: &Scene<'_>, clocks: &mut ClockStates, i: u32, many: u32, level
     take_on(scene, clocks, i, many);
 }
 
-// Whether node i gave at the latest instant of its clock, and cells pass through it.
+// Whether node i offered a cell at the latest instant of its clock, and is a crossfade through which cells pass one by
+// one: then its sub-clock goes on with it.
 fn passes_on(clocks: &ClockStates, i: u32) -> bool
     requires in_held { i < length clocks.now.room.held.items }
     requires in_states { i < length clocks.now.states.items }

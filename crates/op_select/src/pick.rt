@@ -4,8 +4,9 @@ ghost use Rattle.op_select.specs.Selection.{first_offering, first_pick, first_re
 
 use frame_core::Cell;
 
-/// The child that a fallback or a switch uses, by what its children offer, which are eligible, and the one that it used
-/// last; `None` where it uses none.
+/// The child that a fallback or a switch uses: the first that is eligible and offers a cell; `None` where there is
+/// none. If it is `sensitive` to tracks, child `last`, which was used last, is played on in the middle of its track,
+/// eligible or not.
 pub fn pick_first(
     sensitive: bool,
     offers: &[Option<Cell>],
@@ -22,7 +23,9 @@ pub fn pick_first(
     find_ready(offers, eligible)
 }
 
-/// The child that a sequence uses, by what its children offer and the one that it used last; `None` where it uses none.
+/// The child that a sequence uses, which plays each child for one track and the last one for good. Child `last`, which
+/// was used last, is played on to the end of its track. Then comes the first one behind it that offers a cell, or of
+/// all if none was used. `None` where none does.
 pub fn pick_turn(offers: &[Option<Cell>], last: Option<u32>) -> Option<u32>
     requires { length offers.now < 2 ^ 32 }
     ensures { result ≡ turn_pick offers.now last }
@@ -40,7 +43,7 @@ pub fn pick_turn(offers: &[Option<Cell>], last: Option<u32>) -> Option<u32>
     }
 }
 
-/// Whether the child that was used last offers a cell in the middle of a track.
+/// Whether child `last`, which was used last, offers a cell in the middle of a track; false where none was used.
 pub fn plays_on(offers: &[Option<Cell>], last: Option<u32>) -> bool
     ensures { result ≡ plays_on offers.now last }
 {

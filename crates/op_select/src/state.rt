@@ -38,8 +38,9 @@ impl SelectState {
         }
     }
 
-    /// The child that is used at this instant, over what each child offers and whether it is eligible, and the cell
-    /// that is offered with it. `None` where the rule names no child. The rules are in `docs/streams.md`.
+    /// The child that is used at this instant and the cell that is offered with it, by what each child offers and
+    /// whether it is eligible. The cell begins a track also where another child was used last. `None` where no child is
+    /// used or it offers nothing. The rules are in `docs/streams.md`.
     pub fn offer(&self, offers: &[Option<Cell>], eligible: &[bool]) -> Option<Picked>
         requires offers { length offers.now ≡ self.now.children }
         requires eligible { length eligible.now ≡ self.now.children }

@@ -23,8 +23,8 @@ pub fn mark(marks: &[bool], number: usize) -> bool
     marks.get(number).copied().unwrap_or(false)
 }
 
-/// Whether source k is red: by `reds` if the plan is refused for a silence (`silent`), and otherwise for a fault of
-/// clocks.
+/// Whether a picture of the plan shows source `k`, whose operator is `op`, red. If the plan is refused because it may
+/// fall silent (`silent`), `reds` tells it, with a mark for each source. Otherwise it is so for a fault of clocks.
 pub fn is_red(
     alloc: Global,
     silent: bool,
@@ -42,8 +42,8 @@ pub fn is_red(
     }
 }
 
-// Whether a picture shows source k red for a fault of clocks: it has that fault, or asks for one of the two clocks in
-// it.
+// Whether a picture shows source k, of operator `op`, red for a fault of clocks. It does if the source has that fault,
+// or asks for one of the two clocks in it. Too many clocks and want of memory make no source red.
 fn is_clock_red(
     alloc: Global,
     clocks: &Result<ClockMap, ClockFault>,
@@ -82,7 +82,8 @@ fn either_asks(
     Ok(one || other)
 }
 
-// Whether source k asks for this clock: it is a `clock(..)` of that id, or the crossfade whose own clock it is.
+// Whether source k asks for the clock of this name: it is a `clock(..)` of that id, or the crossfade whose own clock it
+// is. An output asks for a main clock of any name (`AnyMain`), and no source does.
 fn asks(alloc: Global, name: &ClockName, k: u64, op: &Op) -> Result<bool, Memory>
     ensures { IfOk result (λ yes. yes ≡ asks name.now k op.now) }
 {
@@ -106,8 +107,9 @@ fn clock_asks(alloc: Global, id: &str, k: u64, op: &Op) -> Result<bool, Memory>
     }
 }
 
-/// Whether a picture of the plan draws the edge from a child to source k red; `silent` says that the plan is refused
-/// for a silence.
+/// Whether a picture draws the edge from source `child` to its parent `k` red. If the plan is refused because it may
+/// fall silent (`silent`), both must be marked in `reds`. Otherwise `k` must be the crossfade that lies in its own
+/// clock.
 pub fn is_edge_red(
     silent: bool,
     reds: &[bool],
@@ -241,7 +243,8 @@ fn push_nested(into: &mut Vec<u8>, is_it: bool) -> Result<(), Memory>
     }
 }
 
-// Appends the lines of source k where two clocks would drive a source; `is_it` says that this is source k.
+// Appends the lines of source k where the clocks `first` and `second` would drive one source. If that is source k
+// (`is_it`), its label names both; if source k asks for one of them, its label says so.
 fn push_two_clocks(
     alloc: Global,
     into: &mut Vec<u8>,
@@ -260,7 +263,8 @@ fn push_two_clocks(
     push_asking_words(alloc, into, asks, k, op)
 }
 
-// Appends to a source's label which two clocks would drive it, if it is the source with that fault (`is_it`).
+// Appends to a source's label that two clocks, `first` and `second`, would drive it, and which. Nothing is appended if
+// it is not the source with that fault (`is_it`).
 fn push_shared(
     into: &mut Vec<u8>,
     is_it: bool,
@@ -322,7 +326,8 @@ fn push_asking_words(
     }
 }
 
-// Appends to the label of source k, which asks for a clock, the clock that it wants for what it plays.
+// Appends to the label of source k, which asks for a clock, the clock that it wants for what it plays. A `clock(..)`
+// names its clock by its id; any other that asks is a crossfade.
 fn push_asking(alloc: Global, into: &mut Vec<u8>, k: u64, op: &Op) -> Result<(), Memory>
     ensures { OnOk result (into.new.items ≡ into.old.items ++ asking k op.now) }
 {

@@ -6,8 +6,8 @@ ghost use Rattle.plan_blames.specs.Needs.{IsCause, IsOnlyNeeded};
 use crate::needs::only_needed;
 use plan_core::Node;
 
-/// The source that is to be mended so that this one never falls silent: down from this one, as long as one source alone
-/// is needed. `docs/faults.md`, E25, shows its place.
+/// The source that is to be mended so that source `from` never falls silent. It goes down from that one, as long as one
+/// source alone is needed. `docs/faults.md`, E25, shows its place in the script.
 pub fn cause(nodes: &[Node], from: u32) -> u32
     requires nodes { AreNodes nodes.now }
     requires there { from < length nodes.now }

@@ -9,8 +9,9 @@ use clock_infer::{ClockFault, ClockName};
 use liq_base::Memory;
 use plan_core::Node;
 
-/// Appends what is told of a fault of clocks: nothing if the plan is refused for a silence (`silent`). `groups` has the
-/// group of each source.
+/// Appends to a picture its heading for a fault of clocks, and the region round the sources it concerns. If the plan is
+/// refused because it may fall silent (`silent`), nothing is appended. `groups` has for each source the number of its
+/// group, which shares one clock.
 pub fn push_fault(
     into: &mut Vec<u8>,
     silent: bool,
@@ -37,7 +38,7 @@ fn push_told(into: &mut Vec<u8>, fault: &ClockFault) -> Result<(), Memory>
     push_plain(into, b"\";\n")
 }
 
-// Appends the words of a picture's heading for a fault of clocks: its number and what it is.
+// Appends the words of a picture's heading for a fault of clocks: its number and what it is. Want of memory has none.
 fn push_heading(into: &mut Vec<u8>, fault: &ClockFault) -> Result<(), Memory>
     ensures { OnOk result (into.new.items ≡ into.old.items ++ heading fault.now) }
 {
@@ -51,7 +52,8 @@ fn push_heading(into: &mut Vec<u8>, fault: &ClockFault) -> Result<(), Memory>
     }
 }
 
-// Appends the region round the sources that would share a clock, if the fault is of such.
+// Appends the region round the sources that a fault of clocks concerns: those that would share a clock, or that lie in
+// a crossfade's own clock. Other faults have none. `groups` has the number of each source's group.
 fn push_region(
     into: &mut Vec<u8>,
     nodes: &[Node],
@@ -73,7 +75,8 @@ fn push_region(
     }
 }
 
-// Appends the region round the group of this source, which two clocks would drive.
+// Appends the region round the group of source `node`, which two clocks, `first` and `second`, would drive. `groups`
+// has for each source the number of its group, which must share one clock.
 fn push_shared_region(
     into: &mut Vec<u8>,
     nodes: &[Node],
@@ -104,7 +107,8 @@ fn push_shared_label(
     push_plain(into, b" are wanted")
 }
 
-// Appends the region round what lies in the own clock of this crossfade.
+// Appends the region round what lies in the own clock of crossfade `node`: the groups of its children. `groups` has for
+// each source the number of its group, which must share one clock.
 fn push_own_region(
     into: &mut Vec<u8>,
     nodes: &[Node],
@@ -127,7 +131,8 @@ fn push_own_label(into: &mut Vec<u8>, k: u64) -> Result<(), Memory>
     push_number(into, b"own clock of crossfade ", k)
 }
 
-// Appends the rest of a region, after its label, round the groups of the children of this crossfade.
+// Appends the rest of a region, after its label, round the groups of the children of crossfade `node`. `groups` has for
+// each source the number of its group, which must share one clock.
 fn push_own_rest(
     into: &mut Vec<u8>,
     nodes: &[Node],
@@ -143,7 +148,8 @@ fn push_own_rest(
     }
 }
 
-// Appends the rest of a region, after its label: how it looks, and the sources in the groups of `these`.
+// Appends the rest of a region, after its label: how it looks, and all sources in the groups of the sources `these`.
+// `groups` has for each source the number of its group.
 fn push_red_rest(
     into: &mut Vec<u8>,
     groups: &[u32],
@@ -162,7 +168,8 @@ fn push_red_rest(
     Ok(())
 }
 
-// Appends to a region the names of its sources: those that must share a clock with one of `these`.
+// Appends to a region the names of its sources: those that must share a clock with one of `these`. `groups` has for
+// each source the number of its group, which must share one clock.
 fn push_red_members(
     into: &mut Vec<u8>,
     groups: &[u32],
@@ -189,7 +196,8 @@ fn push_red_member(into: &mut Vec<u8>, is_in: bool, k: u64) -> Result<(), Memory
     }
 }
 
-// Whether source k must share a clock with one of `these`: it is in the same group.
+// Whether source k must share a clock with one of `these`: it is in the same group. `groups` has for each source the
+// number of its group.
 fn shares(groups: &[u32], these: &[u32], k: u64) -> bool
     ensures { result ≡ shares (λ source. slice_index groups.now source) these.now k }
 {

@@ -5,7 +5,7 @@ ghost use Rattle.clock_forcings.specs.Forcings.{id_or};
 use liq_base::{Memory, Text};
 use std::alloc::Global;
 
-/// The id of the clock of node k, a `clock(..)`: the one that the script wrote, or `clock.k` if it wrote none.
+/// The id of the clock of node k, a `clock(..)`: `written`, which the script wrote, or `clock.k` if it wrote none.
 pub fn id_of(alloc: Global, k: u64, written: &Text) -> Result<String, Memory>
     ensures { IfOk result (λ id. string_bytes id ≡ id_or k written.now) }
 {

@@ -8,8 +8,9 @@ ghost use Rattle.plan_blames.specs.Needs.{HasOther, IsAlone, IsOnly, is_last, ne
 use plan_core::Op;
 use time_pred::SharedPred;
 
-/// Whether a source of this operator over these children, if it may offer nothing, needs this one: it would always
-/// offer something if this one did.
+/// Whether a source that may offer nothing, of this operator over these children, needs this child: it would always
+/// offer something if the child did. So it is with the child of a switch's case that is always true by its form, the
+/// last child of a sequence, and each child of any other source.
 pub fn needs(op: &Op, children: &[u32], child: u64) -> bool
     ensures { result ≡ needs op.now children.now child }
 {
@@ -140,7 +141,7 @@ fn last_of(children: &[u32]) -> Option<u32>
     children.last().copied()
 }
 
-// The one child that all children are; nothing where there is none, or another.
+// The one child that all children of a source are; `None` where it has no child, or two that differ.
 fn only_child(children: &[u32]) -> Option<u32>
     ensures { IsOnly (some_child children.now) result }
 {

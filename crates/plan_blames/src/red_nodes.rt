@@ -11,8 +11,9 @@ use liq_base::Memory;
 use plan_core::Node;
 use std::alloc::Global;
 
-/// Of each source whether it is to blame for a silence: the refused one is, and so is each source that may offer
-/// nothing and that a source to blame needs. `marks` has of each source whether it always offers something.
+/// Of each source whether it is to blame for a silence: the `refused` one is, and so is each source that may offer
+/// nothing and that a source to blame needs. `marks` has of each source whether it always offers something. It goes
+/// from the last source to the first, since children stand before their parents.
 pub fn reds(
     alloc: Global,
     nodes: &[Node],
@@ -31,7 +32,9 @@ pub fn reds(
     Ok(reds)
 }
 
-// Whether source k is to blame; of each source after it `reds` says so already.
+// Whether source k is to blame for a silence: it is the `refused` one, or it may offer nothing, by `marks`, and a
+// source to blame needs it. Such a source stands after it, and of all those after it `reds` says already whether they
+// are to blame.
 fn is_to_blame(nodes: &[Node], reds: &[bool], marks: &[bool], refused: u32, k: usize) -> bool
     requires here { k < length nodes.now }
     requires size { length reds.now ≡ length nodes.now }
@@ -41,7 +44,8 @@ fn is_to_blame(nodes: &[Node], reds: &[bool], marks: &[bool], refused: u32, k: u
         || !mark(marks, k) && is_needed(&nodes[k + 1..], &reds[k + 1..], k as u64)
 }
 
-// Whether one of these sources that is red needs this child: it would always offer something if the child did.
+// Whether one of these sources that `reds` marks, a mark for each, needs this child: it would always offer something if
+// the child did.
 fn is_needed(nodes: &[Node], reds: &[bool], child: u64) -> bool
     requires { length reds.now ≡ length nodes.now }
     ensures { result ≡ list_any (λ pair. pair.1 && needs (pair.0).op (pair.0).children child) (zip nodes.now reds.now) }

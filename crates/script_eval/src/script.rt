@@ -39,8 +39,8 @@ pub struct Sources {
     pub calls: Items<u32>,
 }
 
-/// The plan of a typed script whose names stand for what `uses` says, or its first fault. Want of memory may come at
-/// any place; it is also the answer where a script nests deeper than any that parsing answers.
+/// The plan of a typed script, or its first fault; `uses` tells what each name in it stands for. Want of memory may
+/// come at any place. It is also the answer where a script nests deeper than any that parsing answers.
 pub fn eval(alloc: Global, script: &Script, uses: &[Use]) -> Result<Plan, EvalFault>
     requires placed { IsPlaced 0 (view_script script.now) }
     requires typed { IsTypedScript (view_script script.now) uses.now }
@@ -65,7 +65,8 @@ pub fn eval_with_calls(alloc: Global, script: &Script, uses: &[Use]) -> Result<S
     answered(alloc, script, uses)
 }
 
-// Evaluates a script by its tables, which it makes: of the defs, and of what each name stands for.
+// Evaluates a script after making two tables: of its defs, and of what each name stands for, by `uses`. It answers the
+// plan and its calls, or the script's first fault.
 fn answered(alloc: Global, script: &Script, uses: &[Use]) -> Result<Sources, EvalFault>
     requires { IsNotStuck (evaluation (view_script script.now) uses.now) }
     ensures { Answers (λ s. (s.plan, s.calls)) result (sources (view_script script.now) uses.now) }
@@ -79,7 +80,8 @@ fn answered(alloc: Global, script: &Script, uses: &[Use]) -> Result<Sources, Eva
     planned(alloc, &defs, &uses)
 }
 
-/// Evaluates the statements of a script. Without an output it has no plan.
+/// Evaluates the statements of a script over its tables of defs and of what names stand for. It answers the plan and
+/// the calls that made its nodes; without an output the fault is `NoOutput`.
 #[tactic(auto, using(crate::proofs::Statements::first_not_stuck))]
 fn planned(alloc: Global, defs: &Defs<'_>, uses: &Uses<'_>) -> Result<Sources, EvalFault>
     requires { IsNotStuck (evaluation (view_script defs.now.script.now) uses.now.all.now) }
@@ -104,7 +106,8 @@ fn has_output(sinks: &[SinkPlan]) -> bool
     sinks.iter().any(|sink| sink.is_output())
 }
 
-/// Evaluates the statements of a script one after another, and ends its settings.
+/// Evaluates these statements of a script one after another, and ends its settings; `machine` gathers the plan. The
+/// first fault ends it, and where there are 2^32 statements or more, it answers as if memory were refused.
 fn run(
     alloc: Global,
     defs: &Defs<'_>,
@@ -130,7 +133,8 @@ fn run(
     settle(machine, false)
 }
 
-// Evaluates statement `number` of a script, counted from 1. If it is no `setting`, the settings before it end first.
+// Evaluates statement `number` of a script, counted from 1; its value, if it binds one, goes to `globals`. If it is no
+// `setting`, the settings before it end first. A fault is told with the statement's number.
 #[tactic(auto, unfolding(eval_meaning::specs::Scripts::turned), using(crate::proofs::Statements::fault_is_told))]
 fn turn(
     alloc: Global,
@@ -155,8 +159,8 @@ fn turn(
     }
 }
 
-// Makes the fault of statement `stmt` the script's, with its number. It is no value of a wrong type: typing has ruled
-// that out.
+// Turns a fault within statement `stmt` into a fault of the script, which has the statement's number. `Stuck`, a value
+// of a wrong type, cannot come: typing has ruled that out.
 #[tactic(auto, using(crate::proofs::Statements::is_told))]
 fn told(stmt: u32, fault: Stop) -> EvalFault
     requires { fault ≢ Stuck }
@@ -168,8 +172,8 @@ fn told(stmt: u32, fault: Stop) -> EvalFault
     }
 }
 
-// Ends the script's settings before a statement that is no `setting`, and at the end of the script, unless they have
-// ended. `setting` says that a `setting` comes next.
+// Ends the script's settings, unless they have ended, before a statement that is no `setting` and at the end of the
+// script. `setting` says that a `setting` comes next: then nothing is done.
 fn settle(machine: &mut Machine, setting: bool) -> Result<(), EvalFault>
     ensures { Answers (λ _. machine.new) result (settings_settled setting machine.old) }
 {
@@ -184,7 +188,7 @@ fn settle(machine: &mut Machine, setting: bool) -> Result<(), EvalFault>
 }
 
 /// Ends the settings of a script: its plan gets the length of a tick in samples, by the duration that was set. If that
-/// is out of bounds, the last setting was bad.
+/// is out of bounds, the fault `BadSetting` names the statement of the last setting.
 #[tactic(auto, unfolding(eval_meaning::specs::Scripts::settings_ended))]
 fn end_settings(machine: &mut Machine) -> Result<(), EvalFault>
     ensures { Answers (λ _. machine.new) result (settings_ended machine.old) }
@@ -220,7 +224,8 @@ fn tick(duration: Decimal, rate: u32) -> Option<u32>
     }
 }
 
-/// Evaluates a statement, which may add a binding. A def does nothing here.
+/// Evaluates a statement, which may add a binding to `globals`, or nodes and sinks to the plan in `machine`. A def does
+/// nothing here: the table of defs has it. The value of a call or an `if` is dropped.
 #[tactic(auto, unfolding(eval_meaning::specs::Scripts::statement))]
 fn statement(
     alloc: Global,
@@ -248,7 +253,7 @@ fn statement(
     }
 }
 
-/// Evaluates a binding that is a statement, and adds its value.
+/// Evaluates a binding that is a statement, and adds its value to `globals`, for the statements after it.
 #[tactic(auto, unfolding(eval_meaning::specs::Scripts::statement))]
 fn binding(
     alloc: Global,
@@ -267,8 +272,8 @@ fn binding(
     Ok(())
 }
 
-/// The value of an expression in a statement outside of defs: it sees the bindings of the statements before it, and no
-/// parameters.
+/// The value of an expression in a statement outside of defs. It sees the bindings of the statements before it, in
+/// `globals`, and no parameters. Sources that it makes go to the plan in `machine`.
 fn top_full(
     alloc: Global,
     defs: &Defs<'_>,
@@ -292,7 +297,8 @@ fn top_full(
     full(alloc, &scope, LEVELS, machine, node)
 }
 
-/// The value of a call that is a statement: it sees the bindings of the statements before it, and no parameters.
+/// The value of a call that is a statement. It sees the bindings of the statements before it, in `globals`, and no
+/// parameters. Sources and outputs that it makes go to the plan in `machine`.
 fn top_call(
     alloc: Global,
     defs: &Defs<'_>,
@@ -316,7 +322,8 @@ fn top_call(
     call(alloc, &scope, LEVELS, machine, node)
 }
 
-/// The value of an `if` that is a statement: it sees the bindings of the statements before it, and no parameters.
+/// The value of an `if` that is a statement. It sees the bindings of the statements before it, in `globals`, and no
+/// parameters. What it makes goes to the plan in `machine`.
 fn top_choice(
     alloc: Global,
     defs: &Defs<'_>,

@@ -11,17 +11,19 @@ ghost use Rattle.script_grammar.specs.ReadScript.{no_place, script};
 ghost use Rattle.script_grammar.specs.Steady.{peek};
 ghost use Rattle.script_grammar.specs.Stops.{Begun};
 
-/// No list of tokens has two scripts: two that are spelled alike differ at most in their fields `at`.
+/// No list of tokens has two scripts: two that are spelled alike differ at most in their fields `at`, the indices of
+/// tokens.
 pub fn one_script()
     ensures one { (a b : Script) → spelling a ≡ spelling b → bare a ≡ bare b }
 {}
 
-/// No list of tokens has two scripts whose fields `at` are right: two that are spelled alike are equal in all.
+/// No list of tokens has two scripts whose fields `at` are right, each the index of its token: two that are spelled
+/// alike are equal in all.
 pub fn one_placed_script()
     ensures one { (a b : Script) → IsPlaced 0 a → IsPlaced 0 b → spelling a ≡ spelling b → a ≡ b }
 {}
 
-/// Reading gives back each script from its spelling, but for its fields `at`.
+/// Reading gives back each script from its spelling, but for its fields `at`, the indices of tokens.
 pub fn reads_again()
     ensures again { (s : Script) → script no_place (spelling s) ≡ Ok (bare s, []) }
 {}

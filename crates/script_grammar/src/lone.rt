@@ -5,7 +5,8 @@ ghost use Rattle.script_grammar.specs.Lone.{IsLone};
 
 use crate::tree::{Expr, Operand};
 
-/// The operand that an expression is, if there is no operator in it.
+/// The operand that an expression is, if there is no operator in it; `None` if there is one at any level, from `or`
+/// down to `*`.
 pub fn lone_operand(expr: &Expr) -> Option<&Operand>
     ensures { IfSome result (λ p. IsLone expr.now p.now) }
 {

@@ -64,7 +64,8 @@ pub fn list(at: u32, parts: Vec<Full>) -> tree::Operand
     tree::Operand::List { at, parts }
 }
 
-/// Values in parentheses: a first one alone, or a tuple of it and the others. `at` is the index of the `(`.
+/// Makes what stands in parentheses: the value `first` alone, or a tuple of it and the others. `at` is the index of the
+/// `(`; a value alone keeps its own.
 pub fn round(alloc: Global, at: u32, first: Full, rest: Vec<Full>) -> Result<tree::Operand, Memory>
     ensures made { IfOk result (λ p. view_operand p
         ≡ round_of at (view_full first) (listed (map view_full rest.items))) }

@@ -31,7 +31,8 @@ pub fn put_por(out: &mut Vec<TokenKind>, pred: &POr) -> Result<(), Memory>
     put_por_parts(out, &pred.parts)
 }
 
-// Appends the tokens of these parts, with `or` between.
+// Appends to `out` the tokens of these parts, with `or` between. No predicate of the grammar is without parts; for such
+// a one it is `false`.
 #[cycle(predicate)]
 fn put_por_parts(out: &mut Vec<TokenKind>, parts: &[PAnd]) -> Result<(), Memory>
     ensures { OnOk result (out.new.items ≡ out.old.items ++ por_parts (map view_pand parts.now)) }
@@ -58,7 +59,8 @@ fn put_pand(out: &mut Vec<TokenKind>, pred: &PAnd) -> Result<(), Memory>
     put_pand_parts(out, &pred.parts)
 }
 
-// Appends the tokens of these parts, with `and` between.
+// Appends to `out` the tokens of these parts, with `and` between. No predicate of the grammar is without parts; for
+// such a one it is `true`.
 #[cycle(predicate)]
 fn put_pand_parts(out: &mut Vec<TokenKind>, parts: &[PNot]) -> Result<(), Memory>
     ensures { OnOk result (out.new.items ≡ out.old.items ++ pand_parts (map view_pnot parts.now)) }

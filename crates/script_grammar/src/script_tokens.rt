@@ -85,7 +85,7 @@ fn put_params(alloc: Global, out: &mut Vec<TokenKind>, params: &[Param]) -> Resu
     }
 }
 
-// Appends `def`, the name and the parameters in parentheses.
+// Appends to `out` the tokens that spell the head of a def: `def`, the name and the parameters in parentheses.
 fn put_head(
     alloc: Global,
     out: &mut Vec<TokenKind>,
@@ -100,7 +100,7 @@ fn put_head(
     put(out, TokenKind::Symbol(Symbol::CloseRound))
 }
 
-// Appends the bindings in a def, its result and `end`.
+// Appends to `out` the tokens that spell the body of a def: its bindings, its result `value` and `end`.
 fn put_body(
     alloc: Global,
     out: &mut Vec<TokenKind>,

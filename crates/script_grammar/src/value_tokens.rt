@@ -123,7 +123,7 @@ fn multiplied_token(divide: bool) -> TokenKind
     }
 }
 
-// Appends the tokens of parts, each behind `or`.
+// Appends to `out` the tokens of the further parts of an expression, each behind `or`.
 #[cycle(value)]
 fn put_ands(alloc: Global, out: &mut Vec<TokenKind>, ands: &[And]) -> Result<(), Memory>
     ensures { OnOk result (out.new.items ≡ out.old.items ++ each_behind (a_keyword word.Or) (map view_and ands.now)) }
@@ -135,7 +135,7 @@ fn put_ands(alloc: Global, out: &mut Vec<TokenKind>, ands: &[And]) -> Result<(),
     Ok(())
 }
 
-// Appends the tokens of parts with `and` between.
+// Appends to `out` the tokens of a part of an expression: comparisons with `and` between.
 #[cycle(value)]
 fn put_and(alloc: Global, out: &mut Vec<TokenKind>, and: &And) -> Result<(), Memory>
     ensures { OnOk result (out.new.items ≡ out.old.items ++ spell (view_and and.now)) }
@@ -144,7 +144,7 @@ fn put_and(alloc: Global, out: &mut Vec<TokenKind>, and: &And) -> Result<(), Mem
     put_nots(alloc, out, &and.rest)
 }
 
-// Appends the tokens of parts, each behind `and`.
+// Appends to `out` the tokens of further comparisons, each behind `and`.
 #[cycle(value)]
 fn put_nots(alloc: Global, out: &mut Vec<TokenKind>, nots: &[Not]) -> Result<(), Memory>
     ensures { OnOk result (out.new.items ≡ out.old.items ++ each_behind (a_keyword word.And) (map view_not nots.now)) }
@@ -189,7 +189,7 @@ fn put_sum(alloc: Global, out: &mut Vec<TokenKind>, sum: &Sum) -> Result<(), Mem
     put_addends(alloc, out, &sum.rest)
 }
 
-// Appends the tokens of products, each behind its `+` or `-`.
+// Appends to `out` the tokens of the further products of a sum, each behind its `+` or `-`.
 #[cycle(value)]
 fn put_addends(alloc: Global, out: &mut Vec<TokenKind>, addends: &[Added]) -> Result<(), Memory>
     ensures { OnOk result (out.new.items ≡ out.old.items ++ each (map view_added addends.now)) }
@@ -218,7 +218,7 @@ fn put_product(alloc: Global, out: &mut Vec<TokenKind>, product: &Product) -> Re
     put_factors(alloc, out, &product.rest)
 }
 
-// Appends the tokens of operands, each behind its `*` or `/`.
+// Appends to `out` the tokens of the further operands of a product, each behind its `*` or `/`.
 #[cycle(value)]
 fn put_factors(
     alloc: Global,
@@ -283,7 +283,7 @@ fn put_operand(
     }
 }
 
-// Appends the tokens of `%wav`, with the option `samplesize` if it has one.
+// Appends to `out` the tokens of the format `%wav`, with its option `(samplesize=size)` if it has one.
 fn put_wav(alloc: Global, out: &mut Vec<TokenKind>, size: Option<i64>) -> Result<(), Memory>
     ensures { OnOk result (out.new.items ≡ out.old.items ++ wav_tokens size) }
 {
@@ -360,7 +360,7 @@ fn put_args(alloc: Global, out: &mut Vec<TokenKind>, args: &[Arg]) -> Result<(),
     }
 }
 
-// Appends the tokens of an argument, with its label if it has one.
+// Appends to `out` the tokens of an argument of a call, behind its label and `=` if it has one.
 #[cycle(value)]
 fn put_arg(alloc: Global, out: &mut Vec<TokenKind>, arg: &Arg) -> Result<(), Memory>
     ensures { OnOk result (out.new.items ≡ out.old.items ++ spell (view_arg arg.now)) }
@@ -369,7 +369,7 @@ fn put_arg(alloc: Global, out: &mut Vec<TokenKind>, arg: &Arg) -> Result<(), Mem
     put_full(alloc, out, &arg.value)
 }
 
-// Appends the tokens of an argument's label, if it has one.
+// Appends to `out` an argument's label, `name`, and `=`; nothing if it has none.
 fn put_label(alloc: Global, out: &mut Vec<TokenKind>, name: &Option<Text>) -> Result<(), Memory>
     ensures { OnOk result (out.new.items ≡ out.old.items ++ label name.now) }
 {

@@ -15,7 +15,8 @@ const DAY: u32 = 86_400;
 /// Seconds of a week.
 pub const WEEK: u32 = 604_800;
 
-// Whether a time mark of a script, as `9h` or `2w`, that stands alone holds at a second of the week.
+// Whether a time mark of a script, as `9h` or `2w`, that stands alone holds at a second of the week. In each period of
+// its coarsest part it holds from the time that it names on, as long as its finest part is: `9h` for an hour each day.
 pub fn is_at(mark: TimeMark, at: WeekSecond) -> bool
     ensures { result ≡ is_at mark at.second }
 {
@@ -24,7 +25,8 @@ pub fn is_at(mark: TimeMark, at: WeekSecond) -> bool
     since.rem_euclid(i64::from(period)) < i64::from(finest(mark))
 }
 
-// Whether the interval from one time mark of a script to another, as `9h-17h`, holds at a second of the week.
+// Whether the interval from one time mark of a script to another, as `9h-17h`, holds at a second of the week; its end
+// is left out. It comes back in the longer period of both. If it begins after its end, it runs on into the next period.
 pub fn is_between(from: TimeMark, to: TimeMark, at: WeekSecond) -> bool
     ensures { result ≡ is_between from to at.second }
 {
@@ -37,7 +39,8 @@ pub fn is_between(from: TimeMark, to: TimeMark, at: WeekSecond) -> bool
     }
 }
 
-// For how many seconds from this one on, at least 1 and at most a week, it stays whether a mark alone holds.
+// For how many seconds from this one on, at least 1 and at most a week, it stays whether a mark alone holds: up to the
+// end of its finest part while it holds, and otherwise until it comes back.
 pub fn steady_at(mark: TimeMark, at: WeekSecond) -> u32
     ensures stays { Stays (is_at mark) at.second result }
     ensures some { 0 < result }
@@ -54,7 +57,8 @@ pub fn steady_at(mark: TimeMark, at: WeekSecond) -> u32
     }
 }
 
-// How many seconds have gone by since a mark's value, around its period; fewer than the period has.
+// How many seconds have gone by at second `at` since the time that a mark names last came, around the mark's period;
+// fewer than the period has.
 fn phase(mark: TimeMark, at: WeekSecond) -> u32
     ensures is { result ≡ unsigned_abs
         (int_rem_euclid (pos (at.second % period_of mark) -ℤ pos (value_of mark)) (pos (period_of mark))) }
@@ -66,7 +70,7 @@ fn phase(mark: TimeMark, at: WeekSecond) -> u32
 }
 
 // For how many seconds from this one on, at least 1 and at most a week, it stays whether the interval from one mark to
-// another holds.
+// another holds: up to the next of its two ends, or of the period's end.
 pub fn steady_between(from: TimeMark, to: TimeMark, at: WeekSecond) -> u32
     ensures stays { Stays (is_between from to) at.second result }
     ensures some { 0 < result }
@@ -93,7 +97,8 @@ fn until(since: u32, time: u32, most: u32) -> u32
     }
 }
 
-// The time that a mark names, in seconds since its period began: the sum of its day, hour, minute and second.
+// The time that a mark names, in seconds since its period began: the sum of its day, hour, minute and second. A week
+// begins with day 1; day 0 is its seventh, as day 7 is. A part that it does not name is 0.
 fn value(mark: TimeMark) -> u32
     ensures { result ≡ value_of mark }
 {

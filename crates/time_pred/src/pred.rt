@@ -108,7 +108,8 @@ fn copies(alloc: Global, parts: &[Pred]) -> Result<Vec<Pred>, Memory>
     Ok(copies)
 }
 
-// For how many seconds from this one on, at least 1 and at most a week, each of these predicates keeps its answer.
+// For how many seconds from this one on, at least 1 and at most a week, each of these predicates keeps its answer: the
+// least of what each tells, or a week if there are none.
 #[cycle(steady)]
 fn steady_all(parts: &[Pred], at: WeekSecond) -> u32
     ensures all { Stays (λ second. list_all (λ p. holds (view_pred p) second) parts.now) at.second result }

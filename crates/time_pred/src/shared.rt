@@ -18,7 +18,8 @@ pub struct SharedPred {
 }
 
 impl SharedPred {
-    /// Takes in a predicate that values and switches can then share; it is held in one place so far.
+    /// Takes in a predicate that values of a script and switches of a plan can then share; it is held in one place so
+    /// far.
     pub fn new(alloc: Global, pred: Pred) -> Result<SharedPred, Memory>
         ensures { IfOk result (λ made. view_shared made ≡ view_pred pred) }
     {
@@ -50,8 +51,8 @@ impl SharedPred {
         self.pred.holds(at)
     }
 
-    /// A number of seconds from this one on, at least 1 and at most a week, for which the answer of `holds` stays. It
-    /// takes no memory.
+    /// A number of seconds from this one on, at least 1 and at most a week, for which the answer of `holds` stays; it
+    /// may stay longer. It takes no memory.
     pub fn steady(&self, at: WeekSecond) -> u32
         ensures stays { Stays (holds (view_shared self.now)) at.second result }
         ensures some { 0 < result }

@@ -4,8 +4,8 @@ ghost use Rattle.trace_log.specs.Stops.{IsText, StopsAt};
 
 use crate::cutting::{cut_header, cut_line};
 
-/// The first line, counted from 0, that is outside the form of a trace. `None` exactly for the text of a trace. It
-/// takes no memory.
+/// The first line, counted from 0, that is outside the form of a trace; `None` exactly for the text of a trace. After
+/// line 0 there is a line for each window and in it for each buffer, and then nothing. It takes no memory.
 #[tactic(auto, using(crate::proofs::Joins::some_inside))]
 pub(crate) fn first_fault(text: &[u8]) -> Option<u64>
     ensures stops { IfSome result (λ at. StopsAt text.now at) }

@@ -8,8 +8,8 @@ ghost use Rattle.buffer_ends.specs.Local.{Answers};
 
 use fixed_text::read_u64;
 
-// The numbers of line 0, which are the ticks, the ticks of a window and the buffers, and the text after it. `None`
-// exactly where line 0 has not its form.
+// Cuts line 0 from a text: the numbers of ticks, of a window's ticks and of buffers, and the text after it. `None`
+// exactly where line 0 has not its form, or a number is out of its bounds.
 pub(crate) fn cut_header(text: &[u8]) -> Option<(u64, u64, u64, &[u8])>
     ensures found { IfSome result (λ p. InBounds p.0 p.1 p.2 × (text.now ≡ header p.0 p.1 p.2 ++ p.3.now)) }
     ensures only { (n w b : ℕ) (f : List ℕ) → InBounds n w b → text.now ≡ header n w b ++ f
@@ -25,8 +25,8 @@ pub(crate) fn cut_header(text: &[u8]) -> Option<(u64, u64, u64, &[u8])>
     Some((ticks, window, many, rest))
 }
 
-// The letters of the puts and of the takes of a line, and the text after it. `None` exactly where the text does not
-// begin with a line of this window and this buffer.
+// Cuts the line of this window and buffer from a text: the letters of its puts, `A` accepted or `F` full, those of its
+// takes, `G` got or `E` empty, and the text after it. `None` exactly where the text does not begin with such a line.
 pub(crate) fn cut_line(text: &[u8], window: u64, buffer: u64) -> Option<(&[u8], &[u8], &[u8])>
     ensures found { IfSome result (λ p. (log : Answers) × (p.0.now ≡ letters 65 70 log.puts)
         × (p.1.now ≡ letters 71 69 log.takes) × (text.now ≡ line window buffer log ++ p.2.now)) }
@@ -41,8 +41,8 @@ pub(crate) fn cut_line(text: &[u8], window: u64, buffer: u64) -> Option<(&[u8], 
     Some((puts, takes, rest))
 }
 
-// Cuts a word, this number and a space from the front of a text: the text after them; `None` where it does not begin
-// so.
+// Cuts a word, exactly this number and a space from the front of a text, and returns the text after them; `None` where
+// it does not begin so.
 fn cut_counted<'a>(text: &'a [u8], word: &[u8], number: u64) -> Option<&'a [u8]>
     ensures found { IfSome result (λ r. text.now ≡ word.now ++ (decimal number ++ 32 ∷ r.now)) }
     ensures only { (f : List ℕ) → text.now ≡ word.now ++ (decimal number ++ 32 ∷ f)
@@ -113,8 +113,9 @@ fn all_letters(text: &[u8], one: u8, other: u8) -> bool
     text.iter().all(|b| *b == one || *b == other)
 }
 
-// The letters of answers between a word and the first byte that is `stop`, and the text after it; `one` is the letter
-// for true, `other` for false.
+// Cuts this word and the letters of answers behind it from a text, up to the first byte that is `stop`: the letters,
+// and the text after that byte. `one` is the letter for true, `other` for false. `None` where the text does not begin
+// so.
 fn cut_letters<'a>(
     text: &'a [u8],
     word: &[u8],

@@ -38,7 +38,8 @@ fn append_trace(trace: &Trace, into: &mut Vec<u8>) -> Result<(), Memory>
     Ok(())
 }
 
-// Appends line `place`, counted from the one after line 0; where memory is refused, a prefix of it.
+// Appends line `place`, counted from the one after line 0: lines come by windows, and in each by buffers. Where memory
+// is refused, a prefix of the line is appended.
 #[tactic(auto, using(crate::proofs::Joins::window_inside, crate::proofs::Joins::buffer_inside, crate::proofs::Joins::some_inside))]
 fn append_place(trace: &Trace, into: &mut Vec<u8>, place: u64) -> Result<(), Memory>
     requires trace { IsTrace trace.now }
@@ -55,7 +56,7 @@ fn append_place(trace: &Trace, into: &mut Vec<u8>, place: u64) -> Result<(), Mem
     Ok(())
 }
 
-// What this buffer of a trace answered in the window of this number.
+// What buffer `buffer` of a trace answered in window `window`; both are counted from 0.
 fn log_of(trace: &Trace, buffer: u64, window: u64) -> &WindowLog
     requires trace { IsTrace trace.now }
     requires buffer { buffer < length trace.now.buffers }
@@ -74,7 +75,8 @@ fn window_at(windows: &[WindowLog], window: u64) -> &WindowLog
     &windows[window as usize]
 }
 
-// Appends line 0 for so many ticks, ticks of a window, and buffers; where memory is refused, a prefix of it.
+// Appends line 0 of a trace: its ticks, the ticks of a `window`, and how `many` buffers there are. Where memory is
+// refused, a prefix of it is appended.
 fn append_header(into: &mut Vec<u8>, ticks: u64, window: u64, many: u64) -> Result<(), Memory>
     ensures ok { OnOk result (into.new.items ≡ into.old.items ++ header ticks window many) }
     ensures kept { take (length into.old.items) into.new.items ≡ into.old.items }
@@ -109,8 +111,8 @@ fn append_number(into: &mut Vec<u8>, text: &[u8], number: u64) -> Result<(), Mem
     Ok(())
 }
 
-// Appends a text and the letters of answers, `one` for true and `other` for false; where memory is refused, a prefix of
-// both.
+// Appends `text` and a letter for each of a buffer's answers, `one` for true and `other` for false, or a stroke if
+// there are none. Where memory is refused, a prefix of it is appended.
 fn append_letters(
     into: &mut Vec<u8>,
     text: &[u8],

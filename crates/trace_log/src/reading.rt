@@ -16,7 +16,8 @@ use liq_base::Memory;
 use std::alloc::Global;
 
 /// Reads the text of a trace, which `print` makes. `NotTrace` has the first line outside the form (`docs/formats.md`,
-/// "Traces"), counted from 0; it takes no memory. A trace takes a small multiple of its text.
+/// "Traces"), counted from 0; it takes no memory. `Memory` comes only for a text of that form, whose trace takes a
+/// small multiple of it.
 pub fn read(alloc: Global, text: &[u8]) -> Result<Trace, TraceFault>
     ensures ok { IfOk result (λ t. IsTrace t × (text.now ≡ trace_text t)) }
     ensures fault { (at : ℕ) → (result ≡ Err (faults.NotTrace at)) ↔ StopsAt text.now at }
@@ -30,7 +31,7 @@ pub fn read(alloc: Global, text: &[u8]) -> Result<Trace, TraceFault>
     Ok(trace)
 }
 
-// Reads the trace of a text that is known to have its form.
+// Reads the trace of a text that is known to have its form, so that cutting line 0 cannot fail.
 fn read_whole(alloc: Global, text: &[u8]) -> Result<Trace, Memory>
     requires { IsText text.now }
     ensures { IfOk result (λ t. IsTrace t × (text.now ≡ trace_text t)) }
@@ -58,7 +59,8 @@ fn empty_logs(alloc: Global, many: u64, windows: u64) -> Result<Vec<BufferLog>, 
     Ok(logs)
 }
 
-// Adds the answers of each line after line 0 to the log of its buffer.
+// Adds the answers of each line of `text`, the lines after line 0, to the log of its buffer in `buffers`. The lines
+// come by windows, of which there are `windows`, and in each by buffers.
 fn read_lines(
     alloc: Global,
     text: &[u8],
@@ -94,7 +96,7 @@ fn add_log(buffers: &mut Vec<BufferLog>, buffer: u64, log: WindowLog) -> Result<
     Ok(())
 }
 
-// The answers of the line of this window and buffer with which a text begins, and the text after it.
+// The answers of the line of this window and buffer, with which the text is known to begin, and the text after it.
 fn read_line(
     alloc: Global,
     text: &[u8],

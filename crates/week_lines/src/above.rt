@@ -20,7 +20,8 @@ pub enum Instead {
     Unknown,
 }
 
-/// What plays in the place of a source: where one fallback alone plays it, what that plays next.
+/// What plays while source `number` has nothing to play. It is known only where no sink and one node alone plays it,
+/// and that is a fallback with a child behind it: then silence if that child is a blank, and otherwise its next source.
 pub fn instead_of(plan: &Plan, number: usize) -> Instead
     ensures { result ≡ instead_of plan.now number }
 {

@@ -19,8 +19,8 @@ pub fn below_crossfades(alloc: Global, nodes: &[Node]) -> Result<Vec<bool>, Memo
     Ok(below)
 }
 
-// Marks each source below a crossfade: from the last source to the first, since the children of a source stand before
-// it.
+// Marks in `below`, where nothing is marked before, each source that lies below a crossfade. It goes from the last
+// source to the first, since the children of a source stand before it.
 fn mark_below(below: &mut [bool], nodes: &[Node])
     requires nodes { AreNodes nodes.now }
     requires size { length below.old ≡ length nodes.now }

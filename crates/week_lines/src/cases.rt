@@ -6,7 +6,8 @@ use crate::lines::{push_number, push_switch};
 use liq_base::Memory;
 use week_plan::{Fate, push_plain};
 
-/// Appends which cases of a switch are never chosen, and why.
+/// Appends a line for each case of switch `number` that is never chosen, and why; `fates` has what becomes of each
+/// case.
 pub fn push_cases(into: &mut Vec<u8>, number: usize, fates: &[Fate]) -> Result<(), Memory>
     ensures { OnOk result (into.new.items ≡ into.old.items ++ fates_text number 0 fates.now) }
 {
@@ -16,7 +17,8 @@ pub fn push_cases(into: &mut Vec<u8>, number: usize, fates: &[Fate]) -> Result<(
     Ok(())
 }
 
-// Appends the line of case `case`, counted from 0, of switch `number`, if it is never chosen.
+// Appends the line of case `case`, counted from 0, of switch `number`, if it is never chosen: an earlier case hides it
+// (`Hidden`), or it never holds (`Never`). Nothing is appended if it may be chosen.
 fn push_case(into: &mut Vec<u8>, number: usize, case: usize, fate: Fate) -> Result<(), Memory>
     requires { case < 2 ^ 63 }
     ensures { OnOk result (into.new.items ≡ into.old.items ++ fate_text number case fate) }

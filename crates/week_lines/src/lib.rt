@@ -22,8 +22,8 @@ use std::alloc::Global;
 use switches::push_switches;
 use week_plan::{filled, seconds_told};
 
-/// What is told of a plan's week, as text: the lines about its switches, and how long it is silent in all. `marks`
-/// says of each source whether it never falls silent.
+/// What is told of a plan's week, as text: when no case of a switch holds, which cases are never chosen, and how long
+/// it is silent in all. `marks` says of each source whether it never falls silent.
 pub fn week(alloc: Global, plan: &Plan, marks: &[bool]) -> Result<Vec<u8>, Memory>
     requires { IsWellFormed plan.now }
     ensures { IfOk result (λ text. IsWeek plan.now (mark_at marks.now) text.items) }
@@ -33,7 +33,8 @@ pub fn week(alloc: Global, plan: &Plan, marks: &[bool]) -> Result<Vec<u8>, Memor
     Ok(text)
 }
 
-// Appends the lines about each switch of a plan, and then for how long in the week it is silent in all.
+// Appends the lines about each switch of a plan, and then for how long in the week it is silent in all. `marks` says of
+// each source whether it never falls silent.
 fn push_plan(alloc: Global, into: &mut Vec<u8>, plan: &Plan, marks: &[bool]) -> Result<(), Memory>
     requires plan { IsWellFormed plan.now }
     requires empty { into.old.items ≡ [] }
@@ -45,8 +46,8 @@ fn push_plan(alloc: Global, into: &mut Vec<u8>, plan: &Plan, marks: &[bool]) -> 
     Ok(())
 }
 
-// Appends what is told of each source, and adds to `silent`, a table of bits, the seconds of the week at which one of
-// them is silent.
+// Appends what is told of each switch. Adds to `silent`, a table of bits, the seconds of the week at which one of them
+// is silent. `marks` says of each source whether it never falls silent.
 fn push_lines(
     alloc: Global,
     into: &mut Vec<u8>,

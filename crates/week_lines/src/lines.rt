@@ -26,8 +26,9 @@ pub fn push_number(into: &mut Vec<u8>, text: &[u8], number: u64) -> Result<(), M
     Ok(())
 }
 
-/// Appends the line about the holes of a switch: the spans of the week in which no case of it holds, and what plays
-/// then. `daily` tells that they are the same each day.
+/// Appends the line about the holes of switch `number`: the `spans` of the week in which no case of it holds, the same
+/// each day if `daily`, and what plays `instead`. `sensitive`: a track that runs ends first. `below`: the times are
+/// those of the crossfade's clock above.
 pub fn push_hole(
     alloc: Global,
     into: &mut Vec<u8>,
@@ -84,8 +85,8 @@ fn push_clock(into: &mut Vec<u8>, below: bool) -> Result<(), Memory>
     }
 }
 
-/// Appends how long it is silent in a week, as hours, with minutes and seconds where they are not 0: nothing where it
-/// is not.
+/// Appends how long it is silent in a week, as hours, with minutes and seconds where they are not 0. Nothing is
+/// appended where it is never silent.
 pub fn push_sum(into: &mut Vec<u8>, seconds: u64) -> Result<(), Memory>
     ensures { OnOk result (into.new.items ≡ into.old.items ++ sum_line seconds) }
 {
@@ -99,7 +100,8 @@ pub fn push_sum(into: &mut Vec<u8>, seconds: u64) -> Result<(), Memory>
     Ok(())
 }
 
-// Appends a colon and the two digits of `number`, unless `rest`, what is left to be told, is 0.
+// Appends a colon and `number`, minutes or seconds below 60, in two digits. Nothing is appended if `rest`, the seconds
+// that are still to be told, is 0.
 fn push_part(into: &mut Vec<u8>, rest: u64, number: u64) -> Result<(), Memory>
     ensures { OnOk result (into.new.items ≡ into.old.items ++ part_text rest number) }
 {

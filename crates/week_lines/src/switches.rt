@@ -32,8 +32,9 @@ pub struct Switch {
     pub below: bool,
 }
 
-/// Appends what is told of each switch, in the order of sources, and adds to `silent` the seconds of the week at which
-/// one is silent.
+/// Appends what is told of each switch, in the order of sources, and adds to `silent`, a table of bits, the seconds of
+/// the week at which one is silent. Of each source `marks` says whether it never falls silent, and `below` whether it
+/// lies below a crossfade.
 pub fn push_switches(
     alloc: Global,
     into: &mut Vec<u8>,
@@ -54,8 +55,9 @@ pub fn push_switches(
     Ok(())
 }
 
-// Appends what is told of each switch, and adds to `silent` the seconds at which one is silent. What was found of
-// switches is held in `kept`, since a later one may have the same cases.
+// Appends what is told of each switch, and adds to `silent` the seconds at which one is silent. Of each source `marks`
+// says whether it never falls silent, and `below` whether it lies below a crossfade. `kept` holds what was found of
+// switches, since a later one may have the same cases.
 fn push_each<'a>(
     alloc: Global,
     into: &mut Vec<u8>,
@@ -90,8 +92,9 @@ fn push_each<'a>(
     Ok(())
 }
 
-// Appends what is told of source `number`, whose node this is, if it is a switch, and adds to `silent` the seconds at
-// which it is silent.
+// If source `number`, whose node this is, is a switch, appends what is told of it and adds to `silent` the seconds at
+// which it is silent. Of each source `marks` says whether it never falls silent, and `below` whether it lies below a
+// crossfade. `kept` holds what was found of earlier switches.
 fn push_node<'a>(
     alloc: Global,
     into: &mut Vec<u8>,
@@ -138,8 +141,9 @@ fn push_node<'a>(
     }
 }
 
-// Appends what is told of a switch with these cases, and adds its silence: what is found of the cases is looked up in
-// `kept`, or computed and held there.
+// Appends what is told of a switch whose cases have these predicates and children, and adds its silence to `silent`.
+// What is found of the cases is looked up in `kept`, or computed and held there. `marks` says of each source whether it
+// never falls silent.
 fn push_looked<'a>(
     alloc: Global,
     into: &mut Vec<u8>,
@@ -178,8 +182,8 @@ fn sure_of(alloc: Global, marks: &[bool], children: &[u32]) -> Result<Vec<bool>,
     Ok(sure)
 }
 
-// Appends the lines of a switch by what was found of its cases, the holes and the cases never chosen, and adds the
-// holes to `silent` if silence plays then.
+// Appends the lines of a switch by what was `seen` of its cases: its holes, at which no case holds, and the cases never
+// chosen. Adds the holes to `silent`, a table of bits of the week's seconds, if silence plays then.
 fn push_seen(
     alloc: Global,
     into: &mut Vec<u8>,
@@ -204,7 +208,8 @@ fn push_seen(
     Ok(())
 }
 
-// Appends the line about the holes of a switch, the spans of the week in which no case of it holds, if it has some.
+// Appends the line about the holes of a switch, if it has some: the `spans` of the week in which no case of it holds,
+// which are the same each day if `daily`.
 fn push_holes(
     alloc: Global,
     into: &mut Vec<u8>,
@@ -230,8 +235,8 @@ fn push_holes(
     }
 }
 
-// Adds the holes of a switch, the seconds of the week at which no case of it holds, to `silent`, if silence plays in
-// its place.
+// Adds the `holes` of a switch, the seconds of the week at which no case of it holds, to `silent`, if silence plays in
+// its place. Both are tables of bits.
 fn add_silence(silent: &mut [u64], instead: Instead, holes: &[u64])
     requires silent { IsTable silent.old }
     requires holes { IsTable holes.now }
