@@ -84,7 +84,7 @@ pub fn note_choice(
     Ok(())
 }
 
-// Adds to `notes` what each name in parts joined by `or` stands for, or its fault.
+// Adds to `notes` what each name in the parts behind an `or` stands for, or its fault.
 #[cycle(value)]
 fn note_ands(
     alloc: Global,
@@ -263,7 +263,8 @@ fn note_multiplied(
     note_operand(alloc, scopes, notes, &multiplied.operand)
 }
 
-// Adds to `notes` what each name in an operand stands for, or its fault.
+// Adds to `notes` what each name in an operand stands for, or its fault. Literals, a `{..}` predicate, `()` and
+// `%wav` have no names of the script.
 #[cycle(value)]
 fn note_operand(
     alloc: Global,

@@ -174,7 +174,8 @@ fn check<R: Abort + Threads + Wait + Sync>(
     check_over(rt, alloc, run, failing, ending, true)
 }
 
-// Lets each of the two reads of a call fail, and checks that nothing is written and the status is 3.
+// Lets each of the two reads of a call fail, that of the script and that of the audio file, and checks that nothing
+// is written and the status is 3. `run` is a script and the words.
 fn check_reads<R: Abort + Threads + Wait + Sync>(
     rt: &R,
     alloc: Global,
@@ -211,8 +212,8 @@ fn check_reports<R: Abort + Threads + Wait + Sync>(
     Ok(())
 }
 
-// Lets a call of a device fail that never comes, since there are no more, and checks that all goes well. `told` is
-// how long the report is.
+// Lets a call of a device fail that never comes, since there are no more, and checks that all goes well. `run` is a
+// script and the words, `second` what is left of the second output, and `told` how long the report is.
 fn check_no_more<R: Abort + Threads + Wait + Sync>(
     rt: &R,
     alloc: Global,
@@ -306,8 +307,8 @@ fn check_piece_of_two<R: Abort + Threads + Wait + Sync>(
     Ok(())
 }
 
-// Two outputs: each call but those for ticks. An output whose turn has not come is not created; each that was created
-// is closed.
+// Lets each call of the devices of two outputs fail in turn, but those that write ticks, and checks the end. An output
+// whose turn has not come is not created; each that was created is closed. `run` is a script and the words.
 fn check_two<R: Abort + Threads + Wait + Sync>(
     rt: &R,
     alloc: Global,
@@ -359,7 +360,8 @@ fn each_call_of_two_outputs_fails(rt: HostRuntime) -> Result<(), Fail> {
 }
 
 // Each tick of two outputs in two clocks: what is left of the other output where a piece of the first one breaks off in
-// its tick 0 and in its tick 1, and where one of the second does.
+// its tick 0 and in its tick 1, and where one of the second does. `others` has these four numbers of bytes in this
+// order.
 fn check_apart_ticks<R: Abort + Threads + Wait + Sync>(
     rt: &R,
     alloc: Global,
@@ -414,7 +416,8 @@ fn one_clock_stops_and_the_other_ends_its_window(rt: HostRuntime) -> Result<(), 
     Ok(())
 }
 
-// Runs a call whose error line breaks off after `taken` bytes, and checks that these are told and no file is changed.
+// Runs a call of the words `line` whose error line, `told`, breaks off after `taken` bytes. Checks that these bytes
+// are told, that the status is 4, that of a failed write, and that no file is changed.
 fn check_front<R: Abort + Threads + Wait + Sync>(
     rt: &R,
     alloc: Global,

@@ -107,8 +107,9 @@ pub fn push_split<'a>(
     }
 }
 
-/// One step of unification: the difference of two types. Where what they are bound to can be taken apart, copies of
-/// that are put on the agenda, two variables once, and the two count as the same.
+/// One step of unification: the difference of two types, which tells what is to be bound. Where what they are bound to
+/// are two lists or two tuples of one length, copies are put on the agenda, the list of pairs still to compare, and
+/// `Same` is answered. The agenda's `seen` has the pairs of variables put there, so that none comes twice.
 pub fn differ<'a>(
     alloc: Global,
     bindings: &'a Bindings,
@@ -145,7 +146,7 @@ pub fn differ<'a>(
 }
 
 /// What has to be bound to make two kinds of sources equal: nothing where they are the same, or a kind variable; a
-/// clash where no binding does it.
+/// clash where no binding does it. Of two variables the one of greater number is bound, so that no circle arises.
 fn differ_kinds<'a>(kinds: &[Option<KindTerm>], left: KindTerm, right: KindTerm) -> Difference<'a>
     requires falls { FallsByNumber kinds.now }
     requires left { InKind (λ n. n < length kinds.now) left }
@@ -359,7 +360,7 @@ pub fn differ_directly<'a>(
     Ok(Some(difference))
 }
 
-/// Whether both types are one and the same variable.
+/// Whether both types are one and the same variable; their bindings are not looked at.
 fn are_one_variable(left: &Ty, right: &Ty) -> bool
     ensures { OnTrue result (term_of left.now ≡ term_of right.now) }
 {
@@ -372,7 +373,8 @@ fn are_one_variable(left: &Ty, right: &Ty) -> bool
     }
 }
 
-/// Whether both types are variables whose bindings were put on the agenda for comparison before.
+/// Whether both types are variables whose bindings were put on the agenda before, the list of pairs to compare.
+/// `seen` has those pairs. False where one of the types is no variable.
 fn is_known(seen: &IndexSet<(u64, u64)>, left: &Ty, right: &Ty) -> bool
     ensures { OnTrue result ((a : Assignment) (n : ℕ) → AllEqualBelow a n (variable_pairs seen.now.keys)
         → EqualBelow a n (term_of left.now) (term_of right.now)) }

@@ -145,7 +145,8 @@ fn unify_deeply(
     }
 }
 
-/// Takes the bindings of the trail's variables away again, after two types turned out not to be equal.
+/// Takes the bindings of the trail's variables away again, after two types turned out not to be equal or memory ran
+/// out. The marks of nested variables stay, which costs only a search more.
 fn undo(bindings: &mut Bindings, trail: &Trail)
     requires { (s : Table) × Tells trail.now s (table_of bindings.old) }
     ensures undone { (s : Table) → Tells trail.now s (table_of bindings.old) → table_of bindings.new ≡ s }
@@ -155,8 +156,8 @@ fn undo(bindings: &mut Bindings, trail: &Trail)
     free_kinds(&mut bindings.kinds, &trail.kinds);
 }
 
-/// Takes the nodes of the types in the pairs from number `first` on from the places that are left; where there are too
-/// few, as if memory had run out.
+/// Counts `left`, how many nodes of types may still be built or compared, down by the nodes of the types in the pairs
+/// from number `first` on. Where too few are left, it fails as if memory had run out.
 fn spend_behind(left: &mut u64, pairs: &[(Ty, Ty)], first: usize) -> Result<(), Memory> {
     for i in first..pairs.len() {
         spend(left, &pairs[i].0)?;
@@ -166,7 +167,8 @@ fn spend_behind(left: &mut u64, pairs: &[(Ty, Ty)], first: usize) -> Result<(), 
 }
 
 /// One step of unification, for one pair of types: binds the variable that has to be bound, and notes it in the trail,
-/// or puts what the two are bound to on the agenda; `false` where they cannot be made equal.
+/// or puts what the two are bound to on the agenda, the pairs still to compare. `false` where they cannot be made
+/// equal. `bindings.left` counts the nodes that may still be copied.
 fn take_up(
     alloc: Global,
     bindings: &mut Bindings,
@@ -205,7 +207,8 @@ fn take_up(
 }
 
 /// Takes two types apart, with a stack of references, and takes up the pairs of parts that are not both lists or both
-/// tuples of one length; `false` where a pair differs in shape.
+/// tuples of one length: binds a variable for each, or puts it on the agenda. `false` where a pair cannot be made
+/// equal. Past `MOST_STEPS` pairs it fails as if memory had run out.
 fn take_apart(
     alloc: Global,
     bindings: &mut Bindings,
@@ -237,7 +240,8 @@ fn take_apart(
     Err(Memory)
 }
 
-/// Binds variables until the two types are the same, or differ in shape. The trail tells which were bound.
+/// Binds variables until the two types are the same (`true`), or differ in shape (`false`). The trail tells which were
+/// bound, for the caller to free them.
 ///
 /// What variables are bound to and is still to be compared stands on the agenda. Two variables are taken apart once.
 fn solve(
