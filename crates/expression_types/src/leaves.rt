@@ -21,7 +21,7 @@ pub fn some_if(yes: bool, n: u64) -> Option<u64>
     if yes { Some(n) } else { None }
 }
 
-/// The number of a new type variable that is bound to the type of a literal.
+/// The number of a new type variable that is bound to the type of a literal: int or decimal.
 pub fn literal_type(alloc: Global, subst: &mut Subst, literal: &Literal) -> Result<u64, Memory>
     ensures { IfOk result (λ n. Defines subst.old subst.new n (literal_term literal.now)) }
 {
