@@ -22,7 +22,8 @@ ghost use Rattle.stream_meaning.specs.Calls.{calls_of, calls_of_tick, fades_in, 
 ghost use Rattle.stream_meaning.specs.Settings.{IsSetting, HasNoBuffers};
 ghost use Rattle.stream_meaning.specs.Sinks.{gaps};
 
-/// The sub-clocks of each setting have slots, however deep they nest: `sub_of` is what their instants make.
+/// The sub-clocks of each setting (a plan and what it runs on) have slots, a cell or nothing at each instant, however
+/// deep they nest: `sub_of` gives what their instants make.
 pub fn sub_clocks_have_slots()
     ensures { (setting : Setting) (clocks : Map) → IsSetting setting clocks → IsMeaning setting (sub_of setting) }
 {}
@@ -38,8 +39,8 @@ pub fn infallible_nodes_offer()
         → gaps setting i ticks ≡ 0 }
 {}
 
-/// A leaf and a reader have no children, so no child decides whether they are infallible. A leaf that plays files is
-/// a single or a playlist, whose files are loaded.
+/// A leaf and a reader of a buffer have no children, so no child decides whether they are infallible, that is, offer a
+/// cell at every instant. A leaf that plays files is a single or a playlist.
 pub fn leaves_stand_alone()
     ensures children { (rate i n : ℕ) (kind : TheKind) (op : TheOp) (leaf : TheLeaf)
         → work_of rate i kind op ≡ Plays leaf → HasChildren op n → n ≡ 0 }
