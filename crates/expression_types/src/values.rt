@@ -195,8 +195,8 @@ fn join_fulls(
     Ok(true)
 }
 
-/// The type of a list, whose `[` is token `at`: the number of its type variable, or `None` where its items have no type
-/// in common.
+/// The type of a list, whose `[` is token `at` (only the contract reads it): the number of its type variable, or `None`
+/// where its items have no type in common.
 /// `names` tells what the names in it mean; the list `uses` takes a use of each. It fails only where memory is refused.
 #[cycle(value)]
 fn type_list(
@@ -252,8 +252,8 @@ fn type_fulls(
     Ok(Some(vars))
 }
 
-/// The type of values in parentheses, which open at token `at`: the number of its type variable, or `None` where one
-/// has no type. One value alone makes no tuple.
+/// The type of values in parentheses, which open at token `at` (only the contract reads it): the number of its type
+/// variable, or `None` where one has no type. No value is a unit, and one value alone makes no tuple.
 /// `names` tells what the names in it mean; the list `uses` takes a use of each. It fails only where memory is refused.
 #[cycle(value)]
 fn type_tuple(

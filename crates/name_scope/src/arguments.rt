@@ -102,7 +102,8 @@ pub(crate) fn are_filled(params: &[Parameter<'_>], args: &[Arg]) -> bool
     }
 }
 
-/// Takes out each argument that a parameter takes, and answers the first parameter that must have one and finds none.
+/// Takes each argument that a parameter takes out of `given`, in the order of the parameters. Answers the name of the
+/// first parameter that must have an argument and finds none; `None` where there is no such parameter.
 pub(crate) fn match_arguments<'a>(
     params: &[Parameter<'a>],
     given: &mut Untaken<'_>,
@@ -134,8 +135,8 @@ pub(crate) fn labels_of<'a>(
     Ok(labels)
 }
 
-/// Takes out each argument that a parameter takes, by a table of the labels, and answers the first parameter that must
-/// have one and finds none.
+/// Takes out each argument that a parameter takes, by a table of the labels of a call's arguments. Answers the name of
+/// the first parameter that must have an argument and finds none, or `None`; it fails only where memory is refused.
 pub(crate) fn match_labels<'a>(
     params: &[Parameter<'a>],
     labels: &mut Labels<'_>,
@@ -237,8 +238,8 @@ fn take_argument(given: &mut Untaken<'_>, label: Option<&str>) -> bool
     false
 }
 
-/// The first parameter of a call that finds no argument: the one known from before, or else `param` if it must have an
-/// argument and took none.
+/// The name of the first parameter of a call that lacks its argument: the one known from before (`missing`), or else
+/// that of `param` if it must have an argument and `taken` says that it took none.
 fn missing_or<'a>(missing: Option<&'a str>, param: Parameter<'a>, taken: bool) -> Option<&'a str>
     ensures same { seen_label result ≡ missing_with (seen_label missing.entry) (seen_parameter param.entry) taken }
 {

@@ -123,7 +123,8 @@ fn front(alloc: Global, tokens: &[Token], d: usize) -> ParseFault
     }
 }
 
-// The script that the tokens spell, or why they are none: the nesting is measured before they are parsed.
+// The script that the tokens spell, or why they are none: the nesting is measured before they are parsed, so that they
+// are parsed to the end only where they nest well. 2^32 tokens and more are refused as if memory had run out.
 fn answer(alloc: Global, tokens: &[Token]) -> Result<Script, ParseFault>
     ensures spelled { IfOk result (λ s. spelling (view_script s) ≡ kinds tokens.now) }
     ensures placed { IfOk result (λ s. IsPlaced 0 (view_script s)) }

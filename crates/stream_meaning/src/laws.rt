@@ -64,8 +64,8 @@ pub fn turns_go_by_choices()
         ≡ past_of turn (gave_over (first_instants setting sub (clock_of setting i) n) i node.children) }
 {}
 
-/// The calls of an instant are the takes of its clock's readers, and then those of the instants that its sub-clocks
-/// make.
+/// The calls that an instant makes at buffers are the takes of its clock's readers, and then the calls of the instants
+/// that its sub-clocks, one for each crossfade, make meanwhile.
 pub fn calls_go_by_sub_clocks()
     ensures { (setting : Setting) (clocks : Map) → IsSetting setting clocks
         → (sub : ℕ → ℕ → List TheSlot) (clock : NodeClock) (past : List Moment)
@@ -76,8 +76,8 @@ pub fn calls_go_by_sub_clocks()
         k (slice_get setting.plan.nodes k)) (length setting.plan.nodes) }
 {}
 
-/// A plan without readers and feeds makes no calls, whatever the setting; a well-formed plan that counts no buffer is
-/// one.
+/// A plan without readers and feeds of buffers makes no calls at them in any tick, whatever the setting; a well-formed
+/// plan that counts no buffer is one.
 pub fn no_calls_without_buffers()
     ensures none { (setting : Setting) → HasNoBuffers setting.plan → (accepted : ℕ → Bool) (m t : ℕ)
         → calls_of_tick setting accepted m t ≡ [] }

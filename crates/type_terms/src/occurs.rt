@@ -19,7 +19,8 @@ use std::alloc::Global;
 /// A script of a mebibyte writes fewer nodes than this, and what variables share is walked once.
 pub const MOST_STEPS: u64 = 4_194_304;
 
-/// The type itself, or where it is a bound variable what that is bound to in the end.
+/// The type itself, or where it is a bound variable what that is bound to in the end: a free variable, or a type that
+/// is no variable. Its parts are not looked at.
 pub fn resolve<'a>(types: &'a [TypeVariable], t: &'a Ty) -> &'a Ty
     requires triangular { IsTriangular types.now }
     requires over { InTerm (λ n. n < length types.now) (λ _. Unit {0}) (term_of t.now) }
@@ -180,7 +181,7 @@ fn is_leaf(ty: &Ty) -> bool
     }
 }
 
-/// Puts the parts of a tuple on the stack of what a walk still has to look at.
+/// Puts the parts of a tuple on `work`, the stack of what a walk over types still has to look at.
 fn push_parts<'a>(work: &mut Vec<&'a Ty>, parts: &'a [Ty]) -> Result<(), Memory>
     ensures { OnOk result (terms work.new.items ≡ terms work.old.items ++ map term_of parts.now) }
 {
@@ -190,7 +191,8 @@ fn push_parts<'a>(work: &mut Vec<&'a Ty>, parts: &'a [Ty]) -> Result<(), Memory>
     Ok(())
 }
 
-/// Puts the parts of a list or a tuple on the stack of what a walk still has to look at.
+/// Puts the parts of a list or a tuple on `work`, the stack of what a walk over types still has to look at; another
+/// type has none.
 fn push_inside<'a>(work: &mut Vec<&'a Ty>, ty: &'a Ty) -> Result<(), Memory>
     ensures { OnOk result (terms work.new.items ≡ terms work.old.items ++ inside (term_of ty.now)) }
 {
@@ -204,8 +206,8 @@ fn push_inside<'a>(work: &mut Vec<&'a Ty>, ty: &'a Ty) -> Result<(), Memory>
     }
 }
 
-/// Puts the parts of a type on the stack of what a walk still has to look at; with `deep` also what a variable is
-/// bound to.
+/// Puts the parts of a type on `work`, the stack of what a walk over types still has to look at. Of a variable it puts
+/// what it is bound to, if anything, but only with `deep`.
 fn push_below<'a>(
     work: &mut Vec<&'a Ty>,
     types: &'a [TypeVariable],

@@ -46,8 +46,8 @@ pub enum Direct {
     Apart,
 }
 
-/// Binds variables until the two types are the same; where they differ in shape or memory runs out, nothing is bound.
-/// `free` counts the variables that are bound to nothing.
+/// Binds variables until the two types are the same (`true`); where they cannot be (`false`) or memory runs out,
+/// nothing is bound. `free` counts the variables that are bound to nothing.
 ///
 /// What one binding settles takes no memory but that of a copy of what is bound.
 pub fn unify_in(
@@ -72,8 +72,9 @@ pub fn unify_in(
     }
 }
 
-/// Makes two types the same where neither is to be taken apart: with one binding, or none. `free` counts the variables
-/// that are bound to nothing.
+/// Makes two types the same where neither is to be taken apart: with one binding, or none. `Apart` is answered where
+/// they are two lists, or two tuples of one length; then, and for `Clash`, nothing is bound. `free` counts the
+/// variables that are bound to nothing.
 fn unify_directly(
     alloc: Global,
     bindings: &mut Bindings,
@@ -110,8 +111,8 @@ fn unify_directly(
     }
 }
 
-/// Binds variables until the two types are the same; what was bound is freed again where they differ in shape or memory
-/// runs out. `free` counts the variables that are bound to nothing.
+/// Binds variables until the two types are the same (`true`); what was bound is freed again where they cannot be
+/// (`false`) or memory runs out. `free` counts the variables that are bound to nothing.
 fn unify_deeply(
     alloc: Global,
     bindings: &mut Bindings,
