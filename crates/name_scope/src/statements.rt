@@ -79,7 +79,8 @@ pub(crate) fn note_statement<'a>(
     Ok(())
 }
 
-/// Adds to `notes` what each name in the default of a parameter stands for, if it has one.
+/// Adds to `notes` what each name in the default of a parameter stands for, or its fault. Only an optional parameter
+/// has a default.
 fn note_default(
     alloc: Global,
     scopes: Scopes<'_, '_>,
@@ -96,7 +97,8 @@ fn note_default(
     }
 }
 
-/// Adds to `notes` what each name in the defaults of these parameters stands for.
+/// Adds to `notes` what each name in the defaults of these parameters stands for in `scopes`, or its fault. No default
+/// sees another parameter: their names are bound later.
 fn note_defaults(
     alloc: Global,
     scopes: Scopes<'_, '_>,
@@ -204,7 +206,8 @@ fn note_value_part(
     Ok(())
 }
 
-/// Adds to `notes` what each name in the value of a binding stands for, and then the bound name to the scope.
+/// Adds to `notes` what each name in the value of a binding stands for, or its fault, and then the bound name to the
+/// scope: behind its value, which so cannot use the name that is bound.
 fn note_bind_part<'a>(
     alloc: Global,
     scope: &mut Scope<'a>,

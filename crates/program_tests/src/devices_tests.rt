@@ -231,8 +231,8 @@ fn check_no_more<R: Abort + Threads + Wait + Sync>(
     check(rt, alloc, run, failing, ending)
 }
 
-// Lets a piece of the one output, of `size` bytes, break off at each byte, and checks what is left: `before` bytes
-// are written before it.
+// Lets piece number `call` of the one output, of `size` bytes, break off at each byte, in a rendering by the words
+// `line`. Checks what is left: the `before` bytes written before it, and those of the piece that went through.
 fn check_one_piece<R: Abort + Threads + Wait + Sync>(
     rt: &R,
     alloc: Global,
@@ -250,7 +250,8 @@ fn check_one_piece<R: Abort + Threads + Wait + Sync>(
     Ok(())
 }
 
-// Lets each call of the devices of one output fail in turn, and checks the end of the rendering.
+// Lets each call of the devices of one output fail in turn, and checks the end of the rendering by the words `line`. A
+// call behind the last one never comes, so that all goes well.
 fn check_one<R: Abort + Threads + Wait + Sync>(
     rt: &R,
     alloc: Global,
@@ -332,7 +333,8 @@ fn check_two<R: Abort + Threads + Wait + Sync>(
     check_no_more(rt, alloc, run, Failing::Closing(2), whole(), 54)
 }
 
-// Ticks of two outputs in one clock: the first output gets its piece before the second one.
+// Lets each piece of a tick of two outputs in one clock fail in turn, by the words `line`, and checks what is left. The
+// first output gets its piece before the second one.
 fn check_shared_ticks<R: Abort + Threads + Wait + Sync>(
     rt: &R,
     alloc: Global,
@@ -387,7 +389,8 @@ fn the_other_clock_ends_its_window(rt: HostRuntime) -> Result<(), Fail> {
     check_apart_ticks(&rt, alloc, "render f 2 --one-thread", (44, 76, 76, 108))
 }
 
-// Ten ticks in windows of two: the output of clock `b` fails at its tick 2, after so many bytes, and no window follows.
+// Renders ten ticks in windows of two, where the output of clock `b` fails at its tick 2, after `taken` bytes. Checks
+// that the other clock ends that window of ticks, and that no window follows.
 fn check_third_append<R: Abort + Threads + Wait + Sync>(
     rt: &R,
     alloc: Global,
@@ -435,7 +438,8 @@ fn check_front<R: Abort + Threads + Wait + Sync>(
     Ok(())
 }
 
-// Runs a call of these words with its error line `told` breaking off at each byte.
+// Runs a call of the words `line` again and again, with its error line `told` breaking off at each byte, and checks
+// its end each time.
 fn check_line<R: Abort + Threads + Wait + Sync>(
     rt: &R,
     alloc: Global,
