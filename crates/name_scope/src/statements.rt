@@ -207,7 +207,7 @@ fn note_value_part(
 }
 
 /// Adds to `notes` what each name in the value of a binding stands for, or its fault, and then the bound name to the
-/// scope: behind its value, which so cannot use the name that is bound.
+/// scope. The value sees only what was bound before, perhaps an older binding of the same name.
 fn note_bind_part<'a>(
     alloc: Global,
     scope: &mut Scope<'a>,
