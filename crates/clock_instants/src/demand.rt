@@ -22,8 +22,9 @@ pub enum Demand {
     Offering,
 }
 
-/// Sets in `demanded` which nodes of a clock are demanded, where those are set before that are demanded of themselves.
-/// Nodes of other clocks offer nothing, and are not demanded.
+/// Sets in `demanded` which nodes of a clock are demanded at an instant: those set before, demanded of themselves, and
+/// the children that demanded nodes use. `parts` has what each node offers and picks. It goes from the last node to
+/// the first, since children stand before their nodes. Nodes of other clocks offer nothing, and are not demanded.
 pub fn find_demanded(
     scene: &Scene<'_>,
     nodes: &ClockNodes,
@@ -80,7 +81,8 @@ fn demand_of(op: &Op) -> Demand
     }
 }
 
-// Demands the child that a node picked, at place `pick` among its children, if it offers a cell.
+// Demands the child that a node picked, at place `pick` among its children, if it offers a cell: sets it in `demanded`,
+// by its number. `parts` has what each node offers. Without a pick no child is demanded.
 fn demand_picked(children: &[u32], parts: &[Part], pick: Option<u32>, demanded: &mut [bool])
     requires in_demanded { All (λ child. child < length demanded.old) children.now }
     requires in_parts { All (λ child. child < length parts.now) children.now }
@@ -99,7 +101,7 @@ fn demand_picked(children: &[u32], parts: &[Part], pick: Option<u32>, demanded: 
     }
 }
 
-// Demands all children that offer a cell: sets them in `demanded`.
+// Demands all children that offer a cell: sets them in `demanded`, by their numbers. `parts` has what each node offers.
 fn demand_offering(children: &[u32], parts: &[Part], demanded: &mut [bool])
     requires in_demanded { All (λ child. child < length demanded.old) children.now }
     requires in_parts { All (λ child. child < length parts.now) children.now }
@@ -114,7 +116,8 @@ fn demand_offering(children: &[u32], parts: &[Part], demanded: &mut [bool])
     }
 }
 
-// Demands the children that a demanded node uses: sets them in `demanded`.
+// Demands the children that a demanded node uses, those that `demand` names: sets them in `demanded`, by their numbers.
+// `parts` has what each node offers, and `pick` is the place of the child that this node picked, if it did.
 fn demand_used(
     demand: Demand,
     children: &[u32],

@@ -15,7 +15,7 @@ pub fn title_below(nodes: &[Node], held: &[Part], k: usize) -> u32
     title_of(slot_of(held, child_of(nodes, k)))
 }
 
-// The number of the one child of crossfade k; 0 if there is none.
+// The number of the one child of crossfade k; 0 if it has none, or if no node has the number k.
 fn child_of(nodes: &[Node], k: usize) -> u32
     ensures { result ≡ crossfaded nodes.now k }
 {

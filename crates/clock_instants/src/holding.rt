@@ -9,7 +9,8 @@ use clock_nodes::{ClockNodes, Scene};
 use node_states::gives;
 use stream_meaning::Part;
 
-/// Writes to `held` what each node of a clock gave at an instant, by its part and by whether it was demanded.
+/// Writes to `held` what each node of a clock gave at an instant: its part, what it offers and picks, if it was
+/// demanded and offers a cell, and otherwise silence. Nodes of other clocks keep what is held of them.
 pub fn hold(
     scene: &Scene<'_>,
     nodes: &ClockNodes,

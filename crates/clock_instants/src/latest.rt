@@ -69,7 +69,8 @@ impl Latest {
     }
 }
 
-// Makes the parts of a clock's nodes silent and demands none of them; nodes of other clocks are so already.
+// Forgets an instant of a clock: makes the parts of its nodes silent in `parts`, and sets in `demanded` that none of
+// them is demanded. Nodes of other clocks are so already.
 fn clear(
     scene: &Scene<'_>,
     nodes: &ClockNodes,

@@ -48,8 +48,8 @@ pub fn make_parts(
     }
 }
 
-// What node i offers, and which child it picks, at an instant in second `at` of the week; `parts` has the same of the
-// nodes before it, among them its children.
+// What node i offers, and which child it picks, at an instant in second `at` of the week. `parts` has the same of the
+// nodes before it, among them its children. `desk` is room for what its children offer.
 fn offer_of(
     scene: &Scene<'_>,
     state: &NodeState,

@@ -64,7 +64,8 @@ pub fn run_nodes(
 }
 
 // Makes `many` instants at once of all nodes of a clock, node by node: their states go on, and each that gives leaves
-// its samples. `parts` is silent before; afterwards it has the held parts of these nodes.
+// its samples in `left` and `right`, by its number. `held` has what each node gave at the latest instant. `parts` is
+// silent before; afterwards it has the held parts of these nodes. `spare` is room for one node's samples.
 fn run_each(
     scene: &Scene<'_>,
     nodes: &ClockNodes,
@@ -158,7 +159,8 @@ fn run_node(
 }
 
 // Makes `count` instants more of node i, which gave: its samples are made at the front of `own_left` and `own_right`.
-// `sums` is room.
+// They are made of those in `left` and `right` of the nodes before it, of which `parts` tells which gave. `sums` is
+// room for adding up a mix.
 fn make_samples(
     scene: &Scene<'_>,
     i: usize,
@@ -196,7 +198,8 @@ fn make_samples(
     );
 }
 
-// Whether node i has a lane, its list of samples of one side, with room for any stretch (instants made at once).
+// Whether the lane of node i, its list of samples of one side, has room for any stretch (instants made at once). It is
+// false for a node without a lane, whose list is empty.
 fn has_lane(lanes: &[Vec<i16>], i: usize) -> bool
     requires within { i < length lanes.now }
     ensures there { result ≡ true → HasLane lanes.now i }

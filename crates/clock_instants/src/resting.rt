@@ -70,8 +70,9 @@ pub fn rest_of(
     rest
 }
 
-// How many instants, at most `most`, node i goes on after the latest one, which was at `time` with `tick` instants left
-// of its tick, and at which it gave `held`. Its sub-clock goes on for `below` instants, under the title `below_title`.
+// How many instants, at most `most`, node i goes on after the latest one as it did then. That one was at `time`, with
+// `tick` instants left of its tick; `parts` has what each node offered, and `held` what node i gave. A crossfade's
+// sub-clock goes on for `below` instants, with cells of the title `below_title`.
 fn node_rest(
     scene: &Scene<'_>,
     parts: &[Part],
@@ -123,8 +124,9 @@ fn border(op: &Op, time: WeekTime, tick: u32, most: u32) -> u32
     }
 }
 
-// For how many instants after the one at `time` the predicates of a switch choose the same children; `most` if its
-// second lasts as long. The predicates are asked only if it ends before.
+// For how many instants after the one at `time` the predicates of a switch choose the same children. They change at
+// the start of a second only: where that of `time` lasts for `most` instants more, it is `most`, and the predicates
+// are not asked.
 fn steady_left(op: &Op, time: WeekTime, most: u32) -> u32
     ensures { MarksStay op.now time result }
 {
@@ -134,7 +136,8 @@ fn steady_left(op: &Op, time: WeekTime, most: u32) -> u32
     time.seconds_left(steady_seconds(op, time.second))
 }
 
-// Whether the child at `place` in a node's list of children offers the first cell of a track; without a place, no.
+// Whether the child at `place` in a node's list of children offers the first cell of a track. False where it offers
+// nothing, or where no place is given. `parts` has what each node offers, by its number.
 fn begins(parts: &[Part], children: &[u32], place: Option<u32>) -> bool
     ensures { result ≡ begins_at parts.now children.now place }
 {

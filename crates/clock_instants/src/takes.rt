@@ -44,7 +44,8 @@ pub fn begin_readers<T: Taps>(
     Ok(())
 }
 
-// Lets node i take chunks from its buffer, if it is a reader, at an instant that begins a tick.
+// Lets node i take chunks from its buffer, if it is a reader, at an instant that begins a tick; does nothing for other
+// nodes. `taps` gives chunks by the number of the buffer. Where memory is refused some of them may be taken.
 fn take_at<T: Taps>(
     scene: &Scene<'_>,
     i: usize,

@@ -10,13 +10,13 @@ ghost use Rattle.script_grammar.specs.Tree.{Script};
 ghost use Rattle.typing_rules.specs.Answers.{IsTyped, IsTypedScript};
 ghost use Rattle.typing_rules.specs.declared.uses.Use.{Use};
 
-/// A call of a builtin with arguments of the types of its row, and with its open kinds, gives a value of the type of
-/// its row or a fault that is told, and keeps the nodes that are there.
+/// A call of a builtin with arguments of the types of its row in the table of builtins, and with its open kinds (mono
+/// or stereo), gives a value of the type of its row or a fault that is told. It keeps the plan's nodes that are there.
 pub fn builtins_are_safe()
     ensures safe { BuiltinsAreSafe }
 {}
 
-/// The plan of a script is well formed, and each of its sources has a call that made it.
+/// The plan that a script's evaluation ends with is well formed, and each of its sources has a call that made it.
 pub fn plans_are_well_formed()
     ensures made { (script : Script) (uses : List Use) (plan : Plan) → evaluation script uses ≡ Ok plan
         → IsWellFormed plan }

@@ -16,6 +16,7 @@ use type_steps::{is_number, is_number_of_many, new_type, same};
 use type_terms::{Subst, Ty};
 
 /// The type of a sum, perhaps compared with another: the number of its type variable, or `None` where it has no type.
+/// `names` tells what the names in it mean; the list `uses` takes a use of each. It fails only where memory is refused.
 #[cycle(value)]
 pub fn type_compare(
     alloc: Global,
@@ -54,6 +55,7 @@ pub fn type_compare(
 
 /// Types the right side of a comparison and makes it equal to type variable `n`, the type of the left side; false
 /// where that cannot be.
+/// `names` tells what the names in it mean; the list `uses` takes a use of each. It fails only where memory is refused.
 #[cycle(value)]
 fn join_sum(
     alloc: Global,
@@ -82,6 +84,7 @@ fn join_sum(
 }
 
 /// The type of products joined by `+` and `-`: the number of its type variable, or `None` where there is no type.
+/// `names` tells what the names in it mean; the list `uses` takes a use of each. It fails only where memory is refused.
 #[cycle(value)]
 fn type_sum(
     alloc: Global,
@@ -113,6 +116,7 @@ fn type_sum(
 
 /// Types one term of a sum and makes it equal to type variable `n`, the type of the first term; false where that
 /// cannot be.
+/// `names` tells what the names in it mean; the list `uses` takes a use of each. It fails only where memory is refused.
 #[cycle(value)]
 fn join_added(
     alloc: Global,
@@ -142,6 +146,7 @@ fn join_added(
 
 /// Types the other terms of a sum and makes each equal to type variable `n`, the type of the first term; false where
 /// that cannot be.
+/// `names` tells what the names in it mean; the list `uses` takes a use of each. It fails only where memory is refused.
 #[cycle(value)]
 fn join_addends(
     alloc: Global,
@@ -170,6 +175,7 @@ fn join_addends(
 }
 
 /// The type of operands joined by `*` and `/`: the number of its type variable, or `None` where there is no type.
+/// `names` tells what the names in it mean; the list `uses` takes a use of each. It fails only where memory is refused.
 #[cycle(value)]
 fn type_product(
     alloc: Global,
@@ -201,6 +207,7 @@ fn type_product(
 
 /// Types one factor of a product and makes it equal to type variable `n`, the type of the first factor; false where
 /// that cannot be.
+/// `names` tells what the names in it mean; the list `uses` takes a use of each. It fails only where memory is refused.
 #[cycle(value)]
 fn join_multiplied(
     alloc: Global,
@@ -230,6 +237,7 @@ fn join_multiplied(
 
 /// Types the other factors of a product and makes each equal to type variable `n`, the type of the first factor; false
 /// where that cannot be.
+/// `names` tells what the names in it mean; the list `uses` takes a use of each. It fails only where memory is refused.
 #[cycle(value)]
 fn join_factors(
     alloc: Global,

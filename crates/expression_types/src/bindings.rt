@@ -29,8 +29,8 @@ impl Model for Bindings {
     ghost invariant = { λ b. (t : ℕ) → at_token t b.vars ≡ newest_number t b.all.items };
 }
 
-/// Notes in a table by tokens the type variable of a bound value, by the token of its name; of a def nothing. Where
-/// memory runs out nothing changes.
+/// Notes a bound value in the table `vars`: under the token of its name the type variable that is its type. A def has
+/// none, and is not noted. Where memory runs out nothing changes.
 fn note(vars: &mut TokenTable<u64>, known: Known) -> Result<(), Memory>
     ensures noted { OnOk result ((t : ℕ) → at_token t vars.new
         ≡ option_or (number_known t known) (at_token t vars.old)) }

@@ -30,8 +30,9 @@ pub struct Callee {
     pub result: u64,
 }
 
-/// Begins the typing of a call: takes an instance of the type of what is called, with new variables, and adds the use
-/// of its name, which stands at token `at`.
+/// Begins the typing of a call: makes an instance of the type of `called`, with new variables in place of its own, and
+/// answers the types of its parameters and of its result. To `uses` it adds the use of the called name, which stands
+/// at token `at` and means `target`.
 pub fn begin_call(
     alloc: Global,
     subst: &mut Subst,
@@ -50,7 +51,8 @@ pub fn begin_call(
     Ok(callee)
 }
 
-/// An instance of the type of what is called: its general type, with new variables in place of its own.
+/// An instance of the type of what is called: its general type, with new variables of `subst` in place of its own, so
+/// that each call may have types of its own.
 fn instance_of(alloc: Global, subst: &mut Subst, called: Called<'_>) -> Result<Instance, Memory>
     requires over { IsSchemeOver subst.old (called_scheme called) }
     ensures instance { IfOk result
@@ -65,8 +67,8 @@ fn instance_of(alloc: Global, subst: &mut Subst, called: Called<'_>) -> Result<I
     }
 }
 
-/// What a call needs of an instance of a type: the types of the parameters, a new type variable for the result, and
-/// the kinds that stand for the open ones.
+/// Takes an instance of a type apart for a call: the types of its parameters with a new type variable bound to its
+/// result, and beside them the kinds of sources (mono, stereo or a variable) that stand for the open ones.
 fn callee_of(
     alloc: Global,
     subst: &mut Subst,

@@ -82,6 +82,7 @@ fn argument_of<'s>(arg: &'s Arg, var: u64) -> Argument<'s>
 }
 
 /// Types the arguments of a call: their labels and the type variables of their values; `None` where one has no type.
+/// `names` tells what the names in it mean; the list `uses` takes a use of each. It fails only where memory is refused.
 #[cycle(value)]
 fn type_args<'s>(
     alloc: Global,
@@ -110,8 +111,9 @@ fn type_args<'s>(
     Ok(Some(given))
 }
 
-/// The type of a call of a builtin, or of a def by its general type, with these parameters: the number of its type
-/// variable, or `None` where the arguments do not fit the parameters. The uses in it are added.
+/// The type of a call of `called`, a builtin or a def by its general type, whose parameters are `params`: the number of
+/// its type variable. `None` where an argument has no type, or the arguments do not fit the parameters. To `uses` goes
+/// first the use of the call's name, which means `target`, and then those in the arguments, by what `names` tells.
 #[cycle(value)]
 fn apply(
     alloc: Global,

@@ -36,8 +36,8 @@ impl<'a> Model for Defs<'a> {
     ghost invariant = { λ d. ArePlaces d.places d.all.items };
 }
 
-/// Notes in a table by tokens at which index a def stands, by the token of its name, unless another def is noted
-/// there. Where memory runs out nothing changes.
+/// Notes that the def whose name stands at token `at` has index `place` among the defs. Where a def is noted at this
+/// token already, it stays, since a look-up finds the first. Where memory runs out nothing changes.
 fn note(places: &mut TokenTable<usize>, at: u32, place: usize) -> Result<(), Memory>
     ensures noted { OnOk result ((t : ℕ) → at_token t places.new
         ≡ option_or (at_token t places.old) (cond (nat_eq at t) (Some place) None)) }

@@ -72,7 +72,8 @@ pub struct Names<'n, 'a> {
     pub defs: &'n Defs<'a>,
 }
 
-/// The number of the type variable of the first binding whose name stands at token `at`; `None` if there is none.
+/// The number of the type variable of the first of these bindings whose name stands at token `at`; `None` if there is
+/// none.
 fn var_in(names: &[TypedName], at: u32) -> Option<u64>
     ensures { option_map variable result ≡ term_at at (types_seen names.now) }
 {
@@ -85,7 +86,7 @@ fn var_in(names: &[TypedName], at: u32) -> Option<u64>
 }
 
 impl<'n, 'a> Names<'n, 'a> {
-    /// What the name at token `at` means; `None` if it means nothing.
+    /// What the name at token `at` means: a binding, a def or a builtin; `None` if it means nothing.
     pub fn target(&self, at: u32) -> Option<Target>
         ensures { result ≡ (env_of self.now).targets at }
     {

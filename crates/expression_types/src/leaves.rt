@@ -21,7 +21,7 @@ pub fn some_if(yes: bool, n: u64) -> Option<u64>
     if yes { Some(n) } else { None }
 }
 
-/// The number of a new type variable that is bound to the type of a literal.
+/// The number of a new type variable that is bound to the type of a literal: int or decimal.
 pub fn literal_type(alloc: Global, subst: &mut Subst, literal: &Literal) -> Result<u64, Memory>
     ensures { IfOk result (λ n. Defines subst.old subst.new n (literal_term literal.now)) }
 {
@@ -31,8 +31,8 @@ pub fn literal_type(alloc: Global, subst: &mut Subst, literal: &Literal) -> Resu
     }
 }
 
-/// Adds the use of a name that stands at token `at` to the list of uses: what it means, and the kinds that its open
-/// kinds have there.
+/// Adds the use of a name that stands at token `at` to the list of uses: what it means (`target`), and the kinds of
+/// sources (mono, stereo or a variable) that its open kinds have there. Where memory runs out nothing is added.
 pub fn push_use(
     uses: &mut Vec<FoundUse>,
     at: u32,
@@ -47,7 +47,8 @@ pub fn push_use(
 }
 
 /// The type of a name outside a call, which stands at token `at`: the number of its binding's type variable; `None`
-/// where the name means no binding. Its use is added.
+/// where `names` tells of no binding for that token. Its use is added to `uses`; it has no open kinds. Only the
+/// contract reads `name`.
 pub fn type_name(
     alloc: Global,
     subst: &mut Subst,

@@ -50,6 +50,7 @@ pub fn type_expr(
 
 /// Types one part of an `or` and makes it equal to type variable `n`, the type of the first part; false where that
 /// cannot be.
+/// `names` tells what the names in it mean; the list `uses` takes a use of each. It fails only where memory is refused.
 #[cycle(value)]
 fn join_and(
     alloc: Global,
@@ -79,6 +80,7 @@ fn join_and(
 
 /// Types the other parts of an `or` and makes each equal to type variable `n`, the type of the first part; false where
 /// that cannot be.
+/// `names` tells what the names in it mean; the list `uses` takes a use of each. It fails only where memory is refused.
 #[cycle(value)]
 fn join_ands(
     alloc: Global,
@@ -107,6 +109,7 @@ fn join_ands(
 }
 
 /// The type of parts joined by `and`: the number of its type variable, or `None` where the parts have no type.
+/// `names` tells what the names in it mean; the list `uses` takes a use of each. It fails only where memory is refused.
 #[cycle(value)]
 fn type_and(
     alloc: Global,
@@ -138,6 +141,7 @@ fn type_and(
 
 /// Types one part of an `and` and makes it equal to type variable `n`, the type of the first part; false where that
 /// cannot be.
+/// `names` tells what the names in it mean; the list `uses` takes a use of each. It fails only where memory is refused.
 #[cycle(value)]
 fn join_not(
     alloc: Global,
@@ -167,6 +171,7 @@ fn join_not(
 
 /// Types the other parts of an `and` and makes each equal to type variable `n`, the type of the first part; false
 /// where that cannot be.
+/// `names` tells what the names in it mean; the list `uses` takes a use of each. It fails only where memory is refused.
 #[cycle(value)]
 fn join_nots(
     alloc: Global,
@@ -195,6 +200,7 @@ fn join_nots(
 }
 
 /// The type of a comparison, perhaps behind `not`: the number of its type variable, or `None` where there is no type.
+/// `names` tells what the names in it mean; the list `uses` takes a use of each. It fails only where memory is refused.
 #[cycle(value)]
 fn type_not(
     alloc: Global,

@@ -9,7 +9,8 @@ use name_scope::Resolved;
 use std::alloc::Global;
 use typing_rules::Target;
 
-/// A table of what names mean, by their tokens. Where two names stand at one token the first one counts.
+/// A table of what names mean, by their tokens. Where two names stand at one token the first one counts: the table is
+/// filled from the last name on, and an earlier one overwrites a later one.
 pub fn target_table(alloc: Global, names: &[Resolved]) -> Result<TokenTable<Target>, Memory>
     ensures { IfOk result (λ m. targets_of m ≡ target_in (map resolved names.now)) }
 {

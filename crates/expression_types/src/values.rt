@@ -49,6 +49,7 @@ pub fn type_full(
 }
 
 /// The type of an operand: the number of its type variable, or `None` where it has no type.
+/// `names` tells what the names in it mean; the list `uses` takes a use of each. It fails only where memory is refused.
 #[cycle(value)]
 pub fn type_operand(
     alloc: Global,
@@ -137,6 +138,7 @@ pub fn type_choice(
 }
 
 /// Types a value and makes its type equal to type variable `n`; false where that cannot be.
+/// `names` tells what the names in it mean; the list `uses` takes a use of each. It fails only where memory is refused.
 #[cycle(value)]
 fn join_full(
     alloc: Global,
@@ -165,6 +167,7 @@ fn join_full(
 }
 
 /// Types these values and makes the type of each equal to type variable `n`; false where that cannot be.
+/// `names` tells what the names in it mean; the list `uses` takes a use of each. It fails only where memory is refused.
 #[cycle(value)]
 fn join_fulls(
     alloc: Global,
@@ -192,8 +195,9 @@ fn join_fulls(
     Ok(true)
 }
 
-/// The type of a list, whose `[` is token `at`: the number of its type variable, or `None` where its items have no type
-/// in common.
+/// The type of a list, whose `[` is token `at` (only the contract reads it): the number of its type variable, or `None`
+/// where its items have no type in common.
+/// `names` tells what the names in it mean; the list `uses` takes a use of each. It fails only where memory is refused.
 #[cycle(value)]
 fn type_list(
     alloc: Global,
@@ -221,6 +225,7 @@ fn type_list(
 }
 
 /// The types of values, the parts of a tuple: the number of a type variable for each; `None` where one has no type.
+/// `names` tells what the names in it mean; the list `uses` takes a use of each. It fails only where memory is refused.
 #[cycle(value)]
 fn type_fulls(
     alloc: Global,
@@ -247,8 +252,9 @@ fn type_fulls(
     Ok(Some(vars))
 }
 
-/// The type of values in parentheses, which open at token `at`: the number of its type variable, or `None` where one
-/// has no type. One value alone makes no tuple.
+/// The type of values in parentheses, which open at token `at` (only the contract reads it): the number of its type
+/// variable, or `None` where one has no type. No value is a unit, and one value alone makes no tuple.
+/// `names` tells what the names in it mean; the list `uses` takes a use of each. It fails only where memory is refused.
 #[cycle(value)]
 fn type_tuple(
     alloc: Global,

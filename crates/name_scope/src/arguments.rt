@@ -85,7 +85,8 @@ pub fn is_label(wanted: Option<&str>, label: Option<&str>) -> bool
 }
 
 /// Whether no argument has a label, and there is just one for each parameter that is given in its place, and none must
-/// be given by its label: then no argument is missing, and none is left over.
+/// be given by its label: then no argument is missing, and none is left over. It takes no memory; false says only that
+/// the arguments have to be matched one by one.
 pub(crate) fn are_filled(params: &[Parameter<'_>], args: &[Arg]) -> bool
     ensures missing { result ≡ true
         → first_missing (map seen_parameter params.now) (tokens_given (listed (map view_arg args.now))) ≡ None }
@@ -101,7 +102,8 @@ pub(crate) fn are_filled(params: &[Parameter<'_>], args: &[Arg]) -> bool
     }
 }
 
-/// Takes out each argument that a parameter takes, and answers the first parameter that must have one and finds none.
+/// Takes each argument that a parameter takes out of `given`, in the order of the parameters. Answers the name of the
+/// first parameter that must have an argument and finds none; `None` where there is no such parameter.
 pub(crate) fn match_arguments<'a>(
     params: &[Parameter<'a>],
     given: &mut Untaken<'_>,
@@ -133,8 +135,8 @@ pub(crate) fn labels_of<'a>(
     Ok(labels)
 }
 
-/// Takes out each argument that a parameter takes, by a table of the labels, and answers the first parameter that must
-/// have one and finds none.
+/// Takes out each argument that a parameter takes, by a table of the labels of a call's arguments. Answers the name of
+/// the first parameter that must have an argument and finds none, or `None`; it fails only where memory is refused.
 pub(crate) fn match_labels<'a>(
     params: &[Parameter<'a>],
     labels: &mut Labels<'_>,
@@ -151,8 +153,8 @@ pub(crate) fn match_labels<'a>(
     Ok(missing)
 }
 
-/// Takes the first untaken argument with this label out of the table, or the first without one, and answers whether
-/// there was any.
+/// Takes the first untaken argument with this label out of the table of a call's labels; for `None` the first without
+/// a label. True where there was any.
 fn takes(labels: &mut Labels<'_>, label: Option<&str>) -> Result<bool, Memory>
     ensures taken { IfOk result (λ yes. yes ≡ is_some (argument (seen_label label.entry) (left_of labels.old))) }
     ensures others { OnOk result (left_of labels.new
@@ -186,8 +188,8 @@ fn has_label(args: &[Arg]) -> bool
     false
 }
 
-/// How many of `count` arguments without labels are left behind these parameters; `None` where one of them needs
-/// another.
+/// How many of `count` arguments without labels are left once these parameters took theirs. `None` where one of them
+/// finds none, or needs one with a label.
 fn left_behind(params: &[Parameter<'_>], count: usize) -> Option<usize>
     ensures same { result ≡ the_left_behind (map seen_parameter params.now) (Some count) }
 {
@@ -198,8 +200,8 @@ fn left_behind(params: &[Parameter<'_>], count: usize) -> Option<usize>
     left
 }
 
-/// How many of so many arguments without labels are left behind a parameter of this form; `None` where it needs
-/// another.
+/// How many of `count` arguments without labels are left once a parameter of this form took its own. `None` where
+/// `count` is, where it finds none, or where it needs one with a label; one with a default takes none.
 fn left_by(form: Form, count: Option<usize>) -> Option<usize>
     ensures same { result ≡ the_left_by form count }
 {
@@ -219,8 +221,8 @@ fn one_less(count: usize) -> Option<usize>
     if count == 0 { None } else { Some(count - 1) }
 }
 
-/// Takes the first argument with this label out of the list, or the first without one, and answers whether there was
-/// any.
+/// Takes the first argument with this label out of the list of those not taken yet; for `None` the first without a
+/// label. True where there was any.
 fn take_argument(given: &mut Untaken<'_>, label: Option<&str>) -> bool
     ensures taken { result ≡ is_some (argument (seen_label label.entry) (map seen_given given.old.items)) }
     ensures others { map seen_given given.new.items
@@ -236,8 +238,8 @@ fn take_argument(given: &mut Untaken<'_>, label: Option<&str>) -> bool
     false
 }
 
-/// The first parameter of a call that finds no argument: the one known from before, or else `param` if it must have an
-/// argument and took none.
+/// The name of the first parameter of a call that lacks its argument: the one known from before (`missing`), or else
+/// that of `param` if it must have an argument and `taken` says that it took none.
 fn missing_or<'a>(missing: Option<&'a str>, param: Parameter<'a>, taken: bool) -> Option<&'a str>
     ensures same { seen_label result ≡ missing_with (seen_label missing.entry) (seen_parameter param.entry) taken }
 {

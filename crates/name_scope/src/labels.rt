@@ -77,7 +77,8 @@ impl<'a> Labels<'a> {
         flag_at(&self.taken, place)
     }
 
-    /// Takes out the first argument with this label, or the first without one, and answers its place.
+    /// Takes out the first argument left with this label, or for `None` the first without one, and answers its place;
+    /// `None` where there is none.
     ///
     /// Where memory runs out none is taken.
     pub fn take(&mut self, label: Option<&str>) -> Result<Option<usize>, Memory>
@@ -112,7 +113,8 @@ fn flag_at(flags: &[bool], place: usize) -> bool
     flags[place]
 }
 
-/// The place of the next argument with the same label, for the argument at `place`, by the list of these.
+/// The place of the next argument with the label of the one at `place`; `None` where that is the last. `places` has it
+/// for each argument.
 fn place_at(places: &[Option<usize>], place: usize) -> Option<usize>
     requires inside { place < length places.now }
     ensures at { result ≡ next_at places.now place }
@@ -120,7 +122,8 @@ fn place_at(places: &[Option<usize>], place: usize) -> Option<usize>
     places[place]
 }
 
-/// The place of the first argument that is left with this label, or of the first without one, by the tables.
+/// The place of the first argument that is left with this label, by the table `named`; for `None` `plain`, that of the
+/// first without a label. `None` where there is none.
 fn head(
     label: Option<&str>,
     named: &IndexMap<&str, Option<usize>>,
@@ -137,7 +140,8 @@ fn head(
     }
 }
 
-/// Writes the place `head` of the first argument with this label, or of the first without one, into the tables.
+/// Notes that the first argument left with this label stands at the place `head`, or that there is none: in the table
+/// `named`, or for an argument without a label in `plain`.
 fn set_head<'a>(
     label: Option<&'a str>,
     named: &mut IndexMap<&'a str, Option<usize>>,
@@ -162,8 +166,8 @@ fn set_head<'a>(
     }
 }
 
-/// Fills the tables for these labels, from the last argument on: for each argument the next one with its label, and
-/// for each label the first one.
+/// Fills the tables for the labels of a call's arguments, from the last one on: `next` tells for each argument the next
+/// one with its label, `named` for each label the first one, and `plain` the first one without a label.
 fn link_all<'a>(
     labels: &[Option<&'a str>],
     next: &mut [Option<usize>],

@@ -66,7 +66,8 @@ fn number(fault: &NameFault) -> u32
     }
 }
 
-/// Whether the first fault is told before the second: by the token, then by the number.
+/// Whether the first fault is told rather than the second: by its token, and at one token by the rank of its sort.
+/// True also where both are equal, so that the one known so far is kept.
 fn is_before(first: &NameFault, second: &NameFault) -> bool
     ensures same { result ≡ is_told_before first.now second.now }
 {
@@ -159,7 +160,8 @@ impl Notes {
     }
 
     // Checks the arguments of the call at token `at`, given by their labels and tokens, against these parameters, and
-    // notes the faults. Those that a parameter takes may be taken out.
+    // notes the faults. Few arguments are taken out of `given` as parameters take them; many are looked up in a table,
+    // which spares a walk through the list for each parameter, and `given` stays as it is.
     fn add_unmatched(
         &mut self,
         alloc: Global,
@@ -219,7 +221,8 @@ impl Notes {
         Ok(())
     }
 
-    // Notes a fault for each argument that no parameter took, by the table of their labels.
+    // Notes a fault for each argument that no parameter took. `labels` tells by its place in the call which are taken,
+    // and `given` at which token it stands.
     fn add_left(&mut self, labels: &Labels<'_>, given: &[Given<'_>])
         ensures fault { self.new.fault
             ≡ all_sooner self.old.fault (map (λ g. Extra (token_at given.now g.1)) (left_of labels.now)) }
@@ -240,7 +243,8 @@ impl Notes {
         }
     }
 
-    /// Notes that the call at token `at` lacks this argument, if it lacks one.
+    /// Notes that the call at token `at` lacks an argument, if it does: `missing` is the name of the parameter that
+    /// finds none, or `None`.
     fn add_missing(&mut self, alloc: Global, at: u32, missing: Option<&str>) -> Result<(), Memory>
         ensures fault { OnOk result (self.new.fault
             ≡ all_sooner self.old.fault (missing_at at (seen_label missing.entry))) }
@@ -311,8 +315,8 @@ impl Notes {
         self.add_repeats_behind(params, &mut earlier)
     }
 
-    // Notes a fault for each parameter that repeats the name of an earlier one; `earlier` takes their names, and none
-    // stands in it at first.
+    // Notes a fault for each parameter that repeats the name of an earlier one. `earlier` takes their names, and none
+    // stands in it at first; only whether a name stands there is asked, not what it is bound to.
     fn add_repeats_behind<'a>(
         &mut self,
         params: &'a [Param],
@@ -331,8 +335,8 @@ impl Notes {
         Ok(())
     }
 
-    /// Notes the name at token `at`, which stands outside a call: the binding that it means in these scopes, or that
-    /// it is unknown.
+    /// Notes the name at token `at`, which is used as a value: the token of the binding that it means in these scopes,
+    /// or that it is unknown. The name of a def is unknown here, since a def can only be called.
     pub fn add_value(&mut self, scopes: Scopes<'_, '_>, at: u32, name: &Text) -> Result<(), Memory>
         ensures added { OnOk result (noted self.new ≡ with_name (noted self.old) (record {
           at = at;
@@ -350,7 +354,7 @@ impl Notes {
     }
 
     /// Notes the name of the call at token `at`: the def or builtin that it means, and the faults of its arguments; or
-    /// that it is unknown.
+    /// that it is unknown. The name of a value is unknown here, since a value cannot be called, and it hides a builtin.
     pub fn add_call(
         &mut self,
         alloc: Global,

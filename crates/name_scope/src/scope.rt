@@ -63,7 +63,7 @@ impl<'a> Scope<'a> {
         Ok(())
     }
 
-    /// What a name is bound to by the newest binding of it.
+    /// What a name is bound to by the newest binding of it; `None` where it is not bound in this scope.
     pub fn find(&self, name: &str) -> Option<&Bound<'a>>
         ensures found { option_map (λ b. seen_bound b.now) result ≡ the_bound name.now (in_scope self.now) }
     {
@@ -89,7 +89,7 @@ impl<'s, 'a> Scopes<'s, 'a> {
     ghost use Rattle.typing_rules.specs.Scoping.{bound as the_bound};
     ghost use Rattle.name_scope.specs.Seen.{seen_bound, both_scopes};
 
-    /// What a name is bound to by the newest binding of it.
+    /// What a name is bound to in the inner scope, or else in the outer one; `None` where neither binds it.
     pub fn find(&self, name: &str) -> Option<&'s Bound<'a>>
         ensures found { option_map (λ b. seen_bound b.now) result ≡ the_bound name.now (both_scopes self.now) }
     {

@@ -59,7 +59,8 @@ fn in_statement(number: u32, fault: NameFault) -> TypeFault
     }
 }
 
-/// Refuses statement `number` for the fault that was noted, if there is one.
+/// Refuses statement `number` for the fault that was noted, if there is one. The fault is taken out of `notes`, since
+/// its label is handed on.
 fn check_fault(notes: &mut Notes, number: u32) -> Result<(), TypeFault>
     ensures kept { OnOk result (found_in notes.new ≡ found_in notes.old) }
     ensures faultless { OnOk result (notes.old.fault ≡ None) }
@@ -72,7 +73,8 @@ fn check_fault(notes: &mut Notes, number: u32) -> Result<(), TypeFault>
     }
 }
 
-/// Adds to `notes` what each name in one statement more stands for; want of memory is a fault of the script.
+/// Adds to `notes` what each name in one statement more stands for, or the fault that is told of it. It refuses only
+/// for want of memory, as the fault `Memory`.
 fn note_or_refuse<'a>(
     alloc: Global,
     scope: &mut Scope<'a>,

@@ -33,8 +33,8 @@ pub fn note_def<'a>(
     note_def_in(alloc, outer, &mut inner, notes, def)
 }
 
-/// Adds to `notes` what each name in a def's text stands for, or its fault. `inner` has no names at first, and takes
-/// those of the def's parameters and inner bindings.
+/// Adds to `notes` what each name in a def's text stands for, or its fault. `inner` has no names at first, so that
+/// the defaults of parameters see those of `outer` alone; then it takes those of the parameters and inner bindings.
 fn note_def_in<'a>(
     alloc: Global,
     outer: &Scope<'a>,
@@ -79,7 +79,8 @@ pub(crate) fn note_statement<'a>(
     Ok(())
 }
 
-/// Adds to `notes` what each name in the default of a parameter stands for, if it has one.
+/// Adds to `notes` what each name in the default of a parameter stands for, or its fault. Only an optional parameter
+/// has a default.
 fn note_default(
     alloc: Global,
     scopes: Scopes<'_, '_>,
@@ -96,7 +97,8 @@ fn note_default(
     }
 }
 
-/// Adds to `notes` what each name in the defaults of these parameters stands for.
+/// Adds to `notes` what each name in the defaults of these parameters stands for in `scopes`, or its fault. No default
+/// sees another parameter: their names are bound later.
 fn note_defaults(
     alloc: Global,
     scopes: Scopes<'_, '_>,
@@ -152,7 +154,8 @@ fn note_inners<'a>(
     Ok(())
 }
 
-/// Adds to `notes` what each name in a def's inner bindings and result stands for, where its parameters are bound.
+/// Binds a def's parameters in `inner`, and adds to `notes` what each name in its inner bindings and its result stands
+/// for, or its fault. A name that is not in `inner` is looked up in `outer`.
 fn note_body<'a>(
     alloc: Global,
     outer: &Scope<'a>,
@@ -179,7 +182,8 @@ fn note_body<'a>(
     Ok(())
 }
 
-/// Adds to `notes` what each name in a value outside defs stands for.
+/// Adds to `notes` what each name in a value outside defs stands for, or its fault. No inner scope is there, so an
+/// empty one is made.
 fn note_value_part(
     alloc: Global,
     scope: &Scope<'_>,
@@ -202,7 +206,8 @@ fn note_value_part(
     Ok(())
 }
 
-/// Adds to `notes` what each name in the value of a binding stands for, and then the bound name to the scope.
+/// Adds to `notes` what each name in the value of a binding stands for, or its fault, and then the bound name to the
+/// scope. The value sees only what was bound before, perhaps an older binding of the same name.
 fn note_bind_part<'a>(
     alloc: Global,
     scope: &mut Scope<'a>,
@@ -219,7 +224,7 @@ fn note_bind_part<'a>(
 }
 
 /// Adds to `notes` the faults of a def's repeated parameters and what each name in its text stands for, and then the
-/// def's name to the scope.
+/// def's name to the scope: behind its text, so that a def cannot call itself.
 fn note_def_part<'a>(
     alloc: Global,
     scope: &mut Scope<'a>,
@@ -243,7 +248,7 @@ fn note_def_part<'a>(
     Ok(())
 }
 
-/// Adds to `notes` what each name in a statement that is a call stands for.
+/// Adds to `notes` what each name in a statement that is a call stands for, or its fault. It binds no name.
 fn note_call_part(
     alloc: Global,
     scope: &Scope<'_>,
@@ -266,7 +271,7 @@ fn note_call_part(
     Ok(())
 }
 
-/// Adds to `notes` what each name in a statement that is an `if` stands for.
+/// Adds to `notes` what each name in a statement that is an `if` stands for, or its fault. It binds no name.
 fn note_if_part(
     alloc: Global,
     scope: &Scope<'_>,
@@ -289,8 +294,8 @@ fn note_if_part(
     Ok(())
 }
 
-/// Adds to `notes` what each name in a statement stands for, by which of the four sorts it is, and the name that it
-/// binds to the scope.
+/// Adds to `notes` what each name in a statement stands for, or its fault, by which of the four sorts it is. The name
+/// that a binding or a def binds is added to the scope. Only the contract reads `_semicolon`, whether a `;` is there.
 fn note_part<'a>(
     alloc: Global,
     scope: &mut Scope<'a>,

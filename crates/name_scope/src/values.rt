@@ -84,7 +84,8 @@ pub fn note_choice(
     Ok(())
 }
 
-// Adds to `notes` what each name in parts joined by `or` stands for, or its fault.
+// Adds to `notes` what each name in the parts behind an `or` stands for, or its fault.
+// A name is looked up in `scopes`, the inner one first. It fails only where memory is refused.
 #[cycle(value)]
 fn note_ands(
     alloc: Global,
@@ -102,6 +103,7 @@ fn note_ands(
 }
 
 // Adds to `notes` what each name in parts joined by `and` stands for, or its fault.
+// A name is looked up in `scopes`, the inner one first. It fails only where memory is refused.
 #[cycle(value)]
 fn note_and(
     alloc: Global,
@@ -118,6 +120,7 @@ fn note_and(
 }
 
 // Adds to `notes` what each name in the parts behind an `and` stands for, or its fault.
+// A name is looked up in `scopes`, the inner one first. It fails only where memory is refused.
 #[cycle(value)]
 fn note_nots(
     alloc: Global,
@@ -135,6 +138,7 @@ fn note_nots(
 }
 
 // Adds to `notes` what each name in a comparison, perhaps behind `not`, stands for, or its fault.
+// A name is looked up in `scopes`, the inner one first. It fails only where memory is refused.
 #[cycle(value)]
 fn note_not(
     alloc: Global,
@@ -149,6 +153,7 @@ fn note_not(
 }
 
 // Adds to `notes` what each name in a sum, and in the one that it is compared with, stands for, or its fault.
+// A name is looked up in `scopes`, the inner one first. It fails only where memory is refused.
 #[cycle(value)]
 fn note_compare(
     alloc: Global,
@@ -170,6 +175,7 @@ fn note_compare(
 }
 
 // Adds to `notes` what each name in products joined by `+` and `-` stands for, or its fault.
+// A name is looked up in `scopes`, the inner one first. It fails only where memory is refused.
 #[cycle(value)]
 fn note_sum(
     alloc: Global,
@@ -186,6 +192,7 @@ fn note_sum(
 }
 
 // Adds to `notes` what each name in the products behind a `+` or `-` stands for, or its fault.
+// A name is looked up in `scopes`, the inner one first. It fails only where memory is refused.
 #[cycle(value)]
 fn note_addends(
     alloc: Global,
@@ -203,6 +210,7 @@ fn note_addends(
 }
 
 // Adds to `notes` what each name in a product behind a `+` or `-` stands for, or its fault.
+// A name is looked up in `scopes`, the inner one first. It fails only where memory is refused.
 #[cycle(value)]
 fn note_added(
     alloc: Global,
@@ -217,6 +225,7 @@ fn note_added(
 }
 
 // Adds to `notes` what each name in operands joined by `*` and `/` stands for, or its fault.
+// A name is looked up in `scopes`, the inner one first. It fails only where memory is refused.
 #[cycle(value)]
 fn note_product(
     alloc: Global,
@@ -233,6 +242,7 @@ fn note_product(
 }
 
 // Adds to `notes` what each name in the operands behind a `*` or `/` stands for, or its fault.
+// A name is looked up in `scopes`, the inner one first. It fails only where memory is refused.
 #[cycle(value)]
 fn note_factors(
     alloc: Global,
@@ -250,6 +260,7 @@ fn note_factors(
 }
 
 // Adds to `notes` what each name in an operand behind a `*` or `/` stands for, or its fault.
+// A name is looked up in `scopes`, the inner one first. It fails only where memory is refused.
 #[cycle(value)]
 fn note_multiplied(
     alloc: Global,
@@ -263,7 +274,9 @@ fn note_multiplied(
     note_operand(alloc, scopes, notes, &multiplied.operand)
 }
 
-// Adds to `notes` what each name in an operand stands for, or its fault.
+// Adds to `notes` what each name in an operand stands for, or its fault. Literals, a `{..}` predicate, `()` and
+// `%wav` have no names of the script.
+// A name is looked up in `scopes`, the inner one first. It fails only where memory is refused.
 #[cycle(value)]
 fn note_operand(
     alloc: Global,
@@ -291,6 +304,7 @@ fn note_operand(
 }
 
 // Adds to `notes` what each name in these values, one after another, stands for, or its fault.
+// A name is looked up in `scopes`, the inner one first. It fails only where memory is refused.
 #[cycle(value)]
 fn note_fulls(
     alloc: Global,
@@ -308,6 +322,7 @@ fn note_fulls(
 }
 
 // Adds to `notes` what each name in the arguments of a call stands for, or its fault.
+// A name is looked up in `scopes`, the inner one first. It fails only where memory is refused.
 #[cycle(value)]
 fn note_args(
     alloc: Global,
@@ -325,6 +340,7 @@ fn note_args(
 }
 
 // Adds to `notes` what each name in the value of an argument stands for, or its fault.
+// A name is looked up in `scopes`, the inner one first. It fails only where memory is refused.
 #[cycle(value)]
 fn note_arg(
     alloc: Global,

@@ -67,7 +67,8 @@ pub enum Failing {
     Report(u64, u64),
 }
 
-/// Tells the shelf, files in memory, which of its calls is to fail; the sink of a report is made so by itself.
+/// Tells the shelf, files in memory, which of its calls is to fail. Where the report is to fail nothing is told: its
+/// sink is no file of the shelf, and `failing_sink` makes it.
 pub fn let_fail(shelf: &mut MemShelf, failing: Failing) -> Result<(), Fail> {
     match failing {
         Failing::Read(call) => shelf.fail_read(call)?,
@@ -104,7 +105,8 @@ pub fn words_of(alloc: Global, line: &str) -> Result<Vec<String>, Fail> {
     Ok(words)
 }
 
-/// Runs the program on the words of a command line, over this shelf and these sinks, and gives its status.
+/// Runs the program on the words of a command line, over this shelf of files, and gives its status. `out` takes the
+/// report, `err` the error line, and clocks enter `gate` before each tick.
 pub fn call<R: Threads + Wait + Sync, G: Gate + Sync>(
     rt: &R,
     alloc: Global,
@@ -118,7 +120,8 @@ pub fn call<R: Threads + Wait + Sync, G: Gate + Sync>(
     Ok(liq(rt, alloc, &words, shelf, out, err, gate))
 }
 
-/// Runs the program on the words of a command line, and gives its status and how many bytes it told on `err`.
+/// Runs the program on the words of a command line, over this shelf of files, and gives its status and how many bytes
+/// its error line has. `out` takes the report, and clocks enter `gate` before each tick.
 pub fn call_told<R: Threads + Wait + Sync, G: Gate + Sync>(
     rt: &R,
     alloc: Global,

@@ -174,7 +174,8 @@ fn check<R: Abort + Threads + Wait + Sync>(
     check_over(rt, alloc, run, failing, ending, true)
 }
 
-// Lets each of the two reads of a call fail, and checks that nothing is written and the status is 3.
+// Lets each of the two reads of a call fail, that of the script and that of the audio file, and checks that nothing
+// is written and the status is 3. `run` is a script and the words.
 fn check_reads<R: Abort + Threads + Wait + Sync>(
     rt: &R,
     alloc: Global,
@@ -211,8 +212,8 @@ fn check_reports<R: Abort + Threads + Wait + Sync>(
     Ok(())
 }
 
-// Lets a call of a device fail that never comes, since there are no more, and checks that all goes well. `told` is
-// how long the report is.
+// Lets a call of a device fail that never comes, since there are no more, and checks that all goes well. `run` is a
+// script and the words, `second` what is left of the second output, and `told` how long the report is.
 fn check_no_more<R: Abort + Threads + Wait + Sync>(
     rt: &R,
     alloc: Global,
@@ -230,8 +231,8 @@ fn check_no_more<R: Abort + Threads + Wait + Sync>(
     check(rt, alloc, run, failing, ending)
 }
 
-// Lets a piece of the one output, of `size` bytes, break off at each byte, and checks what is left: `before` bytes
-// are written before it.
+// Lets piece number `call` of the one output, of `size` bytes, break off at each byte, in a rendering by the words
+// `line`. Checks what is left: the `before` bytes written before it, and those of the piece that went through.
 fn check_one_piece<R: Abort + Threads + Wait + Sync>(
     rt: &R,
     alloc: Global,
@@ -249,7 +250,8 @@ fn check_one_piece<R: Abort + Threads + Wait + Sync>(
     Ok(())
 }
 
-// Lets each call of the devices of one output fail in turn, and checks the end of the rendering.
+// Lets each call of the devices of one output fail in turn, and checks the end of the rendering by the words `line`. A
+// call behind the last one never comes, so that all goes well.
 fn check_one<R: Abort + Threads + Wait + Sync>(
     rt: &R,
     alloc: Global,
@@ -306,8 +308,8 @@ fn check_piece_of_two<R: Abort + Threads + Wait + Sync>(
     Ok(())
 }
 
-// Two outputs: each call but those for ticks. An output whose turn has not come is not created; each that was created
-// is closed.
+// Lets each call of the devices of two outputs fail in turn, but those that write ticks, and checks the end. An output
+// whose turn has not come is not created; each that was created is closed. `run` is a script and the words.
 fn check_two<R: Abort + Threads + Wait + Sync>(
     rt: &R,
     alloc: Global,
@@ -331,7 +333,8 @@ fn check_two<R: Abort + Threads + Wait + Sync>(
     check_no_more(rt, alloc, run, Failing::Closing(2), whole(), 54)
 }
 
-// Ticks of two outputs in one clock: the first output gets its piece before the second one.
+// Lets each piece of a tick of two outputs in one clock fail in turn, by the words `line`, and checks what is left. The
+// first output gets its piece before the second one.
 fn check_shared_ticks<R: Abort + Threads + Wait + Sync>(
     rt: &R,
     alloc: Global,
@@ -359,7 +362,8 @@ fn each_call_of_two_outputs_fails(rt: HostRuntime) -> Result<(), Fail> {
 }
 
 // Each tick of two outputs in two clocks: what is left of the other output where a piece of the first one breaks off in
-// its tick 0 and in its tick 1, and where one of the second does.
+// its tick 0 and in its tick 1, and where one of the second does. `others` has these four numbers of bytes in this
+// order.
 fn check_apart_ticks<R: Abort + Threads + Wait + Sync>(
     rt: &R,
     alloc: Global,
@@ -385,7 +389,8 @@ fn the_other_clock_ends_its_window(rt: HostRuntime) -> Result<(), Fail> {
     check_apart_ticks(&rt, alloc, "render f 2 --one-thread", (44, 76, 76, 108))
 }
 
-// Ten ticks in windows of two: the output of clock `b` fails at its tick 2, after so many bytes, and no window follows.
+// Renders ten ticks in windows of two, where the output of clock `b` fails at its tick 2, after `taken` bytes. Checks
+// that the other clock ends that window of ticks, and that no window follows.
 fn check_third_append<R: Abort + Threads + Wait + Sync>(
     rt: &R,
     alloc: Global,
@@ -414,7 +419,8 @@ fn one_clock_stops_and_the_other_ends_its_window(rt: HostRuntime) -> Result<(), 
     Ok(())
 }
 
-// Runs a call whose error line breaks off after `taken` bytes, and checks that these are told and no file is changed.
+// Runs a call of the words `line` whose error line, `told`, breaks off after `taken` bytes. Checks that these bytes
+// are told, that the status is 4, that of a failed write, and that no file is changed.
 fn check_front<R: Abort + Threads + Wait + Sync>(
     rt: &R,
     alloc: Global,
@@ -432,7 +438,8 @@ fn check_front<R: Abort + Threads + Wait + Sync>(
     Ok(())
 }
 
-// Runs a call of these words with its error line `told` breaking off at each byte.
+// Runs a call of the words `line` again and again, with its error line `told` breaking off at each byte, and checks
+// its end each time.
 fn check_line<R: Abort + Threads + Wait + Sync>(
     rt: &R,
     alloc: Global,

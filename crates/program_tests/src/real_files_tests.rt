@@ -17,7 +17,8 @@ struct Device {
 }
 
 impl Device {
-    // A device with these bytes written so far, which fails once `left` bytes more went through.
+    // A device with these bytes written so far, which fails once `left` bytes more went through: with an error, or
+    // where `takes_nothing` by taking and giving no more.
     fn new(bytes: Vec<u8>, left: usize, takes_nothing: bool) -> Device {
         Device {
             bytes,
@@ -27,7 +28,9 @@ impl Device {
         }
     }
 
-    // One call of the device, for `length` bytes: how many of them go through; every second call is interrupted.
+    // One call of the device, for `length` bytes: how many of them go through, at most three and no more than are left.
+    // Every second call, from the first on, is interrupted. With none left it fails, or where it `takes_nothing` lets 0
+    // bytes through.
     fn turn(&mut self, length: usize) -> io::Result<usize> {
         self.interrupted = !self.interrupted;
         if self.interrupted {

@@ -6,7 +6,8 @@ use std::thread;
 use std::thread::Threads;
 use step_gate::StepGate;
 
-// Lets a clock enter the gate for so many ticks, and returns how many these were.
+// Lets a clock enter the gate for so many ticks, and returns how many these were, once the gate has let it through
+// each time.
 fn pass<G: Gate>(gate: &G, clock: u32, ticks: u64) -> u64 {
     for tick in 0..ticks {
         gate.enter(clock, tick);
@@ -18,7 +19,8 @@ fn pass<G: Gate>(gate: &G, clock: u32, ticks: u64) -> u64 {
 /// and ones of which the gate keeps no count.
 const JOINED: &[(u32, u32, &[u32])] = &[(0, 1, &[2]), (0, 1, &[1]), (64, 0, &[0, 64, u32::MAX])];
 
-// Lets each of these clocks make 1000 ticks at a gate that joins two clocks, and checks that it comes to its end.
+// Lets each of `clocks` in turn make 1000 ticks at a gate that joins the clocks `first` and `second`, and checks that
+// it comes to its end.
 fn check<R: Abort + Wait>(rt: &R, first: u32, second: u32, clocks: &[u32]) {
     let gate = StepGate::new(rt);
     gate.join(first, second);
@@ -49,7 +51,7 @@ fn two_clocks_come_to_their_ends(rt: HostRuntime) {
 }
 
 // Runs four clocks joined in a chain: the first thread runs 0 and then 1, the other one 3 and then 2. So 0 and 3 wait
-// in vain, and 1 and 2 do not.
+// in vain, and 1 and 2 do not. It gives the number of ticks, 100, once all came through.
 fn behind_others<R: Threads + Wait + Sync>(rt: &R) -> u64 {
     let gate = StepGate::new(rt);
     gate.join(0, 1);
@@ -65,7 +67,8 @@ fn behind_others<R: Threads + Wait + Sync>(rt: &R) -> u64 {
     100
 }
 
-// Lets first one clock and then another come to the gate at this tick, as one thread that runs both.
+// Lets first one clock and then another come to the gate at this tick, as one thread that runs both. It gives the
+// tick.
 fn pass_both<G: Gate>(gate: &G, first: u32, second: u32, tick: u64) -> u64 {
     gate.enter(first, tick);
     gate.enter(second, tick);

@@ -42,7 +42,8 @@ impl Turns {
         }
     }
 
-    // Waits until a clock has come to so many ticks; after too many tries notes that it is late.
+    // Waits until `clock`, the count of one clock, has come to so many ticks, and lets other threads run meanwhile.
+    // After too many tries it notes that a clock is late, and from then on nobody waits.
     fn wait_for(&self, clock: &AtomicU64, ticks: u64) {
         for _ in 0..TURNS {
             if clock.load(Ordering::SeqCst) >= ticks || self.late.load(Ordering::SeqCst) {
@@ -55,7 +56,8 @@ impl Turns {
 }
 
 impl Gate for Turns {
-    // Lets a clock begin a tick once the other one has come as far as it must.
+    // Lets a clock begin a tick once the other one has come as far as it must: clock 0 waits for the same tick of clock
+    // 1, and clock 1, in its first three ticks, for the next one of clock 0.
     fn enter(&self, clock: u32, tick: u64) {
         let come = tick.saturating_add(1);
         if clock == 0 {
@@ -70,7 +72,8 @@ impl Gate for Turns {
     }
 }
 
-// Checks that an output has 32 samples, which begin with so many times 1 2 3; the last time may be cut off.
+// Checks that an output has 32 samples behind its header of 44 bytes, and that they begin with the samples 1 2 3 over
+// and over, `cycles` times; the last time may be cut off.
 fn check_output(rt: &impl Abort, output: &[u8], cycles: usize) {
     assert!(rt; output.len() == 172);
     for cycle in output[44..].chunks(12).take(cycles) {

@@ -22,7 +22,8 @@ const NOTHING: &str = "set(\"frame.audio.samplerate\", 8000)\nset(\"frame.durati
 /// Bytes of an output of one tick.
 const OUTPUT_BYTES: usize = 76;
 
-// The status of a call of these words, where this call of a device fails.
+// The status with which the program ends, run on the words `line` over this shelf of files in memory, where the device
+// call that `failing` names fails. What is left stays on the shelf.
 fn status_of<R: Threads + Wait + Sync>(
     rt: &R,
     alloc: Global,
@@ -41,7 +42,8 @@ fn are_whole(shelf: &MemShelf) -> bool {
     held(shelf, "A").len() == OUTPUT_BYTES && held(shelf, "C").len() == OUTPUT_BYTES
 }
 
-// Whether the trace and the cue files have these bytes, in this order; only so many of these names are looked at.
+// Whether the trace `T` and the cue files of the outputs `A` and `C` have these bytes, in this order; `none` is for a
+// file that is not there. Where `left` is shorter the last ones are not looked at.
 fn hold(shelf: &MemShelf, left: &[&str]) -> bool {
     for (name, bytes) in ["T", "A.cue", "C.cue"].iter().zip(left.iter()) {
         if held(shelf, name) != bytes.as_bytes() {
@@ -72,8 +74,8 @@ const ROWS: &[Row] = &[
     (TWO, BOTH, Failing::Piece(4, 0, 1), &["l", "0\n", "0\n"]),
 ];
 
-// Runs the call of a row, in which a device fails, and checks that it ends with 4, and leaves the outputs whole and
-// this of the other files.
+// Runs the call of a row, in which a device fails, and checks that it ends with status 4, that of a failed write, that
+// both outputs are whole, and that of the trace and the cue files is left what the row tells.
 fn check<R: Abort + Threads + Wait + Sync>(
     rt: &R,
     alloc: Global,
@@ -126,7 +128,8 @@ const TRACE: &[u8] = b"liq trace 1 1 16 1\nwindow 0 buffer 0 puts A takes GE\n";
 
 const AUDIO_AND_TRACE: &[(&str, &[u8])] = &[("B", ONE_TWO_THREE), ("T", TRACE)];
 
-// The status with which a replay of these words ends; nothing if the words are those of a call that takes threads.
+// The status with which a replay of these words ends, run on one thread. `None` where the words are those of a call
+// that takes threads, which is not run.
 fn replayed(alloc: Global, words: &[String], shelf: &mut MemShelf) -> Result<Option<u8>, Fail> {
     let mut out = sink(alloc)?;
     let mut err = sink(alloc)?;
@@ -134,7 +137,7 @@ fn replayed(alloc: Global, words: &[String], shelf: &mut MemShelf) -> Result<Opt
 }
 
 // Runs a replay of which a call of a device fails, and checks its status and how many bytes of its first output are
-// left.
+// left. `row` has what fails, the status, and that number, `None` where the output is not there.
 fn check_replay(
     rt: &impl Abort,
     alloc: Global,

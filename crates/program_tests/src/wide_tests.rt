@@ -39,7 +39,8 @@ const ROWS: &[Row] = &[
 
 const AUDIO: &[(&str, &[u8])] = &[("S", PAIR)];
 
-// Runs the call of a row, where this piece of the output fails, and checks the status and the bytes that are left.
+// Runs the call of a row, where the piece of the output that the row tells fails, and checks the status and the bytes
+// that are left. Where there is no such piece nothing fails.
 fn check<R: Abort + Threads + Wait + Sync>(
     rt: &R,
     alloc: Global,

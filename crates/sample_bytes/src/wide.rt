@@ -108,7 +108,8 @@ fn lay_wide_eight(samples: i16x8, at: usize, into: &mut [u8])
     back.copy_to_slice(&mut into[at + 16..]);
 }
 
-// Reads eight samples of three bytes, from sample `at` on: of their 24 bytes, the first 16 and the last 16 are loaded.
+// Reads eight samples of three bytes into `into`, from sample `at` on, and drops the lowest byte of each. A vector has
+// 16 bytes: of the 24, the first 16 and the last 16 are loaded, and the pattern picks two bytes of each sample.
 fn decode_wide_eight(bytes: &[u8], into: &mut [i16], at: usize)
     requires within { (at + 8 ≤ length into.old) × (length bytes.now ≡ 3 * length into.old) }
     ensures { into.new ≡ put_chunk at into.old (wide_samples_in (chunk (3 * at) 24 bytes.now)) }

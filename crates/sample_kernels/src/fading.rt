@@ -8,8 +8,8 @@ use crate::loading::load_samples;
 use crate::mixing::quotients;
 use std::simd::prelude::*;
 
-/// 2^47 divided by the number of parts `whole`, and up to 1 more; its product with a number takes the place of a
-/// division by `whole`.
+/// 2^47 divided by `whole`, the number of samples of a mix, and up to 1 more. Kernels take a product with it, without
+/// its lowest 47 bits, in place of a division by `whole`.
 pub fn inverse_of(whole: u32) -> u64
     requires { 0 < whole }
     ensures { result ≡ inverse_of whole }

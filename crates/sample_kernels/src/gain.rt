@@ -47,7 +47,8 @@ pub fn halves(left: &[i16], right: &[i16], into: &mut [i16])
     }
 }
 
-// Multiplies each sample by a factor of at most 1000 either way, eight at a time.
+// Writes each sample of `from` times a factor, of at most 1000 either way and told in millionths, into `into`: eight at
+// a time in numbers of 32 bits, and the rest one by one.
 fn scale_by_eights(millionths: i64, from: &[i16], into: &mut [i16])
     requires same { length into.old ≡ length from.now }
     requires small { unsigned_abs millionths ≤ 1000000000 }
@@ -63,7 +64,8 @@ fn scale_by_eights(millionths: i64, from: &[i16], into: &mut [i16])
     }
 }
 
-// Multiplies each sample by a larger factor, at most 32768 either way, eight at a time in numbers of 64 bits.
+// Writes each sample of `from` times a larger factor, at most 32768 either way and told in millionths, into `into`:
+// eight at a time in numbers of 64 bits, and the rest one by one.
 fn scale_long(millionths: i64, from: &[i16], into: &mut [i16])
     requires same { length into.old ≡ length from.now }
     requires low { negsuc 32767999999 ≤ℤ millionths }
@@ -98,8 +100,8 @@ fn scale_eight(millionths: i64, from: &[i16], into: &mut [i16], at: usize)
     cut.cast::<i16>().copy_to_slice(&mut into[at..]);
 }
 
-// Multiplies the eight samples from index `at` on by a factor of at most 32768 either way, in numbers of 64 bits,
-// where a division fits.
+// Multiplies the eight samples from index `at` on by a factor of at most 32768 either way, told in millionths, in
+// numbers of 64 bits, where a division fits. The products are rounded toward zero and cut to the range of a sample.
 fn scale_long_eight(millionths: i64, from: &[i16], into: &mut [i16], at: usize)
     requires low { negsuc 32767999999 ≤ℤ millionths }
     requires high { millionths ≤ℤ pos 32768000000 }
@@ -128,7 +130,8 @@ fn digits(millionths: i64) -> (i32, i32, i32)
     (low, middle, high)
 }
 
-// A sample times a factor in millionths, which is at most 32768 either way, cut to the range of a sample.
+// A sample times a factor in millionths, which is at most 32768 either way, rounded toward zero and cut to the range of
+// a sample.
 fn scaled(sample: i16, millionths: i64) -> i16
     requires low { negsuc 32767999999 ≤ℤ millionths }
     requires high { millionths ≤ℤ pos 32768000000 }
@@ -138,7 +141,8 @@ fn scaled(sample: i16, millionths: i64) -> i16
     (product / 1_000_000).clamp(-32768, 32767) as i16
 }
 
-// Half the sums of the left and right samples of eight instants, from index `at` on, rounded toward zero.
+// Writes half the sums of the left and right samples of eight instants, from index `at` on, into `into`, rounded toward
+// zero.
 fn halve_eight(left: &[i16], right: &[i16], into: &mut [i16], at: usize)
     requires within { (at + 8 ≤ length into.old) × (length right.now ≡ length left.now)
         × (length into.old ≡ length left.now) }

@@ -26,7 +26,7 @@ pub fn load_samples(samples: &[i16], at: usize) -> i16x8
 }
 
 /// The eight sums from index `at` on, as a vector. Each is read by itself too, since a proof learns so that it fits 32
-/// bits.
+/// bits; of these reads nothing is built.
 pub fn load_sums(sums: &[i32], at: usize) -> i32x8
     requires { at + 8 ≤ length sums.now }
     ensures lanes { result ≡ chunk at 8 sums.now }

@@ -2,7 +2,7 @@
 // it; then the bits of all are taken together, in a loop without a branch.
 ghost use Rattle.std.specs.Prelude.{◌≡◌, true, pos, length, replicate};
 
-/// Whether all samples are 0, so that work on them can be left out. A caller may rely on true alone.
+/// Whether all samples are 0, so that work on them can be left out. Of false the contract promises nothing.
 pub fn are_silent(samples: &[i16]) -> bool
     ensures { result ≡ true → samples.now ≡ replicate (length samples.now) (pos 0) }
 {
@@ -18,7 +18,7 @@ pub fn are_silent(samples: &[i16]) -> bool
     found == 0
 }
 
-/// Whether all sums are 0, so that work on them can be left out. A caller may rely on true alone.
+/// Whether all sums are 0, so that work on them can be left out. Of false the contract promises nothing.
 pub fn are_zeros(sums: &[i32]) -> bool
     ensures { result ≡ true → sums.now ≡ replicate (length sums.now) (pos 0) }
 {

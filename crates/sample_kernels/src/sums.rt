@@ -74,7 +74,8 @@ fn add_eight(sum: &mut [i32], part: &[i16], at: usize)
     (sums + parts.cast::<i32>()).copy_to_slice(&mut sum[at..]);
 }
 
-// Divides eight sums, from index `at` on, each by the number of the samples in it, `by`, rounded toward zero.
+// Divides eight sums, from index `at` on, each by the number of the samples in it, in `by`, rounded toward zero, and
+// writes these means into `into` at the same places.
 fn divide_eight(sum: &[i32], by: &[u16], into: &mut [i16], at: usize)
     requires within { (at + 8 ≤ length into.old) × (length by.now ≡ length sum.now)
         × (length into.old ≡ length sum.now) }
@@ -89,7 +90,8 @@ fn divide_eight(sum: &[i32], by: &[u16], into: &mut [i16], at: usize)
         .copy_to_slice(&mut into[at..]);
 }
 
-// Cuts eight sums, from index `at` on, to the range of a sample, and writes them as samples.
+// Cuts eight sums, from index `at` on, to the range of a sample, and writes them as samples into `into` at the same
+// places.
 fn clamp_eight(sum: &[i32], into: &mut [i16], at: usize)
     requires within { (at + 8 ≤ length into.old) × (length into.old ≡ length sum.now) }
     ensures { into.new ≡ put_chunk at into.old (map clamped (chunk at 8 sum.now)) }

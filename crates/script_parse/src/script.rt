@@ -68,7 +68,8 @@ fn closes(kind: &TokenKind) -> bool
     )
 }
 
-// The index of the first token at which brackets nest too deep; `None` where they do nowhere.
+// The index of the first token at which more than `MAX_NESTING` levels are open (brackets, `if`, `def`); `None` where
+// there is none. Only the numbers of opened and closed levels count, whether or not they match.
 fn depth_place(tokens: &[Token]) -> Option<usize>
     requires { length tokens.now < 2 ^ 32 }
     ensures found { IfSome result (λ d. IsDepthPlace (kinds tokens.now) d) }
@@ -86,8 +87,8 @@ fn depth_place(tokens: &[Token]) -> Option<usize>
     None
 }
 
-// Reads all tokens as a script, one statement after another, with no bound on how deep they nest; or tells the token
-// at which syntax ends.
+// Reads all tokens as a script, one statement after another, with no bound on how deep they nest; or tells the index of
+// the token at which syntax ends. A fault of syntax says how many tokens are left, which are counted from the end.
 fn whole(alloc: Global, tokens: &[Token]) -> Result<Script, Refusal>
     requires { length tokens.now < 2 ^ 32 }
     ensures { Whole (kinds tokens.now) result }
@@ -122,7 +123,8 @@ fn front(alloc: Global, tokens: &[Token], d: usize) -> ParseFault
     }
 }
 
-// The script that the tokens spell, or why they are none: the nesting is measured before they are parsed.
+// The script that the tokens spell, or why they are none: the nesting is measured before they are parsed, so that they
+// are parsed to the end only where they nest well. 2^32 tokens and more are refused as if memory had run out.
 fn answer(alloc: Global, tokens: &[Token]) -> Result<Script, ParseFault>
     ensures spelled { IfOk result (λ s. spelling (view_script s) ≡ kinds tokens.now) }
     ensures placed { IfOk result (λ s. IsPlaced 0 (view_script s)) }

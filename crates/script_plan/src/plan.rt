@@ -43,7 +43,7 @@ pub(crate) fn script_of(alloc: Global, text: &[u8]) -> Result<Script, ScriptFaul
     Ok(script)
 }
 
-// The plan of a script, or the fault of its types or of its evaluation.
+// The plan of a script, or the fault of its names and types or, where these are right, of its evaluation.
 fn plan_of_script(alloc: Global, script: &Script) -> Result<Plan, ScriptFault>
     requires { IsPlaced 0 (view_script script.now) }
     ensures plan { IfOk result (λ p. HasPlan (view_script script.now) p) }

@@ -31,7 +31,8 @@ pub fn sources_of(alloc: Global, text: &[u8]) -> Result<Sources, ScriptFault>
     sources_in_script(alloc, &script)
 }
 
-// The plan of a script, with the call that made each source; or the fault of its types or of its evaluation.
+// The plan of a script, with the call that made each source; or the fault of its names and types or, where these are
+// right, of its evaluation.
 fn sources_in_script(alloc: Global, script: &Script) -> Result<Sources, ScriptFault>
     requires { IsPlaced 0 (view_script script.now) }
     ensures calls { IfOk result (λ s. AreSources (view_script script.now) s.plan s.calls) }

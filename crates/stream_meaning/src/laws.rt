@@ -22,7 +22,8 @@ ghost use Rattle.stream_meaning.specs.Calls.{calls_of, calls_of_tick, fades_in, 
 ghost use Rattle.stream_meaning.specs.Settings.{IsSetting, HasNoBuffers};
 ghost use Rattle.stream_meaning.specs.Sinks.{gaps};
 
-/// The sub-clocks of each setting have slots, however deep they nest: `sub_of` is what their instants make.
+/// The sub-clocks of each setting (a plan and what it runs on) have slots, a cell or nothing at each instant, however
+/// deep they nest: `sub_of` gives what their instants make.
 pub fn sub_clocks_have_slots()
     ensures { (setting : Setting) (clocks : Map) → IsSetting setting clocks → IsMeaning setting (sub_of setting) }
 {}
@@ -38,8 +39,8 @@ pub fn infallible_nodes_offer()
         → gaps setting i ticks ≡ 0 }
 {}
 
-/// A leaf and a reader have no children, so no child decides whether they are infallible. A leaf that plays files is
-/// a single or a playlist, whose files are loaded.
+/// A leaf and a reader of a buffer have no children, so no child decides whether they are infallible, that is, offer a
+/// cell at every instant. A leaf that plays files is a single or a playlist.
 pub fn leaves_stand_alone()
     ensures children { (rate i n : ℕ) (kind : TheKind) (op : TheOp) (leaf : TheLeaf)
         → work_of rate i kind op ≡ Plays leaf → HasChildren op n → n ≡ 0 }
@@ -63,8 +64,8 @@ pub fn turns_go_by_choices()
         ≡ past_of turn (gave_over (first_instants setting sub (clock_of setting i) n) i node.children) }
 {}
 
-/// The calls of an instant are the takes of its clock's readers, and then those of the instants that its sub-clocks
-/// make.
+/// The calls that an instant makes at buffers are the takes of its clock's readers, and then the calls of the instants
+/// that its sub-clocks, one for each crossfade, make meanwhile.
 pub fn calls_go_by_sub_clocks()
     ensures { (setting : Setting) (clocks : Map) → IsSetting setting clocks
         → (sub : ℕ → ℕ → List TheSlot) (clock : NodeClock) (past : List Moment)
@@ -75,8 +76,8 @@ pub fn calls_go_by_sub_clocks()
         k (slice_get setting.plan.nodes k)) (length setting.plan.nodes) }
 {}
 
-/// A plan without readers and feeds makes no calls, whatever the setting; a well-formed plan that counts no buffer is
-/// one.
+/// A plan without readers and feeds of buffers makes no calls at them in any tick, whatever the setting; a well-formed
+/// plan that counts no buffer is one.
 pub fn no_calls_without_buffers()
     ensures none { (setting : Setting) → HasNoBuffers setting.plan → (accepted : ℕ → Bool) (m t : ℕ)
         → calls_of_tick setting accepted m t ≡ [] }

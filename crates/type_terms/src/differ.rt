@@ -37,7 +37,8 @@ pub enum Difference<'a> {
     BindKind(u64, KindTerm),
 }
 
-/// The kind itself, or where it is a bound variable what that is bound to in the end.
+/// The kind of a source (mono, stereo or a variable) itself, or where it is a bound variable what that is bound to in
+/// the end. `kinds` has what each kind variable is bound to, if anything.
 pub fn resolve_kind(kinds: &[Option<KindTerm>], k: KindTerm) -> KindTerm
     requires falls { FallsByNumber kinds.now }
     requires over { InKind (λ n. n < length kinds.now) k }
@@ -71,8 +72,9 @@ pub fn push_copies(
     Ok(())
 }
 
-/// Takes two types apart: puts the pairs of their parts on the stack if both are lists, or tuples of one length;
-/// `false` where they are neither.
+/// Takes two types apart: puts the pairs of their parts on `work`, the stack of pairs to compare, if both are lists, or
+/// tuples of one length. `false` where they are neither; then the stack is as before, and what they are bound to is
+/// not looked at.
 pub fn push_split<'a>(
     work: &mut Vec<(&'a Ty, &'a Ty)>,
     s: &'a Ty,
@@ -107,8 +109,9 @@ pub fn push_split<'a>(
     }
 }
 
-/// One step of unification: the difference of two types. Where what they are bound to can be taken apart, copies of
-/// that are put on the agenda, two variables once, and the two count as the same.
+/// One step of unification: the difference of two types, which tells what is to be bound. Where what they are bound to
+/// are two lists or two tuples of one length, copies are put on the agenda, the list of pairs still to compare, and
+/// `Same` is answered. The agenda's `seen` has the pairs of variables put there, so that none comes twice.
 pub fn differ<'a>(
     alloc: Global,
     bindings: &'a Bindings,
@@ -145,7 +148,7 @@ pub fn differ<'a>(
 }
 
 /// What has to be bound to make two kinds of sources equal: nothing where they are the same, or a kind variable; a
-/// clash where no binding does it.
+/// clash where no binding does it. Of two variables the one of greater number is bound, so that no circle arises.
 fn differ_kinds<'a>(kinds: &[Option<KindTerm>], left: KindTerm, right: KindTerm) -> Difference<'a>
     requires falls { FallsByNumber kinds.now }
     requires left { InKind (λ n. n < length kinds.now) left }
@@ -246,8 +249,9 @@ fn stays_free(types: &[TypeVariable], x: u64, y: u64) -> bool
     }
 }
 
-/// What has to be bound to make two free variables equal: `left` has the number `x`, and `right` the number `y`; one
-/// is bound to the other, unless they are the same.
+/// What has to be bound to make two free variables equal: `left` has the number `x`, and `right` the number `y`. One
+/// is bound to the other, unless they are the same; a number variable (int or decimal in the end) is never bound to
+/// another sort.
 fn differ_variables<'a>(
     types: &[TypeVariable],
     x: u64,
@@ -274,7 +278,8 @@ fn differ_variables<'a>(
 }
 
 /// What has to be bound to make two types equal that are no variables, neither two lists nor two tuples of one length:
-/// for two sources their kinds decide; others are the same base type, or clash.
+/// for two sources their kinds decide; others are the same base type, or clash. `kinds` has what each kind variable is
+/// bound to, if anything.
 fn differ_shapes<'a>(kinds: &[Option<KindTerm>], left: &'a Ty, right: &'a Ty) -> Difference<'a>
     requires falls { FallsByNumber kinds.now }
     requires left { (vs : List Variable) × IsOver (table vs kinds.now) (term_of left.now) }
@@ -331,8 +336,8 @@ fn differ_resolved<'a>(
     }
 }
 
-/// What has to be bound to make two types equal, if one binding does it; `None` where what they are bound to has parts
-/// that have to be compared.
+/// What has to be bound to make two types equal, where one binding or none decides: no stack of pairs is needed then.
+/// `None` where what they are bound to are two lists, or two tuples of one length, whose parts have to be compared.
 pub fn differ_directly<'a>(
     alloc: Global,
     bindings: &'a Bindings,
@@ -359,7 +364,7 @@ pub fn differ_directly<'a>(
     Ok(Some(difference))
 }
 
-/// Whether both types are one and the same variable.
+/// Whether both types are one and the same variable; their bindings are not looked at.
 fn are_one_variable(left: &Ty, right: &Ty) -> bool
     ensures { OnTrue result (term_of left.now ≡ term_of right.now) }
 {
@@ -372,7 +377,8 @@ fn are_one_variable(left: &Ty, right: &Ty) -> bool
     }
 }
 
-/// Whether both types are variables whose bindings were put on the agenda for comparison before.
+/// Whether both types are variables whose bindings were put on the agenda before, the list of pairs to compare.
+/// `seen` has those pairs. False where one of the types is no variable.
 fn is_known(seen: &IndexSet<(u64, u64)>, left: &Ty, right: &Ty) -> bool
     ensures { OnTrue result ((a : Assignment) (n : ℕ) → AllEqualBelow a n (variable_pairs seen.now.keys)
         → EqualBelow a n (term_of left.now) (term_of right.now)) }
@@ -407,7 +413,7 @@ fn note(seen: &mut IndexSet<(u64, u64)>, left: &Ty, right: &Ty) -> Result<(), Me
     }
 }
 
-/// Puts the pairs of the parts of two tuples of one length on the stack of pairs to compare.
+/// Puts the pairs of the parts of two tuples of one length, `ss` and `ts`, on `work`, the stack of pairs to compare.
 fn push_parts<'a>(
     work: &mut Vec<(&'a Ty, &'a Ty)>,
     ss: &'a [Ty],

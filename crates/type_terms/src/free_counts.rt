@@ -5,7 +5,8 @@ ghost use Rattle.type_terms.specs.Counting.{free_kinds, free_types, one_if_free}
 use crate::ty::KindTerm;
 use crate::type_variable::TypeVariable;
 
-/// How many type variables from number `first` on are bound to nothing. It looks at these alone.
+/// How many type variables from number `first` on are bound to nothing; 0 where there are none. It looks at these
+/// alone.
 pub fn free_types_behind(types: &[TypeVariable], first: usize) -> usize
     ensures { free_types (take first types.now) + result ≡ free_types types.now }
 {
@@ -16,7 +17,8 @@ pub fn free_types_behind(types: &[TypeVariable], first: usize) -> usize
     count_types(later)
 }
 
-/// How many kind variables from number `first` on are bound to nothing. It looks at these alone.
+/// How many kind variables from number `first` on are bound to nothing; 0 where there are none. It looks at these
+/// alone.
 pub fn free_kinds_behind(kinds: &[Option<KindTerm>], first: usize) -> usize
     ensures { free_kinds (take first kinds.now) + result ≡ free_kinds kinds.now }
 {

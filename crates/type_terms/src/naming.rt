@@ -58,15 +58,15 @@ pub fn places(ty: &Ty) -> u64 {
     }
 }
 
-/// Takes the nodes of the type's tree from the number of places that are left; where there are too few, as if memory
-/// had run out.
+/// Counts `left`, how many nodes of types may still be built or compared, down by the nodes of this type's tree. Where
+/// too few are left nothing changes, and it fails as if memory had run out.
 pub fn spend(left: &mut u64, ty: &Ty) -> Result<(), Memory> {
     *left = left.checked_sub(places(ty)).ok_or(Memory)?;
     Ok(())
 }
 
-/// A copy of the type, with the same variables. A type of more than a thousand levels is given up as if memory had run
-/// out.
+/// A copy of the type, with the same variables: renamed by empty lists, which change no number. A type of more than a
+/// thousand levels is given up as if memory had run out.
 pub fn copy(alloc: Global, ty: &Ty) -> Result<Ty, Memory>
     ensures { IfOk result (λ u. term_of u ≡ term_of ty.now) }
 {
@@ -105,7 +105,7 @@ fn push_variables(
     }
 }
 
-/// The new number of a variable: the entry of the list under its number, or that number where there is none.
+/// The new number of a variable: entry `number` of the list `news`, or `number` itself where the list is shorter.
 fn renumbered(news: &[u64], number: u64) -> u64
     ensures { result ≡ new_number news.now number }
 {

@@ -19,7 +19,8 @@ use std::alloc::Global;
 /// A script of a mebibyte writes fewer nodes than this, and what variables share is walked once.
 pub const MOST_STEPS: u64 = 4_194_304;
 
-/// The type itself, or where it is a bound variable what that is bound to in the end.
+/// The type itself, or where it is a bound variable what that is bound to in the end: a free variable, or a type that
+/// is no variable. Its parts are not looked at.
 pub fn resolve<'a>(types: &'a [TypeVariable], t: &'a Ty) -> &'a Ty
     requires triangular { IsTriangular types.now }
     requires over { InTerm (λ n. n < length types.now) (λ _. Unit {0}) (term_of t.now) }
@@ -41,7 +42,8 @@ pub fn resolve<'a>(types: &'a [TypeVariable], t: &'a Ty) -> &'a Ty
     t
 }
 
-/// Marks each type variable that stands in the type, which a variable is about to be bound to.
+/// Marks each type variable that stands in the type, which a variable is about to be bound to. Only a marked one is
+/// later searched for in the bindings.
 pub fn mark(nested: &mut [bool], ty: &Ty)
     requires { InTerm (λ n. n < length nested.old) (λ _. Unit {0}) (term_of ty.now) }
     ensures marked { IsMarked nested.new (term_of ty.now) }
@@ -83,7 +85,8 @@ pub fn occurs_in(
     search(&mut work, &mut seen, types, nested, x, ty)
 }
 
-/// Whether each type variable and each kind variable that stands in the type is one of these lists'.
+/// Whether the number of each type variable that stands in the type is below the length of `types`, and that of each
+/// kind variable below that of `kinds`: whether they are known there.
 pub fn are_among(
     alloc: Global,
     types: &[TypeVariable],
@@ -97,8 +100,9 @@ pub fn are_among(
     all_among(&mut work, types, kinds, ty)
 }
 
-/// Whether the variable `x` stands in the type or in what its variables are bound to, by a walk: `work` is the stack
-/// of what is still to be looked at, and `seen` has the variables whose bindings were looked at.
+/// Whether the variable `x` stands in the type or, with `nested`, in what its variables are bound to, by a walk. `work`
+/// is the stack of what is still to be looked at, and `seen` has the variables whose bindings were looked at; both
+/// are empty at first. Past `MOST_STEPS` steps it fails as if memory had run out.
 fn search<'a>(
     work: &mut Vec<&'a Ty>,
     seen: &mut IndexSet<u64>,
@@ -130,8 +134,9 @@ fn search<'a>(
     Err(Memory)
 }
 
-/// Whether each variable that stands in the type is one of these lists', by a walk over its parts: `work` is the stack
-/// of what is still to be looked at.
+/// Whether each variable that stands in the type has a place in `types` or `kinds`, by a walk over its parts. `work` is
+/// the stack of what is still to be looked at, empty at first. Past `MOST_STEPS` steps it fails as if memory had run
+/// out.
 fn all_among<'a>(
     work: &mut Vec<&'a Ty>,
     types: &[TypeVariable],
@@ -176,7 +181,7 @@ fn is_leaf(ty: &Ty) -> bool
     }
 }
 
-/// Puts the parts of a tuple on the stack of what a walk still has to look at.
+/// Puts the parts of a tuple on `work`, the stack of what a walk over types still has to look at.
 fn push_parts<'a>(work: &mut Vec<&'a Ty>, parts: &'a [Ty]) -> Result<(), Memory>
     ensures { OnOk result (terms work.new.items ≡ terms work.old.items ++ map term_of parts.now) }
 {
@@ -186,7 +191,8 @@ fn push_parts<'a>(work: &mut Vec<&'a Ty>, parts: &'a [Ty]) -> Result<(), Memory>
     Ok(())
 }
 
-/// Puts the parts of a list or a tuple on the stack of what a walk still has to look at.
+/// Puts the parts of a list or a tuple on `work`, the stack of what a walk over types still has to look at; another
+/// type has none.
 fn push_inside<'a>(work: &mut Vec<&'a Ty>, ty: &'a Ty) -> Result<(), Memory>
     ensures { OnOk result (terms work.new.items ≡ terms work.old.items ++ inside (term_of ty.now)) }
 {
@@ -200,8 +206,8 @@ fn push_inside<'a>(work: &mut Vec<&'a Ty>, ty: &'a Ty) -> Result<(), Memory>
     }
 }
 
-/// Puts the parts of a type on the stack of what a walk still has to look at; with `deep` also what a variable is
-/// bound to.
+/// Puts the parts of a type on `work`, the stack of what a walk over types still has to look at. Of a variable it puts
+/// what it is bound to, if anything, but only with `deep`.
 fn push_below<'a>(
     work: &mut Vec<&'a Ty>,
     types: &'a [TypeVariable],
@@ -225,8 +231,9 @@ fn push_below<'a>(
     }
 }
 
-/// Whether a walk looks at what a variable is bound to, or at the parts of another type: with `nested`, and at each
-/// variable's binding once, since the variable is added to `seen`. Without `nested` it is never so.
+/// Whether a walk in search of a variable goes on into what the variable `ty` is bound to: true the first time, when
+/// it is added to `seen`. Without `nested` the one searched for stands in no binding, and it is false. A type that is
+/// no variable has no binding, and the answer does not matter.
 fn goes_on(seen: &mut IndexSet<u64>, nested: bool, ty: &Ty) -> Result<bool, Memory>
     ensures { IfOk result (λ deep. IsVisit nested deep seen.old.keys seen.new.keys (term_of ty.now)) }
 {

@@ -19,13 +19,14 @@ pub const MOST_PLACES: u64 = 1_048_576;
 /// others.
 pub const PLACES_A_VARIABLE: u64 = 16;
 
-/// Adds to the places (nodes of types) that may be built or compared those that come with one more variable.
+/// Adds to `left`, the places (nodes of types) that may still be built or compared, those that come with one more type
+/// variable.
 pub fn allow(left: &mut u64) {
     *left = left.saturating_add(PLACES_A_VARIABLE);
 }
 
-/// A copy of the type with all bindings put in, so that only free variables are left. It has at most `levels` levels,
-/// and its nodes are taken from those that are left in `nodes`; where there are too few, as if memory had run out.
+/// A copy of the type with all bindings put in, so that only free variables are left. `nodes` counts how many nodes it
+/// may still have. With more nodes, or more than `levels` levels, it is given up as if memory had run out.
 pub fn settle(
     alloc: Global,
     types: &[TypeVariable],

@@ -37,7 +37,8 @@ impl Bindings {
         resolve(&self.types, ty)
     }
 
-    /// Binds the free type variable `x`, and marks the variables that stand in what it is bound to.
+    /// Binds the free type variable `x` to the type, and marks in `nested` the variables that stand in the type: only
+    /// those are searched for in bindings later.
     pub fn bind_type(&mut self, x: u64, ty: Ty)
         requires marked { AreMarked self.old.types.items self.old.nested.items }
         requires inside { x < length self.old.types.items }
@@ -64,7 +65,7 @@ impl Bindings {
     }
 }
 
-/// Binds the free type variable `x` to the type.
+/// Binds the free type variable `x`, an index of `types`, to the type.
 fn bind_type(types: &mut [TypeVariable], x: u64, ty: Ty)
     requires inside { x < length types.old }
     requires free { bound_at types.old x ≡ None }
@@ -91,7 +92,7 @@ fn free_kind(kinds: &mut [Option<KindTerm>], x: u64)
     kinds[x as usize] = None;
 }
 
-/// Takes the bindings of these type variables away again, which unification has bound in vain.
+/// Takes the bindings of the type variables in `trail` away again, which unification has bound in vain.
 pub fn free_types(types: &mut [TypeVariable], trail: &[u64])
     requires { (vs : List Variable) × IsTrail trail.now vs types.old }
     ensures { (vs : List Variable) → IsTrail trail.now vs types.old → types.new ≡ vs }
@@ -101,7 +102,7 @@ pub fn free_types(types: &mut [TypeVariable], trail: &[u64])
     }
 }
 
-/// Takes the bindings of these kind variables away again, which unification has bound in vain.
+/// Takes the bindings of the kind variables in `trail` away again, which unification has bound in vain.
 pub fn free_kinds(kinds: &mut [Option<KindTerm>], trail: &[u64])
     requires { (ks : List (Option KindTerm)) × IsKindTrail trail.now ks kinds.old }
     ensures { (ks : List (Option KindTerm)) → IsKindTrail trail.now ks kinds.old → kinds.new ≡ ks }

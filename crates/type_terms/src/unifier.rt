@@ -46,8 +46,8 @@ pub enum Direct {
     Apart,
 }
 
-/// Binds variables until the two types are the same; where they differ in shape or memory runs out, nothing is bound.
-/// `free` counts the variables that are bound to nothing.
+/// Binds variables until the two types are the same (`true`); where they cannot be (`false`) or memory runs out,
+/// nothing is bound. `free` counts the variables that are bound to nothing.
 ///
 /// What one binding settles takes no memory but that of a copy of what is bound.
 pub fn unify_in(
@@ -72,8 +72,9 @@ pub fn unify_in(
     }
 }
 
-/// Makes two types the same where neither is to be taken apart: with one binding, or none. `free` counts the variables
-/// that are bound to nothing.
+/// Makes two types the same where neither is to be taken apart: with one binding, or none. `Apart` is answered where
+/// they are two lists, or two tuples of one length; then, and for `Clash`, nothing is bound. `free` counts the
+/// variables that are bound to nothing.
 fn unify_directly(
     alloc: Global,
     bindings: &mut Bindings,
@@ -110,8 +111,8 @@ fn unify_directly(
     }
 }
 
-/// Binds variables until the two types are the same; what was bound is freed again where they differ in shape or memory
-/// runs out. `free` counts the variables that are bound to nothing.
+/// Binds variables until the two types are the same (`true`); what was bound is freed again where they cannot be
+/// (`false`) or memory runs out. `free` counts the variables that are bound to nothing.
 fn unify_deeply(
     alloc: Global,
     bindings: &mut Bindings,
@@ -145,7 +146,8 @@ fn unify_deeply(
     }
 }
 
-/// Takes the bindings of the trail's variables away again, after two types turned out not to be equal.
+/// Takes the bindings of the trail's variables away again, after two types turned out not to be equal or memory ran
+/// out. The marks of nested variables stay, which costs only a search more.
 fn undo(bindings: &mut Bindings, trail: &Trail)
     requires { (s : Table) × Tells trail.now s (table_of bindings.old) }
     ensures undone { (s : Table) → Tells trail.now s (table_of bindings.old) → table_of bindings.new ≡ s }
@@ -155,8 +157,8 @@ fn undo(bindings: &mut Bindings, trail: &Trail)
     free_kinds(&mut bindings.kinds, &trail.kinds);
 }
 
-/// Takes the nodes of the types in the pairs from number `first` on from the places that are left; where there are too
-/// few, as if memory had run out.
+/// Counts `left`, how many nodes of types may still be built or compared, down by the nodes of the types in the pairs
+/// from number `first` on. Where too few are left, it fails as if memory had run out.
 fn spend_behind(left: &mut u64, pairs: &[(Ty, Ty)], first: usize) -> Result<(), Memory> {
     for i in first..pairs.len() {
         spend(left, &pairs[i].0)?;
@@ -166,7 +168,8 @@ fn spend_behind(left: &mut u64, pairs: &[(Ty, Ty)], first: usize) -> Result<(), 
 }
 
 /// One step of unification, for one pair of types: binds the variable that has to be bound, and notes it in the trail,
-/// or puts what the two are bound to on the agenda; `false` where they cannot be made equal.
+/// or puts what the two are bound to on the agenda, the pairs still to compare. `false` where they cannot be made
+/// equal. `bindings.left` counts the nodes that may still be copied.
 fn take_up(
     alloc: Global,
     bindings: &mut Bindings,
@@ -205,7 +208,8 @@ fn take_up(
 }
 
 /// Takes two types apart, with a stack of references, and takes up the pairs of parts that are not both lists or both
-/// tuples of one length; `false` where a pair differs in shape.
+/// tuples of one length: binds a variable for each, or puts it on the agenda. `false` where a pair cannot be made
+/// equal. Past `MOST_STEPS` pairs it fails as if memory had run out.
 fn take_apart(
     alloc: Global,
     bindings: &mut Bindings,
@@ -237,7 +241,8 @@ fn take_apart(
     Err(Memory)
 }
 
-/// Binds variables until the two types are the same, or differ in shape. The trail tells which were bound.
+/// Binds variables until the two types are the same (`true`), or differ in shape (`false`). The trail tells which were
+/// bound, for the caller to free them.
 ///
 /// What variables are bound to and is still to be compared stands on the agenda. Two variables are taken apart once.
 fn solve(

@@ -26,7 +26,8 @@ pub fn list(alloc: Global, size: u32) -> Result<String, AllocError>
     Ok(text)
 }
 
-/// The text of the script that plays audio files 0 to `last`, which is at most 99.
+/// The text of the script that plays audio files 0 to `last`, which is at most 99: the settings, a source of each file,
+/// the mix of these sources, and the two outputs.
 pub fn script(alloc: Global, last: u32) -> Result<String, AllocError>
     requires { last ≤ 99 }
     ensures { IfOk result (λ text. string_bytes text ≡ script_text last) }
@@ -82,7 +83,7 @@ fn push_player(alloc: Global, text: &mut String, number: u32) -> Result<(), Allo
     text.push_str("\"))\n")
 }
 
-// Adds the names of sources 0 to `last`, with a comma and a blank between two.
+// Adds the names of sources 0 to `last`, with a comma and a blank between two: the items of the mix's list.
 fn push_source_names(alloc: Global, text: &mut String, last: u32) -> Result<(), AllocError>
     requires { last ≤ 99 }
     ensures { OnOk result (string_bytes text.new ≡ string_bytes text.old ++ source_names last) }

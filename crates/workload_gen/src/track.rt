@@ -30,7 +30,7 @@ pub fn track(alloc: Global, words: &mut SeedWords) -> Result<Vec<u8>, Memory>
     Ok(bytes)
 }
 
-// Adds the bytes of `count` random samples, each of which takes the next of the seed's words.
+// Adds the bytes of `count` random samples to `bytes`, each of which takes the next of the seed's random words.
 fn draw(words: &mut SeedWords, count: u32, bytes: &mut Vec<u8>) -> Result<(), Memory>
     ensures bytes { OnOk result ((seed from : ℕ) → words.old ≡ words_from seed from
         → bytes.new.items ≡ bytes.old.items ++ drawn_bytes seed from count) }

@@ -26,7 +26,8 @@ pub fn make(alloc: Global, seed: u64, size: u32) -> Result<Vec<(String, Vec<u8>)
     Ok(files)
 }
 
-// The audio file of this number, with its name; its length and samples are drawn from the next random words.
+// The name and the bytes of the audio file of this number, whose length and samples are drawn from the next random
+// words of the seed, which are used up.
 fn next_file(alloc: Global, words: &mut SeedWords, number: u32) -> Result<(String, Vec<u8>), Memory>
     ensures file { IfOk result (λ file. (seed : ℕ) → words.old ≡ words_from seed (begin_of seed number)
         → file_of file ≡ track seed number) }
@@ -37,7 +38,7 @@ fn next_file(alloc: Global, words: &mut SeedWords, number: u32) -> Result<(Strin
     Ok((track_name(alloc, number)?, bytes))
 }
 
-// The file `all.m3u`, which lists the first `size` audio files.
+// The name and the bytes of the file `all.m3u`, which lists the first `size` audio files.
 fn list_file(alloc: Global, size: u32) -> Result<(String, Vec<u8>), Memory>
     ensures { IfOk result (λ file. file_of file ≡ (codes "all.m3u", list_text size)) }
 {
@@ -45,7 +46,7 @@ fn list_file(alloc: Global, size: u32) -> Result<(String, Vec<u8>), Memory>
     Ok((String::from_str(alloc, "all.m3u")?, text.into_bytes()))
 }
 
-// The file `make.liq`, the script that plays audio files 0 to `last`.
+// The name and the bytes of the file `make.liq`, the script that plays audio files 0 to `last`.
 fn script_file(alloc: Global, last: u32) -> Result<(String, Vec<u8>), Memory>
     requires { last ≤ 99 }
     ensures { IfOk result (λ file. file_of file ≡ (codes "make.liq", script_text last)) }
