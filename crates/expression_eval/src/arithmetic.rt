@@ -46,7 +46,7 @@ pub fn compare(
 /// (`==` | `!=` | `<` | `<=` | `>` | `>=`) sum
 ///
 /// Compares the value in `out`, if it is no fault, with the sum to its right.
-/// `left` says how many levels deeper it may go. A fault that is in `out` stays, and a new one takes the place of the value.
+/// `left` says how many levels deeper it may go. A fault that is in `out` stays, and a new one goes there.
 #[cycle(value)]
 #[inline(never)]
 fn compare_with(
@@ -89,7 +89,7 @@ fn sum(
 /// ((`+` | `-`) product)*
 ///
 /// Adds these products to the value in `out`, or takes them from it, one after another.
-/// `left` says how many levels deeper it may go. A fault that is in `out` stays, and a new one takes the place of the value.
+/// `left` says how many levels deeper it may go. A fault that is in `out` stays, and a new one goes there.
 #[cycle(value)]
 fn addends(
     alloc: Global,
@@ -113,7 +113,7 @@ fn addends(
 /// (`+` | `-`) product
 ///
 /// Adds this product to the value in `out`, or takes it from it.
-/// `left` says how many levels deeper it may go. A fault that is in `out` stays, and a new one takes the place of the value.
+/// `left` says how many levels deeper it may go. A fault that is in `out` stays, and a new one goes there.
 #[cycle(value)]
 #[inline(never)]
 fn added(
@@ -158,7 +158,7 @@ fn product(
 /// ((`*` | `/`) operand)*
 ///
 /// Multiplies the value in `out` by these operands, or divides it by them, one after another.
-/// `left` says how many levels deeper it may go. A fault that is in `out` stays, and a new one takes the place of the value.
+/// `left` says how many levels deeper it may go. A fault that is in `out` stays, and a new one goes there.
 #[cycle(value)]
 fn factors(
     alloc: Global,
@@ -182,7 +182,7 @@ fn factors(
 /// (`*` | `/`) operand
 ///
 /// Multiplies the value in `out` by this operand, or divides it by it.
-/// `left` says how many levels deeper it may go. A fault that is in `out` stays, and a new one takes the place of the value.
+/// `left` says how many levels deeper it may go. A fault that is in `out` stays, and a new one goes there.
 #[cycle(value)]
 #[inline(never)]
 fn multiplied(

@@ -40,7 +40,7 @@ pub fn expr(
 /// (`or` and)*
 ///
 /// Joins these parts to the value in `out` by `or`, one after another.
-/// `left` says how many levels deeper it may go. A fault that is in `out` stays, and a new one takes the place of the value.
+/// `left` says how many levels deeper it may go. A fault that is in `out` stays, and a new one goes there.
 #[cycle(value)]
 fn ors(
     alloc: Global,
@@ -64,7 +64,7 @@ fn ors(
 /// `or` and
 ///
 /// Joins this part to the value in `out` by `or`.
-/// `left` says how many levels deeper it may go. A fault that is in `out` stays, and a new one takes the place of the value.
+/// `left` says how many levels deeper it may go. A fault that is in `out` stays, and a new one goes there.
 #[cycle(value)]
 #[inline(never)]
 fn or_one(
@@ -106,7 +106,7 @@ fn conjunction(
 /// (`and` not)*
 ///
 /// Joins these parts to the value in `out` by `and`, one after another.
-/// `left` says how many levels deeper it may go. A fault that is in `out` stays, and a new one takes the place of the value.
+/// `left` says how many levels deeper it may go. A fault that is in `out` stays, and a new one goes there.
 #[cycle(value)]
 fn ands(
     alloc: Global,
@@ -130,7 +130,7 @@ fn ands(
 /// `and` not
 ///
 /// Joins this part to the value in `out` by `and`.
-/// `left` says how many levels deeper it may go. A fault that is in `out` stays, and a new one takes the place of the value.
+/// `left` says how many levels deeper it may go. A fault that is in `out` stays, and a new one goes there.
 #[cycle(value)]
 #[inline(never)]
 fn and_one(

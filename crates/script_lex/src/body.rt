@@ -17,9 +17,9 @@ pub enum BodyEnd {
     Cut,
 }
 
-/// Why the bytes of a text with this quote stop, and the bytes from there on: from the closing quote, from the byte that
-/// may not stand there or its backslash, or those that are left where the script ends. `bytes` begins behind the
-/// opening quote.
+/// Why the bytes of a text with this quote stop, and the bytes from there on: from the closing quote, or from the byte
+/// that may not stand there or its backslash, or those left where the script ends. `bytes` begins behind the opening
+/// quote.
 pub fn body_end(quote: u8, bytes: &[u8]) -> (BodyEnd, &[u8])
     ensures stop { (result.0, result.1.now) ≡ body_end quote bytes.now }
     ensures shorter { length result.1.now ≤ length bytes.now }

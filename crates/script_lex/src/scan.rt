@@ -76,7 +76,7 @@ fn text_from<'a>(
 }
 
 // The token of a text whose opening quote, `quote`, stands before these bytes, and the bytes behind its closing quote.
-// Its first byte that is no UTF-8 is a fault, even if another stands behind.
+// A byte between the quotes that is no UTF-8 is the fault, however the text ends.
 fn text_at(alloc: Global, quote: u8, bytes: &[u8]) -> Result<(TokenKind, &[u8]), Refusal>
     requires quote { is_quote quote ≡ true }
     requires small { length bytes.now < MAX_SCRIPT_BYTES }

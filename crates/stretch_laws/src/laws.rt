@@ -20,6 +20,7 @@ ghost use Rattle.stretch_laws.specs.Stretches.{AreFilled, AreQuiet, IsLike, IsOn
 
 /// Over a stretch the demands, the picks of demanded nodes and who offers are those of its first instant, and no node
 /// that gives begins a track after that. What a node goes by of the past counts on.
+/// `sub` has the slots of each sub-clock, `past` the moments before, and `instants` says how long the stretch is.
 pub fn stretches_stay_alike()
     ensures like { (setting : Setting) (sub : ℕ → ℕ
         → List TheSlot) (clock : NodeClock) (past : List Moment) (instants j : ℕ)
@@ -54,6 +55,7 @@ pub fn stretches_have_lanes()
 {}
 
 /// Over a stretch, which is a row of instants behind whose first nothing begins, a node that gives keeps its title.
+/// `sub` has the slots of each sub-clock, `past` the moments before, and `instants` says how long the stretch is.
 pub fn stretches_keep_titles()
     ensures { (setting : Setting) (sub : ℕ → ℕ → List TheSlot) (clock : NodeClock) (past : List Moment)
         (instants i j : ℕ)
@@ -77,7 +79,8 @@ pub fn sub_clocks_give_cells()
 {}
 
 /// Where cells pass through a crossfade, each of its next items takes one slot more, and begins no track. They have the
-/// titles of the cells that are held, and after these of those that are filled.
+/// titles of the cells that are held, and after these of those that are filled. `state` is the crossfade's after `n`
+/// slots and `p` items, `many` slots are filled behind, and `below` is their title.
 pub fn cells_pass_through()
     ensures run { (setting : Setting) (sub : ℕ → ℕ → List TheSlot) (k n many p j below : ℕ) (state : Crossing)
         → ((m : ℕ) → length (sub k m) ≡ m)

@@ -57,7 +57,7 @@ pub struct Found {
 }
 
 /// The byte of the script `text` at which the call begins, among the tokens of a statement, with which types clash.
-/// It is the first call, in the order in which they are closed, whose text behind those before it makes them clash.
+/// With the calls that are closed before it types do not clash, and with it they do.
 /// `done` is the script before the statement. `None` where no call is found.
 pub fn caller(
     alloc: Global,
