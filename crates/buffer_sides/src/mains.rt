@@ -25,8 +25,8 @@ pub fn main_of(plan: &Plan, clocks: &ClockMap, node: u32) -> u32
     main_number(clock)
 }
 
-// The clock of a node: a main one, or the sub-clock of the crossfade around it; main clock 0 for a node that the map does
-// not have.
+// The clock of a node: a main one, or the sub-clock of the crossfade around it; main clock 0 for a node that the map
+// does not have.
 fn clock_at(clocks: &ClockMap, node: u32) -> NodeClock
     ensures { result ≡ slice_index_or clocks.now.of node (NodeClock.Main 0) }
 {

@@ -123,8 +123,8 @@ fn give_one<'a, T: Taps>(
     }
 }
 
-// The chunk of a feed, or `None` if it has no cells: a share of that of an earlier feed of its node with the same cells,
-// or of a new one, which is added to `made` for later feeds.
+// The chunk of a feed, or `None` if it has no cells: a share of that of an earlier feed of its node with the same
+// cells, or of a new one, which is added to `made` for later feeds.
 fn chunk_of_feed<'a>(
     alloc: Global,
     feed: &'a FeedPort,

@@ -50,8 +50,8 @@ pub fn named(
     }
 }
 
-/// The kinds, mono or stereo, that `wanted` says of a use. One that is left open is looked up in `given`, the kinds with
-/// which the def around is called. `None` where one is not there; the error is want of memory.
+/// The kinds, mono or stereo, that `wanted` says of a use. One that is left open is looked up in `given`, the kinds
+/// with which the def around is called. `None` where one is not there; the error is want of memory.
 pub fn kinds_of(
     alloc: Global,
     given: &[Kind],

@@ -54,8 +54,8 @@ fn take_in_turn(
     Ok(())
 }
 
-/// For each parameter the argument of `given` that it takes, or `None`, found by a table of the arguments' labels. It is
-/// for calls of many arguments, where a search for each parameter would take long.
+/// For each parameter the argument of `given` that it takes, or `None`, found by a table of the arguments' labels. It
+/// is for calls of many arguments, where a search for each parameter would take long.
 fn taken_by_table(
     alloc: Global,
     params: &[Param],

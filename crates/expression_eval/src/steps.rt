@@ -166,9 +166,9 @@ pub fn kept_value(values: &mut Vec<Value>, out: &mut Result<Value, Stop>) -> boo
     }
 }
 
-/// Moves the value in `out` to the end of the arguments in `given`, with a copy of its label. False where there is none,
-/// and then a fault is in `out`. Want of memory is left in `out` behind the value, and is the fault where the list
-/// cannot grow.
+/// Moves the value in `out` to the end of the arguments in `given`, with a copy of its label. False where there is
+/// none, and then a fault is in `out`. Want of memory is left in `out` behind the value, and is the fault where the
+/// list cannot grow.
 #[inline(never)]
 pub fn kept_argument(
     alloc: Global,

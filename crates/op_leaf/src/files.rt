@@ -29,8 +29,8 @@ pub struct FilesState {
 }
 
 impl FilesState {
-    /// The files of a node in a source of this kind, at the start of the first one. `again` says whether they begin again
-    /// after the last one.
+    /// The files of a node in a source of this kind, at the start of the first one. `again` says whether they begin
+    /// again after the last one.
     pub fn new(node: u32, again: bool, kind: Kind) -> FilesState
         ensures start { result ≡ record { node = node; again = again; kind = kind; track = 0; at = 0 } }
         ensures placed { (library : Sounds) → IsLibrary library → node < length library.leaves
@@ -82,8 +82,8 @@ impl FilesState {
         u64::from(most).min(left) as u32
     }
 
-    /// Writes the samples of both sides of as many cells as the slices are long, and goes on behind them. They lie in the
-    /// file that is played; at its end it goes to the next file.
+    /// Writes the samples of both sides of as many cells as the slices are long, and goes on behind them. They lie in
+    /// the file that is played; at its end it goes to the next file.
     pub fn run(&mut self, library: &Library, left: &mut [i16], right: &mut [i16])
         requires placed { FilesArePlacedIn library.now self.old }
         requires same { length right.old ≡ length left.old }

@@ -88,8 +88,8 @@ impl LeafState {
         }
     }
 
-    /// How many cells, from the offered one on and at most `most`, are of one track. They have one title. Where nothing is
-    /// offered, it is `most`.
+    /// How many cells, from the offered one on and at most `most`, are of one track. They have one title. Where nothing
+    /// is offered, it is `most`.
     pub fn stretch(&self, library: &Library, most: u32) -> u32
         requires placed { IsPlacedIn library.now self.now }
         requires some { 0 < most }

@@ -32,9 +32,9 @@ pub struct Head {
     pub size: u64,
 }
 
-/// The head of a file of `size` bytes that begins with `front`, as `read_wav` would tell it of the whole file. The inner
-/// error is the fault for which that file is no WAV file to be played. `None` where `front` does not tell either; it
-/// does where the head of a `data` chunk is in it. It takes no memory.
+/// The head of a file of `size` bytes that begins with `front`, as `read_wav` would tell it of the whole file. The
+/// inner error is the fault for which that file is no WAV file to be played. `None` where `front` does not tell either;
+/// it does where the head of a `data` chunk is in it. It takes no memory.
 pub fn read_head(front: &[u8], size: u64) -> Option<Result<Head, WavFault>>
     ensures told { IfSome result (λ told. IsToldBy front.now size told) }
     ensures tells { IsSome (first_named (codes "data") (chunks_of front.now)) → IsSome result }

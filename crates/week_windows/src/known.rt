@@ -39,8 +39,8 @@ pub fn unknown<'a>(alloc: Global) -> Result<Known<'a>, Memory>
     })
 }
 
-/// Sees to it that `known` holds the hours of the cases with these predicates, in order. They are the seconds of the week
-/// at which each case is chosen. Nothing is counted if the cases are those looked at last, or those before them.
+/// Sees to it that `known` holds the hours of the cases with these predicates, in order. They are the seconds of the
+/// week at which each case is chosen. Nothing is counted if the cases are those looked at last, or those before them.
 pub fn hours_again<'a>(
     alloc: Global,
     known: &mut Known<'a>,
@@ -62,8 +62,8 @@ pub fn hours_again<'a>(
     Ok(())
 }
 
-// Exchanges the cases looked at last and their hours with those before them. So the older ones are at hand again, or are
-// the ones that new hours replace.
+// Exchanges the cases looked at last and their hours with those before them. So the older ones are at hand again, or
+// are the ones that new hours replace.
 fn turn(known: &mut Known<'_>)
     requires { IsKnown known.old }
     ensures { IsKnown known.new }
