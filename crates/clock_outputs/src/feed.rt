@@ -59,8 +59,9 @@ struct Made<'a> {
     ghost is: { Some chunk ≡ some_list frame.now.cells },
 }
 
-/// Gives the chunk of each feed that has cells to its buffer, in their order. Where memory is refused some of these
-/// gives were made, from the first on. Feeds that heard the same of one node give one chunk.
+/// At the end of a tick: gives the chunk of each feed that has cells to its buffer in `taps`, in their order. Where
+/// memory is refused some of these gives were made, from the first on. Feeds that heard the same of one node share one
+/// chunk.
 pub fn give_all<T: Taps>(alloc: Global, feeds: &[FeedPort], taps: &mut T) -> Result<(), Memory>
     requires { All (λ feed. feed.buffer < T.buffers taps.old) feeds.now }
     ensures buffers { T.buffers taps.new ≡ T.buffers taps.old }

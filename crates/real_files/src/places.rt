@@ -533,8 +533,9 @@ fn identify<R: Files<File = File> + Alloc<A = Global>>(
     }
 }
 
-// What stands at the name of an output that is a link to a file: the file by its own path, beside which it is written;
-// or one that is written in place, since no path of ours names it, as one that is too long or no UTF-8.
+// What stands at the name of an output that is a link to a file, of which the system tells `found`: the file by its own
+// path, beside which the output is written. Where no path of ours names it, as one that is too long or no UTF-8, it is
+// written in place.
 fn follow<R: Files<File = File> + Alloc<A = Global>>(
     rt: &R,
     name: &str,
