@@ -106,8 +106,8 @@ pub fn cells_pass_through()
         → j < rest → title_of (item_of state.overlap (sub k) (p + j)) ≡ title }
 {}
 
-/// After the first instant of a stretch no reader takes from its buffer. If the instants that its sub-clocks make for it
-/// make no puts or takes, neither does it. `sub` has the slots of each sub-clock, `past` the moments before, and
+/// After the first instant of a stretch no reader takes from its buffer. If the instants that its sub-clocks make for
+/// it make no puts or takes, neither does it. `sub` has the slots of each sub-clock, `past` the moments before, and
 /// `instants` says how long the stretch is.
 pub fn stretches_make_no_calls()
     ensures takes { (setting : Setting) (sub : ℕ → ℕ

@@ -80,15 +80,17 @@ pub fn looked_up()
         → read [] uses chain at ≡ kinds_in (the_use_at at uses) ks }
 {}
 
-/// In a script whose parts have the numbers of their tokens, the search for a def by the token of its name finds that def.
+/// In a script whose parts have the numbers of their tokens, the search for a def by the token of its name finds that
+/// def.
 pub fn found_def()
     ensures found { (i : ℕ) (script : Script) (d : Tree ADef) → IsPlaced i script → IsDefOf script d
         → def_at (def_token d) script ≡ Some d }
 {}
 
 /// A call in a typed script leads to one def, to the statements before it and to a typing of its text there. The def is
-/// the one that the search by `t`, the token of its name, finds. `at` is the token of the call, and `chain` has those of
-/// the calls on the way, the last one first. `defs` says that each def among the entries of a typing is one of its script.
+/// the one that the search by `t`, the token of its name, finds. `at` is the token of the call, and `chain` has those
+/// of the calls on the way, the last one first. `defs` says that each def among the entries of a typing is one of its
+/// script.
 pub fn leads_to()
     ensures leads { (script : Script) (ts : Targets) (kinds : Places) (es : List Entry) (chain : List ℕ) (at t : ℕ)
         (gs : List (GivenArgument Ground)) (g : Ground) → IsPlaced 0 script → AreDefsOf script es
