@@ -190,7 +190,7 @@ impl Places {
         self.beside.iter().any(|output| Some(output.file) == found)
     }
 
-    // Whether an output of this run is to stand in this folder under the name `last`, its temporary file beside it.
+    // Whether an output of this run is to stand in this folder under the name `last`, or stands there.
     fn is_place(&self, folder: FileId, last: &str) -> bool {
         self.beside.iter().any(|output| output.folder == folder
             && split_path(output.path.as_str()).1 == last)

@@ -19,7 +19,7 @@ struct Parts<'a> {
     second: Option<&'a [u8]>,
 }
 
-/// The token of the time at the front, as `5h30`, and the bytes behind it: digits behind hours alone are minutes. The
+/// The token of the time at the front, as `5h30`, and the bytes behind it: digits behind the hours are minutes. The
 /// error says that a part passes its bound.
 #[tactic(auto, unfolding(crate::specs::Reading::time_at), using(crate::proofs::Fronts::digits_front))]
 pub fn time_at(bytes: &[u8]) -> Result<(TokenKind, &[u8]), Refusal>
