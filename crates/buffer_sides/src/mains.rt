@@ -6,7 +6,9 @@ ghost use Rattle.run_records.specs.Buffers.{main_of, main_within};
 use clock_infer::{ClockMap, NodeClock};
 use plan_core::Plan;
 
-/// The main clock to which the clock of a node belongs.
+/// The number of the main clock to which the clock of a node belongs. A node in a crossfade has a sub-clock, so it is
+/// sought from crossfade to crossfade outwards until one has a main clock. The steps are bounded by the count of nodes,
+/// past which it is 0.
 pub fn main_of(plan: &Plan, clocks: &ClockMap, node: u32) -> u32
     ensures { (setting : Setting) → setting.plan ≡ plan.now → setting.clocks ≡ clocks.now.of
         → result ≡ main_of setting node }
@@ -23,7 +25,8 @@ pub fn main_of(plan: &Plan, clocks: &ClockMap, node: u32) -> u32
     main_number(clock)
 }
 
-// The clock of a node.
+// The clock of a node: a main one, or the sub-clock of the crossfade around it; main clock 0 for a node that the map
+// does not have.
 fn clock_at(clocks: &ClockMap, node: u32) -> NodeClock
     ensures { result ≡ slice_index_or clocks.now.of node (NodeClock.Main 0) }
 {

@@ -11,7 +11,8 @@ use liq_base::Memory;
 use plan_core::{Node, Plan, SinkPlan};
 use std::alloc::Global;
 
-/// For each buffer of a plan, by its number, the node that feeds it.
+/// For each buffer of a plan, by its number, the node whose cells are fed into it. It goes from the last sink to the
+/// first, so that of two feeds of a buffer the first stays. The error is want of memory.
 pub fn feeders(alloc: Global, plan: &Plan) -> Result<Vec<u32>, Memory>
     requires { IsWellFormed plan.now }
     ensures size { IfOk result (λ found. length found.items ≡ length plan.now.buffers) }
@@ -39,7 +40,8 @@ fn put_feeder(sink: &SinkPlan, found: &mut [u32])
     }
 }
 
-/// For each buffer of a plan, by its number, the node that reads it.
+/// For each buffer of a plan, by its number, the node that reads it. It goes from the last node to the first, so that
+/// of two readers of a buffer the first stays. The error is want of memory.
 pub fn readers(alloc: Global, plan: &Plan) -> Result<Vec<u32>, Memory>
     requires { IsWellFormed plan.now }
     ensures size { IfOk result (λ found. length found.items ≡ length plan.now.buffers) }

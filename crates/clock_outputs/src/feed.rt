@@ -59,8 +59,9 @@ struct Made<'a> {
     ghost is: { Some chunk ≡ some_list frame.now.cells },
 }
 
-/// Gives the chunk of each feed that has cells to its buffer, in their order. Where memory is refused some of these
-/// gives were made, from the first on. Feeds that heard the same of one node give one chunk.
+/// At the end of a tick: gives the chunk of each feed that has cells to its buffer in `taps`, in their order. Where
+/// memory is refused some of these gives were made, from the first on. Feeds that heard the same of one node share one
+/// chunk.
 pub fn give_all<T: Taps>(alloc: Global, feeds: &[FeedPort], taps: &mut T) -> Result<(), Memory>
     requires { All (λ feed. feed.buffer < T.buffers taps.old) feeds.now }
     ensures buffers { T.buffers taps.new ≡ T.buffers taps.old }
@@ -94,7 +95,8 @@ fn give_each<'a, T: Taps>(
     Ok(())
 }
 
-// Gives the chunk of a feed to its buffer, if the feed has cells. `made` has the chunks of the feeds before.
+// Gives the chunk of a feed to its buffer, if the feed has cells. `made` has the chunks of the feeds before, and gets a
+// new one. Where memory is refused, this feed has given nothing.
 fn give_one<'a, T: Taps>(
     alloc: Global,
     feed: &'a FeedPort,
@@ -122,8 +124,8 @@ fn give_one<'a, T: Taps>(
     }
 }
 
-// The chunk of a feed, or `None` if it has no cells: that of an earlier feed of its node, or a new one, added to
-// `made`.
+// The chunk of a feed, or `None` if it has no cells: a share of that of an earlier feed of its node with the same
+// cells, or of a new one, which is added to `made` for later feeds.
 fn chunk_of_feed<'a>(
     alloc: Global,
     feed: &'a FeedPort,
@@ -146,7 +148,8 @@ fn chunk_of_feed<'a>(
     Ok(Some(again))
 }
 
-// The chunk that an earlier feed of the same node made; `None` if there is none.
+// A share of the chunk in `made` that an earlier feed of the same node made of the same cells; `None` if there is none.
+// The error is want of memory for the share.
 fn shared_chunk(made: &[Made<'_>], feed: &FeedPort) -> Result<Option<Chunk>, Memory>
     ensures { IfOk result (λ found. IfSome found (λ chunk. Some chunk ≡ some_list feed.now.frame.cells)) }
 {

@@ -27,7 +27,7 @@ pub struct Port {
 }
 
 impl Port {
-    // Begins a tick: the output has no bytes yet.
+    // Begins a tick: the output has no bytes yet, and its gaps so far are those before the tick.
     fn begin(&mut self)
         ensures { self.new ≡ emptied self.old }
     {
@@ -60,7 +60,7 @@ impl Port {
         self.piece.add_cells(self.wide, self.kind, left, right);
     }
 
-    // Takes `count` slots without a cell, at least one.
+    // Takes `count` slots without a cell, at least one: zeros are their bytes, and each counts as a gap.
     fn hear_gaps(&mut self, count: usize)
         requires some { 0 < count }
         requires room { HasRoomLeft count self.old }

@@ -28,7 +28,8 @@ pub struct Scope<'a> {
     pub calls: usize,
 }
 
-/// The value of the name that is used at token `at`.
+/// The value of the name that is used at token `at`, copied; its size counts as work in `machine`. The error is
+/// `Stop::Stuck` where the name stands for no binding that has a value, as for a def or a builtin.
 #[tactic(auto, unfolding(eval_meaning::specs::Meaning::named))]
 pub fn named(
     alloc: Global,
@@ -49,7 +50,8 @@ pub fn named(
     }
 }
 
-/// The kinds of a use, where `given` are the open kinds of the def around; `None` where one of these is not there.
+/// The kinds, mono or stereo, that `wanted` says of a use. One that is left open is looked up in `given`, the kinds
+/// with which the def around is called. `None` where one is not there; the error is want of memory.
 pub fn kinds_of(
     alloc: Global,
     given: &[Kind],
@@ -107,7 +109,7 @@ fn slot_value(
 }
 
 // The value of the binding whose name stands at token `at`: first of those of the def around, then of those of
-// statements.
+// statements. `None` if neither has one.
 fn lookup<'a>(scope: &Scope<'a>, at: u32) -> Option<&'a Value>
     ensures { option_map (λ v. view_value v.now) result ≡ value_at_token at (scope_of scope.now).slots }
 {
@@ -117,7 +119,8 @@ fn lookup<'a>(scope: &Scope<'a>, at: u32) -> Option<&'a Value>
     }
 }
 
-/// A kind of a use, where `given` are the open kinds of the def around; `None` where it is not there.
+/// The kind, mono or stereo, that `wanted` says: a fixed one is itself, and an open one is looked up by its number in
+/// `given`, the kinds with which the def around is called. `None` where it is not there.
 fn kind_at(given: &[Kind], wanted: KindOf) -> Option<Kind>
     ensures { result ≡ known_kind given.now wanted }
 {

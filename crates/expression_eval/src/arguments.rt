@@ -54,7 +54,8 @@ fn take_in_turn(
     Ok(())
 }
 
-/// For each parameter the argument that it takes, found by a table of the arguments' labels.
+/// For each parameter the argument of `given` that it takes, or `None`, found by a table of the arguments' labels. It
+/// is for calls of many arguments, where a search for each parameter would take long.
 fn taken_by_table(
     alloc: Global,
     params: &[Param],
@@ -70,7 +71,8 @@ fn taken_by_table(
     Ok(taken)
 }
 
-/// For each parameter the index of the argument that it takes, if it takes one.
+/// For each parameter the index in `given` of the argument that it takes; `None` for one that takes none. No two take
+/// the same.
 fn places_taken(
     alloc: Global,
     params: &[Param],
@@ -86,7 +88,8 @@ fn places_taken(
     Ok(places)
 }
 
-/// Adds to `places` the index of the argument that each of these parameters takes out of the table.
+/// Adds to `places`, for each of these parameters, the index of the argument that it takes, or `None`. It takes it out
+/// of `labels`, the table of the labels that are left, so that no other parameter gets it.
 fn find_places(
     params: &[Param],
     labels: &mut Labels<'_>,
@@ -102,7 +105,8 @@ fn find_places(
     Ok(())
 }
 
-/// Adds to `taken` the values of the arguments at these indexes.
+/// Adds to `taken` the values of the arguments at these indexes, and `None` for each place without one. They are moved
+/// out of `given`, which is why no two indexes may be the same.
 fn take_all(
     places: &[Option<usize>],
     given: &mut [Given],

@@ -20,6 +20,7 @@ use std::alloc::Global;
 /// comparison: sum ((`==` | `!=` | `<` | `<=` | `>` | `>=`) sum)?
 ///
 /// Puts the truth of a comparison into `out`, or the value of a sum alone.
+/// `left` says how many levels deeper it may go. The first fault is put into `out` instead.
 #[cycle(value)]
 pub fn compare(
     alloc: Global,
@@ -45,6 +46,7 @@ pub fn compare(
 /// (`==` | `!=` | `<` | `<=` | `>` | `>=`) sum
 ///
 /// Compares the value in `out`, if it is no fault, with the sum to its right.
+/// `left` says how many levels deeper it may go. A fault that is in `out` stays, and a new one goes there.
 #[cycle(value)]
 #[inline(never)]
 fn compare_with(
@@ -67,6 +69,7 @@ fn compare_with(
 /// sum: product ((`+` | `-`) product)*
 ///
 /// Puts the value of a sum into `out`.
+/// `left` says how many levels deeper it may go. The first fault is put into `out` instead.
 #[cycle(value)]
 fn sum(
     alloc: Global,
@@ -86,6 +89,7 @@ fn sum(
 /// ((`+` | `-`) product)*
 ///
 /// Adds these products to the value in `out`, or takes them from it, one after another.
+/// `left` says how many levels deeper it may go. A fault that is in `out` stays, and a new one goes there.
 #[cycle(value)]
 fn addends(
     alloc: Global,
@@ -109,6 +113,7 @@ fn addends(
 /// (`+` | `-`) product
 ///
 /// Adds this product to the value in `out`, or takes it from it.
+/// `left` says how many levels deeper it may go. A fault that is in `out` stays, and a new one goes there.
 #[cycle(value)]
 #[inline(never)]
 fn added(
@@ -133,6 +138,7 @@ fn added(
 /// product: operand ((`*` | `/`) operand)*
 ///
 /// Puts the value of a product into `out`.
+/// `left` says how many levels deeper it may go. The first fault is put into `out` instead.
 #[cycle(value)]
 fn product(
     alloc: Global,
@@ -152,6 +158,7 @@ fn product(
 /// ((`*` | `/`) operand)*
 ///
 /// Multiplies the value in `out` by these operands, or divides it by them, one after another.
+/// `left` says how many levels deeper it may go. A fault that is in `out` stays, and a new one goes there.
 #[cycle(value)]
 fn factors(
     alloc: Global,
@@ -175,6 +182,7 @@ fn factors(
 /// (`*` | `/`) operand
 ///
 /// Multiplies the value in `out` by this operand, or divides it by it.
+/// `left` says how many levels deeper it may go. A fault that is in `out` stays, and a new one goes there.
 #[cycle(value)]
 #[inline(never)]
 fn multiplied(

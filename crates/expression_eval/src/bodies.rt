@@ -20,6 +20,7 @@ use std::alloc::Global;
 /// def: `def` NameOpen (param (`,` param)*)? `)` `=`? inner* expression `end`
 ///
 /// The result of a def for a call with these arguments.
+/// `left` says how many levels deeper it may go. The error is the first fault.
 #[cycle(value)]
 #[tactic(auto, unfolding(eval_meaning::specs::Meaning::body))]
 pub fn body(
@@ -54,6 +55,7 @@ pub fn body(
 /// param (`,` param)*
 ///
 /// The bindings of the parameters of a def, by the arguments that they take.
+/// `left` says how many levels deeper it may go. The error is the first fault.
 #[cycle(value)]
 fn parameters(
     alloc: Global,
@@ -74,6 +76,7 @@ fn parameters(
 /// param (`,` param)*
 ///
 /// The bindings of parameters, of which each takes the value in `taken` at its place, or else its default.
+/// `left` says how many levels deeper it may go. The error is the first fault.
 #[cycle(value)]
 fn filled_parameters(
     alloc: Global,
@@ -102,6 +105,7 @@ fn filled_parameters(
 /// param: Name | `~` Name | `~` Name `=` value
 ///
 /// The binding of a parameter by the argument that it takes, or else by its default.
+/// `left` says how many levels deeper it may go. The error is the first fault.
 #[cycle(value)]
 #[tactic(auto, unfolding(crate::specs::Parameters::filled))]
 fn parameter(
@@ -128,6 +132,7 @@ fn parameter(
 ///
 /// The binding of a parameter that takes no argument, by its default, which is evaluated in the scope outside of the
 /// def.
+/// `left` says how many levels deeper it may go. The error is the first fault.
 #[cycle(value)]
 #[tactic(auto, unfolding(crate::specs::Parameters::filled))]
 fn missing_parameter(
@@ -164,6 +169,7 @@ fn missing_parameter(
 /// inner*
 ///
 /// Adds the inner bindings of a def to `slots`, each evaluated behind the ones before it.
+/// `left` says how many levels deeper it may go. The error is the first fault.
 #[cycle(value)]
 fn inners(
     alloc: Global,
@@ -187,6 +193,7 @@ fn inners(
 /// inner: binding `;`?
 ///
 /// The binding that an inner binding of a def makes, behind the parameters and the inner bindings in `slots`.
+/// `left` says how many levels deeper it may go. The error is the first fault.
 #[cycle(value)]
 #[tactic(auto, unfolding(eval_meaning::specs::Meaning::inner))]
 fn inner(

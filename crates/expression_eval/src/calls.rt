@@ -26,6 +26,7 @@ use typing_rules::{Target, Use};
 /// call: NameOpen (argument (`,` argument)*)? `)`
 ///
 /// The value of a call, or its first fault.
+/// `left` says how many levels deeper it may go.
 pub fn call(
     alloc: Global,
     scope: &Scope<'_>,
@@ -45,6 +46,7 @@ pub fn call(
 ///
 /// Puts the value of a call into `out`. Its arguments are evaluated as they are written, and then what the name stands
 /// for is called.
+/// `left` says how many levels deeper it may go. The first fault is put into `out` instead.
 #[cycle(value)]
 #[inline(never)]
 pub fn put_call(
@@ -67,6 +69,7 @@ pub fn put_call(
 /// argument (`,` argument)*
 ///
 /// The values of arguments in order, each with its label. `None` at the first fault, which is then in `out`.
+/// `left` says how many levels deeper it may go.
 #[cycle(value)]
 fn arguments(
     alloc: Global,
@@ -90,6 +93,7 @@ fn arguments(
 }
 
 /// Calls what the name at token `at` stands for, and notes the sources that the call makes as its own.
+/// `left` says how many levels deeper it may go. The first fault is put into `out` instead.
 #[cycle(value)]
 #[inline(never)]
 #[tactic(auto, unfolding(eval_meaning::specs::Meaning::applied))]
@@ -117,6 +121,7 @@ fn applied(
 }
 
 /// Calls the def or builtin that a use says, whose name stands at token `at`, and notes no source.
+/// `left` says how many levels deeper it may go. The error is the first fault.
 #[cycle(value)]
 fn applied_to(
     alloc: Global,
@@ -143,6 +148,7 @@ fn applied_to(
 
 /// Calls the def at token `at`, with these open kinds and arguments. Where no more calls may run within each other, it
 /// is refused.
+/// `left` says how many levels deeper it may go. The error is the first fault.
 #[cycle(value)]
 fn call_def(
     alloc: Global,

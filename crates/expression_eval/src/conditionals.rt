@@ -17,6 +17,7 @@ use std::alloc::Global;
 /// if: `if` value `then` value `else` value `end`
 ///
 /// The value of an `if`, or its first fault.
+/// `left` says how many levels deeper it may go.
 pub fn choice(
     alloc: Global,
     scope: &Scope<'_>,
@@ -35,6 +36,7 @@ pub fn choice(
 /// if: `if` value `then` value `else` value `end`
 ///
 /// Puts the value of an `if` into `out`. Of the two branches only the chosen one is evaluated.
+/// `left` says how many levels deeper it may go. The first fault is put into `out` instead.
 #[cycle(value)]
 #[inline(never)]
 pub fn put_choice(

@@ -20,6 +20,7 @@ use std::alloc::Global;
 /// expression: and (`or` and)*
 ///
 /// Puts the value of an expression into `out`.
+/// `left` says how many levels deeper it may go. The first fault is put into `out` instead.
 #[cycle(value)]
 pub fn expr(
     alloc: Global,
@@ -39,6 +40,7 @@ pub fn expr(
 /// (`or` and)*
 ///
 /// Joins these parts to the value in `out` by `or`, one after another.
+/// `left` says how many levels deeper it may go. A fault that is in `out` stays, and a new one goes there.
 #[cycle(value)]
 fn ors(
     alloc: Global,
@@ -62,6 +64,7 @@ fn ors(
 /// `or` and
 ///
 /// Joins this part to the value in `out` by `or`.
+/// `left` says how many levels deeper it may go. A fault that is in `out` stays, and a new one goes there.
 #[cycle(value)]
 #[inline(never)]
 fn or_one(
@@ -83,6 +86,7 @@ fn or_one(
 /// and: not (`and` not)*
 ///
 /// Puts the value of a part of an `or` into `out`.
+/// `left` says how many levels deeper it may go. The first fault is put into `out` instead.
 #[cycle(value)]
 fn conjunction(
     alloc: Global,
@@ -102,6 +106,7 @@ fn conjunction(
 /// (`and` not)*
 ///
 /// Joins these parts to the value in `out` by `and`, one after another.
+/// `left` says how many levels deeper it may go. A fault that is in `out` stays, and a new one goes there.
 #[cycle(value)]
 fn ands(
     alloc: Global,
@@ -125,6 +130,7 @@ fn ands(
 /// `and` not
 ///
 /// Joins this part to the value in `out` by `and`.
+/// `left` says how many levels deeper it may go. A fault that is in `out` stays, and a new one goes there.
 #[cycle(value)]
 #[inline(never)]
 fn and_one(
@@ -146,6 +152,7 @@ fn and_one(
 /// not: `not`? comparison
 ///
 /// Puts the value of a comparison into `out`, or with `not` its opposite.
+/// `left` says how many levels deeper it may go. The first fault is put into `out` instead.
 #[cycle(value)]
 fn negation(
     alloc: Global,

@@ -22,6 +22,7 @@ use std::alloc::Global;
 ///
 /// Puts the value of an operand into `out`. Each arm that goes down ends in its call, so that nothing of this function
 /// is on the stack behind it.
+/// `left` says how many levels deeper it may go. The first fault is put into `out` instead.
 #[cycle(value)]
 pub fn operand(
     alloc: Global,
@@ -68,6 +69,7 @@ pub fn operand(
 ///
 /// Puts what stands in parentheses into `out`, once 1 is counted: no value is the one of `()`, one is itself, and
 /// several are a tuple.
+/// `left` says how many levels deeper it may go. The first fault is put into `out` instead.
 #[cycle(value)]
 #[inline(never)]
 fn grouped(
@@ -91,6 +93,7 @@ fn grouped(
 /// `(` value (`,` value)+ `)`
 ///
 /// Puts a tuple of two or more values into `out`, once 1 is counted.
+/// `left` says how many levels deeper it may go. The first fault is put into `out` instead.
 #[cycle(value)]
 fn pair(
     alloc: Global,
@@ -113,6 +116,7 @@ fn pair(
 /// `[` (value (`,` value)*)? `]`
 ///
 /// Puts a list of values into `out`, once 1 is counted.
+/// `left` says how many levels deeper it may go. The first fault is put into `out` instead.
 #[cycle(value)]
 #[inline(never)]
 fn list(

@@ -56,7 +56,7 @@ fn several_any(alloc: Global, parts: &[PAnd]) -> Result<Pred, Memory>
     Ok(Pred::Any(made))
 }
 
-// The predicate of each of these conjunctions.
+// The predicates of these parts of an `or`, in order; each is itself parts joined by `and`.
 #[cycle(pred)]
 fn each_and(alloc: Global, parts: &[PAnd]) -> Result<Vec<Pred>, Memory>
     ensures { IfOk result (λ made. map view_pred made.items ≡ map (λ a. and_pred (view_pand a)) parts.now) }

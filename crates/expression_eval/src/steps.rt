@@ -141,7 +141,8 @@ pub fn noted(
     }
 }
 
-/// The value that a call at token `at` made. Notes its sources, those from number `before` on.
+/// Notes the sources that a call at token `at` made, those from number `before` on, as its own. Gives the value of the
+/// call back, or a fault.
 fn noted_value(machine: &mut Machine, at: u32, before: usize, value: Value) -> Result<Value, Stop>
     ensures { Gives (λ v. (view_value v, machine.new)) result (noted_value at before (view_value value) machine.old) }
 {
@@ -149,7 +150,8 @@ fn noted_value(machine: &mut Machine, at: u32, before: usize, value: Value) -> R
     Ok(value)
 }
 
-/// Moves the value in `out` to the end of `values`. False where there is none, and then a fault is in `out`.
+/// Moves the value in `out` to the end of `values`. False where there is none, and then a fault is in `out`. Want of
+/// memory is left in `out` behind the value, and is the fault where the list cannot grow.
 #[inline(never)]
 pub fn kept_value(values: &mut Vec<Value>, out: &mut Result<Value, Stop>) -> bool
     ensures { GoesBehind (λ v. v) out.old result (map view_value values.old.items) (map view_value values.new.items)
@@ -164,8 +166,9 @@ pub fn kept_value(values: &mut Vec<Value>, out: &mut Result<Value, Stop>) -> boo
     }
 }
 
-/// Moves the value in `out` to the end of the arguments, with its label. False where there is none, and then a fault is
-/// in `out`.
+/// Moves the value in `out` to the end of the arguments in `given`, with a copy of its label. False where there is
+/// none, and then a fault is in `out`. Want of memory is left in `out` behind the value, and is the fault where the
+/// list cannot grow.
 #[inline(never)]
 pub fn kept_argument(
     alloc: Global,

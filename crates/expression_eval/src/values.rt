@@ -23,6 +23,7 @@ use std::alloc::Global;
 /// value: expression | `-` Int | `-` Number
 ///
 /// The value, or its first fault.
+/// `left` says how many levels deeper it may go.
 #[cycle(value)]
 pub fn full(
     alloc: Global,
@@ -72,6 +73,7 @@ pub fn put_full(
 /// value (`,` value)*
 ///
 /// The values in order. `None` at the first fault, which is then in `out`.
+/// `left` says how many levels deeper it may go.
 #[cycle(value)]
 pub fn fulls(
     alloc: Global,

@@ -38,7 +38,8 @@ impl Blank {
         }
     }
 
-    /// How many cells, from the offered one on and at most `most`, are of its track.
+    /// How many cells, from the offered one on and at most `most`, are of the track that is played: all of `most` in an
+    /// endless one.
     pub fn stretch(&self, most: u32) -> u32
         requires placed { BlankIsPlaced self.now }
         requires some { 0 < most }

@@ -29,7 +29,8 @@ pub struct FilesState {
 }
 
 impl FilesState {
-    /// The files of a node, at the start of the first one.
+    /// The files of a node in a source of this kind, at the start of the first one. `again` says whether they begin
+    /// again after the last one.
     pub fn new(node: u32, again: bool, kind: Kind) -> FilesState
         ensures start { result ≡ record { node = node; again = again; kind = kind; track = 0; at = 0 } }
         ensures placed { (library : Sounds) → IsLibrary library → node < length library.leaves
@@ -58,7 +59,8 @@ impl FilesState {
         }
     }
 
-    /// How many cells, from the offered one on and at most `most`, are of its file.
+    /// How many cells, from the offered one on and at most `most`, are of the file that is played. Past the last file,
+    /// where none is offered, it is `most`.
     pub fn stretch(&self, library: &Library, most: u32) -> u32
         requires placed { FilesArePlacedIn library.now self.now }
         requires some { 0 < most }
@@ -80,7 +82,8 @@ impl FilesState {
         u64::from(most).min(left) as u32
     }
 
-    /// Writes as many cells as the slices are long, which lie in its file, and goes on behind them.
+    /// Writes the samples of both sides of as many cells as the slices are long, and goes on behind them. They lie in
+    /// the file that is played; at its end it goes to the next file.
     pub fn run(&mut self, library: &Library, left: &mut [i16], right: &mut [i16])
         requires placed { FilesArePlacedIn library.now self.old }
         requires same { length right.old ≡ length left.old }
@@ -137,7 +140,8 @@ impl FilesState {
     }
 }
 
-// The file after file `track` of `tracks`: the first where they begin again after the last one.
+// The number of the file after file `track` of `tracks` files, from 0. After the last one it is the first where they
+// begin again, and else `tracks`, which is past the last.
 fn track_after(track: u32, tracks: u32, again: bool) -> u32
     requires { track < tracks }
     ensures { result ≡ (if again && nat_eq (track + 1) tracks then 0 else track + 1) }

@@ -57,7 +57,7 @@ enum Cursor {
 }
 
 impl LeafState {
-    /// A leaf that has given nothing.
+    /// The state of a leaf before its first cell: at the start of its files, its track or its period.
     pub fn new(leaf: Leaf) -> LeafState
         requires { HasRate leaf }
         ensures leaf { leaf_of result ≡ leaf }
@@ -88,7 +88,8 @@ impl LeafState {
         }
     }
 
-    /// How many cells, from the offered one on and at most `most`, are of one track. They have one title.
+    /// How many cells, from the offered one on and at most `most`, are of one track. They have one title. Where nothing
+    /// is offered, it is `most`.
     pub fn stretch(&self, library: &Library, most: u32) -> u32
         requires placed { IsPlacedIn library.now self.now }
         requires some { 0 < most }
@@ -128,7 +129,8 @@ impl LeafState {
         self.stretch(library, most)
     }
 
-    /// Writes as many cells as the slices are long, which are of one track, and goes on behind them.
+    /// Writes the samples of both sides of as many cells as the slices are long, and goes on behind them. They are the
+    /// offered cell and those behind it in its track.
     pub fn run(&mut self, library: &Library, left: &mut [i16], right: &mut [i16])
         requires placed { IsPlacedIn library.now self.old }
         requires same { length right.old ≡ length left.old }

@@ -41,7 +41,8 @@ impl Model for ReaderState {
 
 impl ReaderState {
     /// A reader that holds nothing and does not play, with room for what it may hold of chunks of a tick. It plays once
-    /// it holds `pre` samples, and at least one; `frame` is the samples of a tick.
+    /// it holds `pre` samples, and at least one; `frame` is the samples of a tick. Numbers that are too large for the
+    /// room count as want of memory.
     pub fn new(alloc: Global, pre: u64, frame: u32) -> Result<ReaderState, Memory>
         ensures { IfOk result (λ reader. reader ≡ record {
           cells = [];
@@ -98,7 +99,8 @@ impl ReaderState {
         self.queue.push(chunk);
     }
 
-    /// After the takes of a tick: begins to play if it holds its prefill, and stops if it holds nothing.
+    /// After the takes of a tick: begins to play if it holds its prefill, and stops if it holds nothing. Where it
+    /// begins, the front cell begins a track.
     pub fn begin(&mut self)
         ensures { self.new ≡ begun self.old }
     {
@@ -123,7 +125,8 @@ impl ReaderState {
         Some(Cell { first, ..cell })
     }
 
-    /// How many cells, from the offered one on and at most `most`, are of one track and of one title.
+    /// How many cells, from the offered one on and at most `most`, are of one track and of one title. It is at least 1,
+    /// and means nothing where none is offered.
     pub fn stretch(&self, most: u32) -> u32
         requires some { 0 < most }
         ensures stretch { IsSome (reader_slot self.now)

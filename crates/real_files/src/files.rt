@@ -60,6 +60,8 @@ impl<'a, R: Files<File = File> + Alloc<A = Global>> Shelf for FileShelf<'a, R> {
 
     ghost told = { λ s. counts_alone s.read_faults s.write_faults };
 
+    // Adds the bytes of the file of this name to `into`, if it has at most `most`. With any answer but `Found`, `into`
+    // is as it was. A failure is counted as one of reading; a file that is missing and want of memory are not.
     fn read(&mut self, name: &str, into: &mut Vec<u8>, most: u64) -> Result<Fetched, ShelfFault> {
         let before = into.len();
         let fetched = if self.regular && may_wait(self.rt, name) {
@@ -76,6 +78,9 @@ impl<'a, R: Files<File = File> + Alloc<A = Global>> Shelf for FileShelf<'a, R> {
         fetched
     }
 
+    // Adds the first bytes of the file of this name to `into`: `front` of a longer regular file, and else all.
+    // `Found` has its size, which is at most `most`. With any other answer `into` is as it was.
+    // A failure is counted as one of reading; a file that is missing and want of memory are not.
     fn look(
         &mut self,
         name: &str,
@@ -98,6 +103,8 @@ impl<'a, R: Files<File = File> + Alloc<A = Global>> Shelf for FileShelf<'a, R> {
         looked
     }
 
+    // Opens the file of an output of this name, which is to get `room` bytes. A failure is counted as one of writing;
+    // want of memory is not.
     fn create(&mut self, name: &str, room: u64) -> Result<FileSink<File>, ShelfFault> {
         let created = self.outputs.create(self.rt, name, room);
         if let Err(ShelfFault::Failed) = created {
@@ -106,6 +113,7 @@ impl<'a, R: Files<File = File> + Alloc<A = Global>> Shelf for FileShelf<'a, R> {
         created
     }
 
+    // Closes an output, which is then in its place if it is whole. A failure is counted as one of writing.
     fn close(&mut self, out: FileSink<File>) -> Result<(), Failed> {
         let closed = self.outputs.close(self.rt, out);
         if closed.is_err() {

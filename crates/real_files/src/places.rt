@@ -68,6 +68,7 @@ enum Unmade {
 }
 
 impl From<Unmade> for ShelfFault {
+    // The fault of the shelf where no file was made: whatever the system refused is a failure, want of memory is told.
     fn from(unmade: Unmade) -> ShelfFault {
         match unmade {
             Unmade::Refused(_) => ShelfFault::Failed,
@@ -77,6 +78,7 @@ impl From<Unmade> for ShelfFault {
 }
 
 impl From<AllocError> for Unmade {
+    // Memory that was refused, as for a temporary path, is the cause that no file was made.
     fn from(_error: AllocError) -> Unmade {
         Unmade::Memory
     }
@@ -92,7 +94,8 @@ impl Places {
     }
 
     /// Opens the file of an output of this name, which is to get `room` bytes. It fails where an output of this run has
-    /// this real file already, under whatever name, and where the report goes into it.
+    /// this real file already, under whatever name, and where the report goes into it. If a temporary file of this run
+    /// has the name, that file is moved away first.
     pub fn create<R: Files<File = File> + Alloc<A = Global>>(
         &mut self,
         rt: &R,
@@ -127,7 +130,8 @@ impl Places {
     }
 
     // Puts the temporary file of an output in its place, and has the system make certain that it stays there. A
-    // temporary file that is no longer there, or is not the file that was made, is left alone.
+    // temporary file that is no longer there, or is not the file that was made, is left alone. An output that was
+    // written in place has none, and it is `Ok`.
     fn put<R: Files<File = File>>(&self, rt: &R, certain: Certain<File>) -> Result<(), Failed> {
         let Place::Beside(at) = certain.place() else {
             return Ok(());
@@ -149,7 +153,7 @@ impl Places {
 
     // Renames the temporary file of an output, all of whose bytes are certain, and answers its folder. No file takes
     // the place of another output of this run. The handle is given back before the folder is opened, so that a closing
-    // needs no handle more.
+    // needs no handle more. With `Err` nothing was renamed.
     fn replace<R: Files<File = File>>(
         &self,
         rt: &R,
@@ -181,12 +185,12 @@ impl Places {
         }
     }
 
-    // Whether this is a file that this run made for an output.
+    // Whether `found` is a file that this run made for an output; `None`, where nothing was found, is none.
     fn is_made(&self, found: Option<FileId>) -> bool {
         self.beside.iter().any(|output| Some(output.file) == found)
     }
 
-    // Whether an output of this run is to stand in this folder under this name.
+    // Whether an output of this run is to stand in this folder under the name `last`, or stands there.
     fn is_place(&self, folder: FileId, last: &str) -> bool {
         self.beside.iter().any(|output| output.folder == folder
             && split_path(output.path.as_str()).1 == last)
@@ -216,8 +220,8 @@ impl Places {
         Ok(())
     }
 
-    // Moves the temporary file of output `at` to the next name that is free, and answers that name; nothing where it is
-    // not there.
+    // Moves the temporary file of output `at` to the next name that is free, and answers its new path; nothing where it
+    // is not there. An empty file is made under that name first, so that the move overwrites no other file.
     fn moved<R: Files<File = File> + Alloc<A = Global>>(
         &self,
         rt: &R,
@@ -244,7 +248,8 @@ impl Places {
     }
 
     // Opens the file of an output at this path, which is no link and where `old` was found: beside the path where that
-    // can be.
+    // can be, and else in place. It fails where the path names no file in a folder, or is the place of another output.
+    // `room` is how many bytes the output is to get.
     fn create_file<R: Files<File = File> + Alloc<A = Global>>(
         &mut self,
         rt: &R,
@@ -278,7 +283,8 @@ impl Places {
     }
 
     // Opens an output at whose path an old file stands, and beside which a file was made: `made` if it may take the
-    // place of `old`, and else `old` itself.
+    // place of `old`, and else `old` itself. `folder` is what the system tells of the folder of both.
+    // Where `made` is not used, it is removed.
     fn open_beside<R: Files<File = File> + Alloc<A = Global>>(
         &mut self,
         rt: &R,
@@ -390,7 +396,9 @@ impl Places {
         }
     }
 
-    // Opens what was found at the path of an output, to be written in place.
+    // Opens what was found at the path of an output, to be written in place; it gets `room` bytes.
+    // It fails where an output of this run is written into it already. A regular file is emptied.
+    // Of anything else, as a pipe, nothing is emptied, and its sink keeps no bytes back.
     fn open_in_place<R: Files<File = File> + Alloc<A = Global>>(
         &mut self,
         rt: &R,
@@ -424,7 +432,8 @@ impl Places {
         }
     }
 
-    // Makes a file of this mode beside a path, under the first temporary name at which nothing stands.
+    // Makes a file of this mode beside a path, under the first temporary name at which nothing stands. `folder` is the
+    // folder of the path.
     fn make_temporary<R: Files<File = File> + Alloc<A = Global>>(
         &self,
         rt: &R,
@@ -440,7 +449,9 @@ impl Places {
         Ok(Made { temporary, file })
     }
 
-    // What a call makes under the first temporary name beside a path at which nothing stands, and which no output has.
+    // Calls `make` with the path of one temporary name after another beside a path, until nothing stands there.
+    // It answers that path and what was made. Names that an output has in `folder`, the path's, are passed over.
+    // Any other fault of `make` ends the search, and is the error.
     fn at_free_name<R: Alloc<A = Global>, T, F: Fn(&str) -> io::Result<T>>(
         &self,
         rt: &R,
@@ -479,7 +490,8 @@ fn is_refusal(kind: ErrorKind) -> bool {
     )
 }
 
-// What stands at the name of an output. A link that leads to no file yet gets an empty one.
+// What stands at the name of an output: a file or nothing, by its path, or something else.
+// A link that leads to no file yet gets an empty one. It fails where the output may not be written there.
 fn find<R: Files<File = File> + Alloc<A = Global>>(
     rt: &R,
     name: &str,
@@ -501,7 +513,8 @@ fn find<R: Files<File = File> + Alloc<A = Global>>(
     }
 }
 
-// What stands at the name of an output, where this was found.
+// What stands at the name of an output, where `found` is what the system tells of it, behind links.
+// It fails for a file into which the report goes, and for one that may not be written.
 fn identify<R: Files<File = File> + Alloc<A = Global>>(
     rt: &R,
     name: &str,
@@ -520,8 +533,9 @@ fn identify<R: Files<File = File> + Alloc<A = Global>>(
     }
 }
 
-// What stands at the name of an output that is a link to a file: the file by its own path, beside which it is written;
-// or one that is written in place, since no path of ours names it, as one that is too long or no UTF-8.
+// What stands at the name of an output that is a link to a file, of which the system tells `found`: the file by its own
+// path, beside which the output is written. Where no path of ours names it, as one that is too long or no UTF-8, it is
+// written in place.
 fn follow<R: Files<File = File> + Alloc<A = Global>>(
     rt: &R,
     name: &str,

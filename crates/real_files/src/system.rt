@@ -23,12 +23,14 @@ const REPORT: &str = "/dev/stdout";
 pub(crate) struct Unseen;
 
 impl From<Unseen> for ShelfFault {
+    // A look that the system did not allow is a failure of the shelf.
     fn from(_unseen: Unseen) -> ShelfFault {
         ShelfFault::Failed
     }
 }
 
 impl From<Unseen> for Failed {
+    // A look that the system did not allow is a failure of what needed it.
     fn from(_unseen: Unseen) -> Failed {
         Failed
     }
@@ -60,7 +62,8 @@ impl FileId {
         FileId::seen(fs::symlink_metadata(rt, path))
     }
 
-    // The identity of the file that a look at a path found; nothing where none is there.
+    // The identity of the file that a look at a path found; nothing where none is there. Where the look failed for
+    // another cause, it is not known, and that is the error.
     fn seen(looked: io::Result<Metadata>) -> Result<Option<FileId>, Unseen> {
         match looked {
             Ok(found) => Ok(Some(FileId::of(&found))),
@@ -78,7 +81,7 @@ pub(crate) fn takes_report<R: Files<File = File>>(
     Ok(found.is_file() && FileId::at(rt, REPORT)? == Some(FileId::of(found)))
 }
 
-/// Whether the file at this path may be written.
+/// Whether the file at this path may be written: it is opened for that and left as it is.
 pub(crate) fn is_writable<R: Files<File = File>>(rt: &R, path: &str) -> bool {
     OpenOptions::new().write(true).open(rt, path).is_ok()
 }
@@ -136,7 +139,7 @@ pub(crate) struct Folder {
 }
 
 impl Folder {
-    /// Opens the folder at this path, where this user may read it.
+    /// Opens the folder at this path. One that this user may not read is no failure: then nothing is opened.
     pub fn open<R: Files<File = File>>(rt: &R, path: &str) -> Result<Folder, Failed> {
         match File::open(rt, path) {
             Ok(opened) => Ok(Folder {
@@ -149,7 +152,8 @@ impl Folder {
         }
     }
 
-    /// Has the system make the folder's names certain.
+    /// Has the system make the folder's names certain, so that a renamed file stays. Where nothing was opened, it is
+    /// `Ok` and nothing is asked.
     pub fn sync(self) -> Result<(), Failed> {
         let Some(mut opened) = self.opened else {
             return Ok(());

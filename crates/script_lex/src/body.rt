@@ -17,7 +17,9 @@ pub enum BodyEnd {
     Cut,
 }
 
-/// Why the bytes of a text with this quote stop, and the bytes from there on. `bytes` begins behind the opening quote.
+/// Why the bytes of a text with this quote stop, and the bytes from there on: from the closing quote, or from the byte
+/// that may not stand there or its backslash, or those left where the script ends. `bytes` begins behind the opening
+/// quote.
 pub fn body_end(quote: u8, bytes: &[u8]) -> (BodyEnd, &[u8])
     ensures stop { (result.0, result.1.now) ≡ body_end quote bytes.now }
     ensures shorter { length result.1.now ≤ length bytes.now }
@@ -46,7 +48,8 @@ pub fn body_end(quote: u8, bytes: &[u8]) -> (BodyEnd, &[u8])
     (BodyEnd::Cut, rest)
 }
 
-/// The characters that the bytes of a text stand for: each escape is the character behind its backslash.
+/// The characters, as bytes, that the bytes between the quotes of a text stand for: an escape is the byte behind its
+/// backslash.
 pub fn unescaped(alloc: Global, body: &[u8]) -> Result<Vec<u8>, Memory>
     ensures { IfOk result (λ v. v.items ≡ unescaped body.now) }
 {

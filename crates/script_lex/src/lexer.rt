@@ -40,7 +40,8 @@ pub fn lex(alloc: Global, text: &[u8]) -> Result<Vec<Token>, LexFault>
     }
 }
 
-/// The tokens of a script as far as they go, and the fault that stands behind them, if the script has no tokens.
+/// The tokens of a script as far as they go, and the fault that stands behind them; `None` if they go to the end. A
+/// script that is too long has no tokens here. The error is want of memory alone.
 pub fn lex_front(alloc: Global, text: &[u8]) -> Result<(Vec<Token>, Option<LexFault>), Memory>
     ensures { IfOk result (λ front. IsFront text.now front.0.items front.1) }
 {
@@ -83,7 +84,8 @@ fn place(text: &[u8], rest: &[u8]) -> u32
     (text.len() - rest.len()) as u32
 }
 
-// The fault that a refusal is in a text of `total` bytes, with its place from the text's start.
+// The fault that a refusal is in a text of `total` bytes. A refusal counts the bytes from its place to the end, and the
+// fault those from the text's start to there.
 fn told_as(total: usize, refusal: Refusal) -> LexFault
     requires within { left_of refusal ≤ total }
     requires small { total ≤ MAX_SCRIPT_BYTES }
@@ -97,7 +99,7 @@ fn told_as(total: usize, refusal: Refusal) -> LexFault
     }
 }
 
-// The tokens of a text that is not too long.
+// The tokens of a text that is not too long, or why the first one that cannot be read is none.
 fn tokens(alloc: Global, text: &[u8]) -> Result<Vec<Token>, Refusal>
     requires { length text.now ≤ MAX_SCRIPT_BYTES }
     ensures tokens { IfOk result (λ v. Runs text.now v.items None) }
@@ -109,7 +111,8 @@ fn tokens(alloc: Global, text: &[u8]) -> Result<Vec<Token>, Refusal>
     Ok(made)
 }
 
-// Adds the tokens of a text that is not too long, as far as they go, to an empty list.
+// Adds the tokens of a text that is not too long, as far as they go, to `made`, which is empty. The error says why they
+// go no further.
 fn read_tokens(alloc: Global, text: &[u8], made: &mut Vec<Token>) -> Result<(), Refusal>
     requires small { length text.now ≤ MAX_SCRIPT_BYTES }
     requires empty { made.old.items ≡ [] }

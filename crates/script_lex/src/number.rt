@@ -11,7 +11,8 @@ use crate::time::time_at;
 use crate::token::TokenKind;
 use fixed_text::{Decimal, value_up_to};
 
-/// The number or time at the front, whose first digit was seen, and the bytes behind it.
+/// The token of the number or time at the front, whose first digit was seen, and the bytes behind it. The error says
+/// that it passes its bound.
 #[tactic(auto, unfolding(crate::specs::Reading::number_at), using(crate::proofs::Fronts::digits_front))]
 pub fn number_at(bytes: &[u8]) -> Result<(TokenKind, &[u8]), Refusal>
     ensures within { IfErr result (λ e. left_of e ≤ length bytes.now) }

@@ -17,6 +17,7 @@ pub enum Refusal {
 impl From<Memory> for Refusal {
     ghost from_gives = { λ _ e. e ≡ refusals.Memory };
 
+    // Refused memory is the cause that no token is read.
     fn from(_refused: Memory) -> Refusal {
         Refusal::Memory
     }
@@ -25,6 +26,7 @@ impl From<Memory> for Refusal {
 impl From<AllocError> for Refusal {
     ghost from_gives = { λ _ e. e ≡ refusals.Memory };
 
+    // An allocation that failed is want of memory, and the cause that no token is read.
     fn from(_refused: AllocError) -> Refusal {
         Refusal::Memory
     }
@@ -33,6 +35,7 @@ impl From<AllocError> for Refusal {
 impl<T: Drop> From<AllocFailed<T>> for Refusal {
     ghost from_gives = { λ _ e. e ≡ refusals.Memory };
 
+    // A value for which there was no memory is dropped: want of memory is the cause that no token is read.
     fn from(_refused: AllocFailed<T>) -> Refusal {
         Refusal::Memory
     }

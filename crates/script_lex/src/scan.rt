@@ -16,7 +16,8 @@ use liq_base::limits::MAX_SCRIPT_BYTES;
 use liq_base::{Memory, Text};
 use std::alloc::Global;
 
-/// The token at the front of `bytes`, and the bytes behind it.
+/// The token at the front of `bytes`, the rest of a script, and the bytes behind it. The error is why none is read
+/// there, with the count of bytes from the fault to the end.
 #[tactic(auto, unfolding(crate::specs::Reading::shape_at))]
 pub fn token_at(alloc: Global, bytes: &[u8]) -> Result<(TokenKind, &[u8]), Refusal>
     requires { length bytes.now ≤ MAX_SCRIPT_BYTES }
@@ -39,7 +40,7 @@ pub fn token_at(alloc: Global, bytes: &[u8]) -> Result<(TokenKind, &[u8]), Refus
     }
 }
 
-// Bytes that are UTF-8 as a text of the program, without a copy.
+// Bytes that are UTF-8 as a text of the program, without a copy: the list itself is held.
 fn held(bytes: Vec<u8>) -> Text
     requires { IsUtf8 bytes.items }
     ensures { result ≡ bytes.items }
@@ -74,7 +75,8 @@ fn text_from<'a>(
     }
 }
 
-// The text whose opening quote stands before these bytes, and the bytes behind its closing quote.
+// The token of a text whose opening quote, `quote`, stands before these bytes, and the bytes behind its closing quote.
+// A byte between the quotes that is no UTF-8 is the fault, however the text ends.
 fn text_at(alloc: Global, quote: u8, bytes: &[u8]) -> Result<(TokenKind, &[u8]), Refusal>
     requires quote { is_quote quote ≡ true }
     requires small { length bytes.now < MAX_SCRIPT_BYTES }

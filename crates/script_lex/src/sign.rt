@@ -8,7 +8,8 @@ ghost use Rattle.script_lex.specs.Gives.{Gives, left_of};
 use crate::refusal::Refusal;
 use crate::token::{Symbol, TokenKind};
 
-/// The symbol or `%wav` at the front of `bytes`, which are `first` and then `after`; and what is behind it.
+/// The token of the symbol or `%wav` at the front of `bytes`, which are `first` and then `after`; and the bytes behind
+/// it. Where neither stands there, the error says that `first` begins no token.
 pub fn sign_at<'a>(
     first: u8,
     after: &'a [u8],

@@ -19,7 +19,8 @@ struct Parts<'a> {
     second: Option<&'a [u8]>,
 }
 
-/// The time at the front, and the bytes behind it.
+/// The token of the time at the front, as `5h30`, and the bytes behind it: digits behind the hours are minutes. The
+/// error says that a part passes its bound.
 #[tactic(auto, unfolding(crate::specs::Reading::time_at), using(crate::proofs::Fronts::digits_front))]
 pub fn time_at(bytes: &[u8]) -> Result<(TokenKind, &[u8]), Refusal>
     ensures within { IfErr result (λ e. left_of e ≤ length bytes.now) }
@@ -45,7 +46,8 @@ pub fn time_at(bytes: &[u8]) -> Result<(TokenKind, &[u8]), Refusal>
     }
 }
 
-// The digits of the part of a time with this unit, if it stands at the front, and the bytes behind it.
+// The digits of the part of a time with this unit, as `h`, if it stands at the front, and the bytes behind the unit. If
+// not, it is `None` and all bytes.
 #[tactic(auto, unfolding(crate::specs::Reading::part_at), using(crate::proofs::Fronts::digits_front))]
 fn part_at(unit: u8, bytes: &[u8]) -> (Option<&[u8]>, &[u8])
     ensures part { (digits_in result.0, result.1.now) ≡ part_at unit bytes.now }

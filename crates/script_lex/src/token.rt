@@ -136,6 +136,7 @@ pub enum LexFault {
 impl From<Memory> for LexFault {
     ghost from_gives = { λ _ e. e ≡ faults.Memory };
 
+    // Refused memory is told in place of the tokens.
     fn from(_refused: Memory) -> LexFault {
         LexFault::Memory
     }
@@ -144,6 +145,7 @@ impl From<Memory> for LexFault {
 impl From<AllocError> for LexFault {
     ghost from_gives = { λ _ e. e ≡ faults.Memory };
 
+    // An allocation that failed is want of memory, and told in place of the tokens.
     fn from(_refused: AllocError) -> LexFault {
         LexFault::Memory
     }
@@ -152,6 +154,7 @@ impl From<AllocError> for LexFault {
 impl<T: Drop> From<AllocFailed<T>> for LexFault {
     ghost from_gives = { λ _ e. e ≡ faults.Memory };
 
+    // A value for which there was no memory is dropped: want of memory is told in place of the tokens.
     fn from(_refused: AllocFailed<T>) -> LexFault {
         LexFault::Memory
     }

@@ -18,7 +18,8 @@ pub fn copied(alloc: Global, bytes: &[u8]) -> Result<Text, Memory>
     Text::from_str(alloc, unsafe { str::from_utf8_unchecked(bytes) })
 }
 
-/// The word at the front, whose first letter was seen, and the bytes behind it.
+/// The token of the word at the front, whose first letter was seen, and the bytes behind it: a keyword, or a name, with
+/// a `(` directly behind it if there is one. The error is want of memory alone.
 #[tactic(auto, unfolding(crate::specs::Reading::word_at), using(crate::proofs::Ascii::name_utf8))]
 pub fn word_at(alloc: Global, bytes: &[u8]) -> Result<(TokenKind, &[u8]), Refusal>
     ensures within { IfErr result (λ e. left_of e ≤ length bytes.now) }

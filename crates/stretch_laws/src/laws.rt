@@ -20,6 +20,7 @@ ghost use Rattle.stretch_laws.specs.Stretches.{AreFilled, AreQuiet, IsLike, IsOn
 
 /// Over a stretch the demands, the picks of demanded nodes and who offers are those of its first instant, and no node
 /// that gives begins a track after that. What a node goes by of the past counts on.
+/// `sub` has the slots of each sub-clock, `past` the moments before, and `instants` says how long the stretch is.
 pub fn stretches_stay_alike()
     ensures like { (setting : Setting) (sub : ℕ → ℕ
         → List TheSlot) (clock : NodeClock) (past : List Moment) (instants j : ℕ)
@@ -34,6 +35,7 @@ pub fn stretches_stay_alike()
 
 /// What a node that gives offers over a stretch: a leaf its next cells, a crossfade its next items, a reader its next
 /// cells, a node that chooses the cells of one child, and a mix what it makes of those of its children.
+/// `over` is the node with its number `i` and the stretch, and `j` counts instants from the first.
 pub fn stretches_have_lanes()
     ensures played { (over : NodeOver) (leaf : TheLeaf) (j : ℕ)
         → work_over over ≡ Plays leaf → j < over.instants → gives_over over ≡ true
@@ -54,6 +56,7 @@ pub fn stretches_have_lanes()
 {}
 
 /// Over a stretch, which is a row of instants behind whose first nothing begins, a node that gives keeps its title.
+/// `sub` has the slots of each sub-clock, `past` the moments before, and `instants` says how long the stretch is.
 pub fn stretches_keep_titles()
     ensures { (setting : Setting) (sub : ℕ → ℕ → List TheSlot) (clock : NodeClock) (past : List Moment)
         (instants i j : ℕ)
@@ -63,6 +66,7 @@ pub fn stretches_keep_titles()
 {}
 
 /// Over a stretch of a sub-clock, after its first instant, its crossfade is filled cells of one track and of one title.
+/// `sub` has the slots of each sub-clock. The stretch is of sub-clock `k`, and begins behind its `first` instants.
 pub fn sub_clocks_give_cells()
     ensures { (setting : Setting) (sub : ℕ → ℕ → List TheSlot) (k first instants n many : ℕ)
         → AreNodes setting.plan.nodes → IsMeaning setting sub
@@ -77,7 +81,8 @@ pub fn sub_clocks_give_cells()
 {}
 
 /// Where cells pass through a crossfade, each of its next items takes one slot more, and begins no track. They have the
-/// titles of the cells that are held, and after these of those that are filled.
+/// titles of the cells that are held, and after these of those that are filled. `state` is the crossfade's after `n`
+/// slots and `p` items, `many` slots are filled behind, and `below` is their title.
 pub fn cells_pass_through()
     ensures run { (setting : Setting) (sub : ℕ → ℕ → List TheSlot) (k n many p j below : ℕ) (state : Crossing)
         → ((m : ℕ) → length (sub k m) ≡ m)
@@ -101,8 +106,9 @@ pub fn cells_pass_through()
         → j < rest → title_of (item_of state.overlap (sub k) (p + j)) ≡ title }
 {}
 
-/// After the first instant of a stretch no reader takes; and where the instants that its sub-clocks make for it make no
-/// calls, it makes none.
+/// After the first instant of a stretch no reader takes from its buffer. If the instants that its sub-clocks make for
+/// it make no puts or takes, neither does it. `sub` has the slots of each sub-clock, `past` the moments before, and
+/// `instants` says how long the stretch is.
 pub fn stretches_make_no_calls()
     ensures takes { (setting : Setting) (sub : ℕ → ℕ
         → List TheSlot) (clock : NodeClock) (past : List Moment) (instants i : ℕ)

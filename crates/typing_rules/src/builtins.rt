@@ -86,7 +86,7 @@ pub fn builtin_row(builtin: Builtin) -> &'static Row
     &ROWS[builtin as usize]
 }
 
-/// The builtin of this name. It takes no memory.
+/// The builtin of this name, as a script writes it; `None` if no builtin has it. It takes no memory.
 pub fn builtin_named(name: &str) -> Option<Builtin>
     ensures same { result ≡ the_builtin_named name.now }
 {

@@ -29,7 +29,8 @@ pub fn one_fault()
         → (f ≡ fault.Memory) ⊎ ((g ≡ fault.Memory) ⊎ (f ≡ g)) }
 {}
 
-/// If the first statements of a script have a typing, so have fewer of them.
+/// If the first statements of a script have a typing, so have fewer of them: the first `n` of a typed script, and
+/// the first `n` where the first `k` have one.
 pub fn fewer_statements()
     ensures first { (n : ℕ) (ts : Targets) (kinds : Places) (script : Script) (es fs : List Entry)
         → IsTypedTo ts kinds es script fs → (gs : List Entry) × IsTypedTo ts kinds es (first_of n script) gs }
@@ -37,7 +38,9 @@ pub fn fewer_statements()
         → HasTyping ts (first_of n script) }
 {}
 
-/// A call of the newest def is a typing of its text in its environment.
+/// A law in both directions: a call of the newest def gives `g` exactly if its text has a typing with result `g`.
+/// `gs` are the types of the arguments, and `us` those that the parameters take of them.
+/// The text is read behind this call, at token `at`, and behind the calls of `chain` that lead to it.
 pub fn newest_call()
     ensures typed { (ts : Targets) (kinds : Places) (es : List Entry) (d : Tree ADef) (chain : List ℕ) (at : ℕ)
         (gs : List (GivenArgument Ground)) (g : Ground)
@@ -49,7 +52,9 @@ pub fn newest_call()
         → calls_behind ts kinds (function d ∷ es) chain at (def_token d) gs g }
 {}
 
-/// The text of a def behind a chain of calls is its text by itself, with the places renamed.
+/// A law in both directions: the text of def `d` has the same types behind a chain of calls as by itself.
+/// `chain` has the tokens of the calls, the last one first. By itself the text has an empty chain, and each place of
+/// `kinds` is read behind `chain` instead.
 pub fn text_behind()
     ensures alone { (ts : Targets) (kinds : Places) (es : List Entry) (chain : List ℕ) (d : Tree ADef)
         (us : List Ground) (g : Ground) → DefHas (sight ts kinds es chain) d us g
@@ -59,28 +64,33 @@ pub fn text_behind()
         → DefHas (sight ts kinds es chain) d us g }
 {}
 
-/// Uses that are read behind a chain of calls are read from the kinds that the chain gives.
+/// `around` gives the open kinds of the text to which a chain of calls leads, the last call first.
+/// If the calls of `chain` lead to the kinds `inside`, the further calls of `c` are read from `inside` alone.
 pub fn read_behind()
     ensures same { (given inside : List a_kind) (uses : List a_use) (chain : List ℕ)
         → around given uses chain ≡ Some inside → (c : List ℕ) → around given uses (c ++ chain) ≡ around inside uses c }
 {}
 
-/// What evaluation looks up by a token is what typing reads: the target of a use, and its kinds in a scope of these
-/// kinds.
+/// A law for evaluation: the use that it finds at token `at` says what typing says of the name there.
+/// Its target is the one that typing has. Its kinds are those that typing reads behind `chain`, the calls on the way
+/// with the last one first, if these calls give the text around the name the open kinds `ks`.
 pub fn looked_up()
     ensures target { (uses : List a_use) (at : ℕ) → target_said (the_use_at at uses) ≡ target_at uses at }
     ensures kinds { (uses : List a_use) (ks : List a_kind) (chain : List ℕ) (at : ℕ) → around [] uses chain ≡ Some ks
         → read [] uses chain at ≡ kinds_in (the_use_at at uses) ks }
 {}
 
-/// The search for a def by the token of its name finds that def.
+/// In a script whose parts have the numbers of their tokens, the search for a def by the token of its name finds that
+/// def.
 pub fn found_def()
     ensures found { (i : ℕ) (script : Script) (d : Tree ADef) → IsPlaced i script → IsDefOf script d
         → def_at (def_token d) script ≡ Some d }
 {}
 
-/// A call in a typed script leads to one def, to what stood before it and to a typing of its text there; the def is
-/// what the search by its token finds.
+/// A call in a typed script leads to one def, to the statements before it and to a typing of its text there. The def is
+/// the one that the search by `t`, the token of its name, finds. `at` is the token of the call, and `chain` has those
+/// of the calls on the way, the last one first. `defs` says that each def among the entries of a typing is one of its
+/// script.
 pub fn leads_to()
     ensures leads { (script : Script) (ts : Targets) (kinds : Places) (es : List Entry) (chain : List ℕ) (at t : ℕ)
         (gs : List (GivenArgument Ground)) (g : Ground) → IsPlaced 0 script → AreDefsOf script es

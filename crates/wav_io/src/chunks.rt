@@ -20,7 +20,8 @@ pub struct Chunk {
     pub place: usize,
 }
 
-/// The first `fmt ` chunk of the file, unless a `data` chunk stands before it.
+/// The first `fmt ` chunk of a file, which says the form of the samples. `None` if there is none, or if a `data` chunk
+/// stands before it.
 pub fn find_format(bytes: &[u8]) -> Option<Chunk>
     ensures first { result ≡ format_chunk (chunks_of bytes.now) }
     ensures there { IfSome result (λ chunk. chunk.place + 8 ≤ length bytes.now) }
@@ -38,7 +39,7 @@ pub fn find_format(bytes: &[u8]) -> Option<Chunk>
     None
 }
 
-/// The first `data` chunk of the file.
+/// The first `data` chunk of a file, which holds its samples; `None` if there is none.
 pub fn find_data(bytes: &[u8]) -> Option<Chunk>
     ensures first { result ≡ first_named (codes "data") (chunks_of bytes.now) }
     ensures there { IfSome result (λ chunk. chunk.place + 8 ≤ length bytes.now) }
@@ -53,7 +54,7 @@ pub fn find_data(bytes: &[u8]) -> Option<Chunk>
     None
 }
 
-/// The bytes of a chunk's body that stand in the file.
+/// The bytes of a chunk's body that stand in the file: fewer than its size field states where the file is cut.
 pub fn chunk_body<'a>(bytes: &'a [u8], chunk: &Chunk) -> &'a [u8]
     requires { chunk.now.place + 8 ≤ length bytes.now }
     ensures { result.now ≡ body_of bytes.now chunk.now }
@@ -63,7 +64,8 @@ pub fn chunk_body<'a>(bytes: &'a [u8], chunk: &Chunk) -> &'a [u8]
     &rest[..size]
 }
 
-/// The chunk whose first byte is at `place`, if its name and its size stand in the file.
+/// The chunk whose first byte is at `place` of the file; `None` if the file ends before its name and its size do. Its
+/// body may be cut.
 fn read_chunk(bytes: &[u8], place: usize) -> Option<Chunk>
     requires { place + 8 < 2 ^ 64 }
     ensures { SomeIff result (place + 8 ≤ length bytes.now) (chunk_at bytes.now place) }

@@ -33,7 +33,8 @@ pub struct Format {
     pub wide: bool,
 }
 
-/// The format that the body of a `fmt ` chunk of this size gives.
+/// The format that the body of a `fmt ` chunk gives, whose size field states `size`. The fault is `NotPcm` for samples
+/// of another form, and `BadFormat` for a body that is cut or contradicts itself.
 pub fn read_format(body: &[u8], size: u32) -> Result<Format, WavFault>
     ensures { result ≡ format_in body.now size }
 {
@@ -96,8 +97,9 @@ fn kind_from(channels: u16) -> Option<Kind>
     }
 }
 
-/// The format of this kind and rate, if there is a kind, the rate is above 0, and a block of `block` bytes is one
-/// sample for each channel.
+/// The format of these fields if they fit each other: there is a kind, the rate is above 0, and a block of `block`
+/// bytes is one sample for each channel, of 24 bits where it is wide, and else of 16. Otherwise the fault is
+/// `BadFormat`.
 fn checked(wide: bool, kind: Option<Kind>, rate: u32, block: u16) -> Result<Format, WavFault>
     ensures { result ≡ checked_format wide kind rate block }
 {

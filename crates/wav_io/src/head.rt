@@ -32,8 +32,9 @@ pub struct Head {
     pub size: u64,
 }
 
-/// The head of a file of `size` bytes that begins with these, or its fault, as `read_wav` tells them of the whole file;
-/// `None` where these bytes do not tell. They do where the head of a `data` chunk is among them. It takes no memory.
+/// The head of a file of `size` bytes that begins with `front`, as `read_wav` would tell it of the whole file. The
+/// inner error is the fault for which that file is no WAV file to be played. `None` where `front` does not tell either;
+/// it does where the head of a `data` chunk is in it. It takes no memory.
 pub fn read_head(front: &[u8], size: u64) -> Option<Result<Head, WavFault>>
     ensures told { IfSome result (λ told. IsToldBy front.now size told) }
     ensures tells { IsSome (first_named (codes "data") (chunks_of front.now)) → IsSome result }
@@ -51,7 +52,7 @@ pub fn read_head(front: &[u8], size: u64) -> Option<Result<Head, WavFault>>
     Some(head_before(front, size, &data))
 }
 
-/// The head of the file that these bytes are. It takes no memory.
+/// The head of the file that these bytes are, whole, or its fault. It takes no memory.
 pub fn head_of(bytes: &[u8]) -> Result<Head, WavFault>
     ensures { IsToldOf bytes.now result }
 {
@@ -91,7 +92,8 @@ fn head_before(front: &[u8], size: u64, data: &Chunk) -> Result<Head, WavFault>
     })
 }
 
-/// How many bytes the whole blocks have that a data chunk holds in a file of `size` bytes.
+/// How many bytes the whole blocks have that a data chunk holds in a file of `size` bytes: the end of the file may cut
+/// the chunk. A block is one sample of each channel, of 24 bits where it is wide, and else of 16.
 fn held_blocks(wide: bool, kind: Kind, size: u64, data: &Chunk) -> u64
     requires { data.now.place + 8 ≤ size }
     ensures { result ≡ blocks_size wide kind size data.now }

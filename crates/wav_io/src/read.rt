@@ -70,7 +70,8 @@ pub(crate) fn is_riff(bytes: &[u8]) -> bool
     bytes.len() >= 12 && &bytes[..4] == b"RIFF".as_slice() && &bytes[8..12] == b"WAVE".as_slice()
 }
 
-/// The whole blocks at the front of a body.
+/// The whole blocks at the front of the body of a `data` chunk; bytes of a cut block behind them are left out. A block
+/// is one sample of each channel, of 24 bits where it is wide, and else of 16.
 fn cut_blocks(wide: bool, kind: Kind, body: &[u8]) -> &[u8]
     ensures cut { result.now ≡ whole_blocks wide kind body.now }
     ensures blocks { 0 < length result.now → AreBlocks wide kind result.now }

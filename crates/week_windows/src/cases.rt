@@ -34,7 +34,7 @@ pub fn hours_of(alloc: Global, preds: &[SharedPred]) -> Result<Hours, Memory>
     Ok(Hours { cases, none })
 }
 
-/// The spans at which no case holds.
+/// The spans of the week at which no case of a switch holds, by the hours of its cases.
 pub fn holes_of(alloc: Global, hours: &Hours) -> Result<Vec<Span>, Memory>
     requires { IsTable hours.now.none.items }
     ensures { IfOk result (λ spans. spans.items ≡ spans_from (is_told hours.now.none.items) 0 604800) }
@@ -43,7 +43,7 @@ pub fn holes_of(alloc: Global, hours: &Hours) -> Result<Vec<Span>, Memory>
     Ok(spans)
 }
 
-/// The windows of each case, by its spans.
+/// How many windows each case has in the week, and how long they are, by the spans of seconds of each.
 pub fn windows_each(alloc: Global, cases: &[Vec<Span>]) -> Result<Vec<Windows>, Memory>
     ensures { IfOk result (λ all. all.items ≡ map (λ spans. in_all (lengths_of (spans_in spans))) cases.now) }
 {
@@ -65,7 +65,8 @@ fn cases_of(alloc: Global, free: &mut [u64], preds: &[SharedPred]) -> Result<Vec
     Ok(cases)
 }
 
-// Appends the spans of each case. `free`, a table of all seconds, is left with those at which none holds.
+// Appends to `into`, which is empty, the spans of the seconds at which each case holds and none before it. `free` has a
+// bit for each second of the week, all set at first; it is left with those at which no case holds.
 fn push_cases(
     alloc: Global,
     into: &mut Vec<Vec<Span>>,

@@ -24,7 +24,7 @@ pub struct Known<'a> {
     pub told: Vec<ToldCases<'a>>,
 }
 
-/// The hours that are kept before a switch was looked at: those of no case.
+/// What is kept before any switch was looked at: twice the hours of a switch without cases, and no windows.
 pub fn unknown<'a>(alloc: Global) -> Result<Known<'a>, Memory>
     ensures { IfOk result IsKnown }
 {
@@ -39,8 +39,8 @@ pub fn unknown<'a>(alloc: Global) -> Result<Known<'a>, Memory>
     })
 }
 
-/// Keeps the hours of the cases with these predicates, in order. Nothing is made if the cases are those that were
-/// looked at last, or those before them.
+/// Sees to it that `known` holds the hours of the cases with these predicates, in order. They are the seconds of the
+/// week at which each case is chosen. Nothing is counted if the cases are those looked at last, or those before them.
 pub fn hours_again<'a>(
     alloc: Global,
     known: &mut Known<'a>,
@@ -62,7 +62,8 @@ pub fn hours_again<'a>(
     Ok(())
 }
 
-// Exchanges the hours of the cases looked at last with the hours of those before them.
+// Exchanges the cases looked at last and their hours with those before them. So the older ones are at hand again, or
+// are the ones that new hours replace.
 fn turn(known: &mut Known<'_>)
     requires { IsKnown known.old }
     ensures { IsKnown known.new }

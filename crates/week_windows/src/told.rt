@@ -21,8 +21,8 @@ pub struct ToldCases<'a> {
     pub windows: Vec<Windows>,
 }
 
-/// The windows of each case of a switch. They are kept behind those before, and nothing is done where one of these is
-/// of the same cases.
+/// The windows of each case of a switch, by the predicates of the cases, in order. If `told` keeps those of the same
+/// cases, they are copied; else they are counted and kept there for later switches.
 pub fn windows_kept<'a>(
     alloc: Global,
     told: &mut Vec<ToldCases<'a>>,

@@ -20,7 +20,8 @@ pub struct Windows {
     pub longest: u64,
 }
 
-/// The windows that these spans of a week make.
+/// How many windows these spans of a week make, in order, and how long they are. The week goes round, so a span that
+/// ends with the week and one that begins it are one window.
 pub fn windows_in(spans: &[Span]) -> Windows
     ensures { result ≡ in_all (lengths_of spans.now) }
 {

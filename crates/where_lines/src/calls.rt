@@ -56,8 +56,9 @@ pub struct Found {
     pub end: usize,
 }
 
-/// The byte at which the call begins, among the tokens of a statement, with which types clash; nothing where none is
-/// found. `done` is the script before the statement. Calls are made in the order in which they are closed.
+/// The byte of the script `text` at which the call begins, among the tokens of a statement, with which types clash.
+/// With the calls that are closed before it types do not clash, and with it they do.
+/// `done` is the script before the statement. `None` where no call is found.
 pub fn caller(
     alloc: Global,
     text: &[u8],
@@ -72,7 +73,8 @@ pub fn caller(
     }
 }
 
-// Where the call that was found begins, if types clash with it and not with those before it.
+// The byte at which the call that was found begins, if types clash with it and not with those closed before it; else
+// `None`. The halving only takes this for granted, so it is tried here. `done` is the script before the statement.
 fn confirmed(
     alloc: Global,
     text: &[u8],
@@ -87,7 +89,8 @@ fn confirmed(
     clash_with_call(alloc, text, done, found)
 }
 
-// Where a call begins, if types clash with it; with the calls before it they do not clash.
+// The byte at which a call begins, if types clash with it behind `done`, the script before the statement; else `None`.
+// With the calls closed before it they do not clash. Those that are its arguments are left out, as it holds them.
 fn clash_with_call(
     alloc: Global,
     text: &[u8],
@@ -105,7 +108,7 @@ fn clash_with_call(
     Ok(None)
 }
 
-// Whether types clash in a front of the script with the texts of calls after it.
+// Whether types clash in `done`, the script before a statement, with these texts of calls of the statement behind it.
 fn clash_with(alloc: Global, done: &[u8], texts: &[u8]) -> Result<bool, Memory>
     ensures { IfOk result (Clashes (done.now ++ texts.now)) }
 {
@@ -114,7 +117,7 @@ fn clash_with(alloc: Global, done: &[u8], texts: &[u8]) -> Result<bool, Memory>
 }
 
 // The call with which types may begin to clash, found by halving the tokens of the statement; it is not yet confirmed.
-// `done` is the script before the statement.
+// `done` is the script before the statement. `None` where the token that was found closes no call.
 fn candidate(
     alloc: Global,
     text: &[u8],
@@ -128,7 +131,8 @@ fn candidate(
 }
 
 // Halves the tokens of a statement: with the calls closed before token `low` types do not clash, with those before
-// `high` they are taken to. It ends where both are neighbours, with the token that closes the call looked for.
+// `high` they are taken to. It ends where both are neighbours, and answers `low`, the number of the token that closes
+// the call looked for. 64 halvings are enough for any number of tokens.
 fn last_token(alloc: Global, text: &[u8], done: &[u8], tokens: &[Token]) -> Result<usize, Memory> {
     let mut low: usize = 0;
     let mut high = tokens.len();
@@ -147,7 +151,7 @@ fn last_token(alloc: Global, text: &[u8], done: &[u8], tokens: &[Token]) -> Resu
     Ok(low)
 }
 
-// The call that token `number` closes, if it closes one.
+// The call that token `number` of a statement closes, with the texts of those closed before; `None` if it closes none.
 fn found_at(
     alloc: Global,
     text: &[u8],
@@ -252,7 +256,8 @@ fn read(
     Ok(())
 }
 
-// Adds the call that ends at byte `end`, if the innermost bracket is one, in the place of its arguments.
+// Adds the call that ends at byte `end` of `text` to `texts`, in a line, if the innermost open bracket is a call's.
+// The calls that are its arguments are dropped from `texts`, since its own text holds them.
 fn close(
     texts: &mut Vec<u8>,
     innermost: Option<Bracket>,
@@ -280,7 +285,7 @@ fn role_of(kind: &TokenKind) -> Role
     }
 }
 
-// Whether a symbol opens or closes a bracket.
+// What a symbol does to the brackets that are open: it opens one, closes one, or neither. It never opens a call.
 fn symbol_role(symbol: Symbol) -> Role
     ensures { result ≡ symbol_role symbol }
 {

@@ -14,9 +14,9 @@ use plan_core::{Plan, SinkPlan};
 use script_plan::{laws, plan_of};
 use std::alloc::Global;
 
-/// The byte at which the call begins that makes the source which is to be mended so that an output never falls silent:
-/// down from the output's, as long as one source alone is needed. Nothing where the script has no plan or no such
-/// output.
+/// For the fault that output `name` may fall silent: the byte of the script at which the source to be mended is made.
+/// It is sought from the output's source down, as long as one source alone is needed, and its call is told.
+/// `None` where the script has no plan or no such output. `kept` is what was read of the script before.
 pub fn cause_place(
     alloc: Global,
     text: &[u8],
@@ -35,8 +35,8 @@ pub fn cause_place(
     }
 }
 
-// By the plan of a script: the byte at which the call begins that makes the source which is to be mended so that the
-// output of this name never falls silent. Nothing if there is no such output.
+// By the plan of a script: the byte at which the call begins that makes the source to be mended, so that the output
+// of this name never falls silent. `None` if there is no such output. `kept` is what was read of the script before.
 fn cause_in(
     alloc: Global,
     text: &[u8],
@@ -58,8 +58,8 @@ fn cause_in(
     }
 }
 
-// The byte at which the call begins that makes the source which is to be mended so that node `output` never falls
-// silent.
+// The byte at which the call begins that makes the source to be mended, so that node `output` never falls silent. Each
+// node has such a call, so `None` never comes. `kept` is what was read of the script before.
 fn cause_of(
     alloc: Global,
     text: &[u8],

@@ -20,8 +20,8 @@ use script_parse::parse;
 use script_places::first_token;
 use std::alloc::Global;
 
-/// The byte at which the call begins with which the types of a statement clash; where no one call of it is found, the
-/// statement. Nothing where the script has no such statement.
+/// The byte of a script at which the call begins with which the types of a statement clash. Where no one call of it is
+/// found, it is the byte at which the statement begins. `None` where the script has no statement of this number.
 pub fn clash_place(alloc: Global, text: &[u8], statement: u64) -> Result<Option<usize>, Memory>
     ensures place { IfOk result (λ at. IfSome at (IsInStatement text.now statement)) }
     ensures none { IfOk result (λ at. at ≡ None → HasNoStatement text.now statement) }
@@ -32,8 +32,8 @@ pub fn clash_place(alloc: Global, text: &[u8], statement: u64) -> Result<Option<
     }
 }
 
-// By the tokens of a script: the byte at which the call begins with which the types of a statement clash; where no one
-// call of it is found, the statement. Nothing where they spell no such statement.
+// By the tokens of a script: the byte at which the call begins with which the types of a statement clash. Where no one
+// call of it is found, it is the byte at which the statement begins. `None` where they spell no such statement.
 fn place_among(
     alloc: Global,
     text: &[u8],
@@ -50,8 +50,8 @@ fn place_among(
     }
 }
 
-// In a script: the byte at which the call begins with which the types of a statement clash; where no one call of it is
-// found, the statement. Nothing if there is no such statement.
+// In a script that was parsed: the byte at which the call begins with which the types of a statement clash. Where no
+// one call of it is found, it is the byte at which the statement begins. `None` if there is no such statement.
 fn place_within(
     alloc: Global,
     text: &[u8],

@@ -18,7 +18,7 @@ pub fn clashes(alloc: Global, text: &[u8]) -> Result<bool, Memory>
     }
 }
 
-// Whether the fault of a script is a clash of types. Want of memory tells nothing and is passed on.
+// Whether the fault of a script is a clash of types. Want of memory tells nothing of the script, and is the error.
 fn of_fault(told: &ScriptFault) -> Result<bool, Memory>
     ensures { IfOk result (λ is. (told.now ≢ fault.Memory) × (is ≡ is_clash_fault told.now)) }
 {

@@ -12,7 +12,7 @@ use script_lex::{Keyword, Token, TokenKind};
 use script_places::{first_token, start};
 use std::alloc::Global;
 
-/// The text before a statement; behind the last one, the whole text.
+/// The text of a script before the statement of this number, counted from 1; past the last one, the whole text.
 pub fn before<'a>(text: &'a [u8], tokens: &[Token], script: &Script, statement: u64) -> &'a [u8]
     requires { IsPlaced 0 (view_script script.now) }
     ensures { result.now ≡ before text.now tokens.now (view_script script.now) statement }
@@ -20,7 +20,7 @@ pub fn before<'a>(text: &'a [u8], tokens: &[Token], script: &Script, statement: 
     front(text, beginning(text, tokens, script, statement))
 }
 
-/// The byte at which a statement begins; behind the last one, the end.
+/// The byte at which the statement of this number begins, counted from 1; past the last one, the end of the text.
 pub fn beginning(text: &[u8], tokens: &[Token], script: &Script, statement: u64) -> usize
     requires { IsPlaced 0 (view_script script.now) }
     ensures { result ≡ beginning text.now tokens.now (view_script script.now) statement }
@@ -83,7 +83,8 @@ pub fn tokens_of<'a>(tokens: &'a [Token], script: &Script, statement: u64) -> &'
     own
 }
 
-/// What of the tokens of a statement may hold calls: of a def, what stands behind its name, which opens no call.
+/// Those of a statement's tokens that may hold calls. Of a def they are the ones behind `def` and its name, which is
+/// written like the head of a call and is none; of any other statement they are all.
 pub fn calling(tokens: &[Token]) -> &[Token]
     ensures { result.now ≡ calling tokens.now }
 {
@@ -133,7 +134,8 @@ fn first_of(tokens: &[Token], script: &Script, statement: u64) -> usize
     or_all(tokens, first_token(script, statement))
 }
 
-// The number of the first token of a statement, if there is such a statement, and otherwise how many tokens there are.
+// The number of a statement's first token where it is given, and otherwise how many tokens there are: a statement past
+// the last one begins behind all.
 fn or_all(tokens: &[Token], first: Option<u64>) -> usize
     ensures { result ≡ or_all tokens.now first }
 {

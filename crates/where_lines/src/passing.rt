@@ -34,13 +34,15 @@ impl From<Memory> for Broke {
 
     ghost from_gives = { λ _ e. e ≡ broke.Memory };
 
+    // Refused memory ends the passing of lines.
     fn from(_refused: Memory) -> Broke {
         Broke::Memory
     }
 }
 
-/// Passes the lines of a reader on to their end, and behind each that names a place of a script the two lines that show
-/// it.
+/// Passes the lines of a reader on to `out` to their end, and behind each that names a place of a script the two lines
+/// that show it. `file` is the script's name, and `text` its bytes, `None` where it could not be read.
+/// `kept` is what was read of the script for the lines before. An error says what broke; the lines before are out.
 pub fn pass_lines<R: BufRead, O: Sink>(
     alloc: Global,
     input: &mut R,
@@ -68,7 +70,8 @@ pub fn pass_lines<R: BufRead, O: Sink>(
     Err(Broke::Input)
 }
 
-// Reads the next line, and answers whether there was one.
+// Reads the next line into `line`, with its LF if it has one, in place of what was there. False at the end of the
+// input, where there is none.
 fn read_line<R: BufRead>(input: &mut R, line: &mut Vec<u8>) -> Result<bool, Broke>
     ensures some { IfOk result (λ is_line. is_line ≡ true → IfSome (R.remaining input.old) (λ rest. (rest ≢ [])
         × (line.new.items ≡ take_through 10 rest) × (R.remaining input.new ≡ Some (drop_through 10 rest)))) }
@@ -106,7 +109,8 @@ fn write<O: Sink>(out: &mut O, piece: &[u8]) -> Result<(), Broke>
     }
 }
 
-// Writes the two lines that show the place of a script that a line names, if it names one.
+// Writes to `out` the two lines that show the place of a script that a line names, if it names one. `file` is the
+// script's name, `text` its bytes if it could be read, and `kept` what was read of it before.
 fn show<O: Sink>(
     alloc: Global,
     line: &[u8],
@@ -129,7 +133,8 @@ fn show<O: Sink>(
     write(out, &behind)
 }
 
-// What comes behind a line: the two lines that show the place that it names, or nothing.
+// What comes behind a line: the two lines that show the place that it names in script `file`, or nothing. It is nothing
+// too where the script's text could not be read, which `text` says by `None`.
 fn behind_of(
     alloc: Global,
     line: &[u8],
@@ -148,7 +153,8 @@ fn behind_of(
     }
 }
 
-// What comes behind a line, by the script's text: the place that the line names, or nothing if it names none.
+// What comes behind a line, by the script's text: the two lines that show the place that it names. Nothing comes where
+// the line is no UTF-8, names no place, or names one that the script does not have.
 fn behind_in(
     alloc: Global,
     line: &[u8],
@@ -183,7 +189,7 @@ fn told_of(line: &[u8]) -> &[u8]
     }
 }
 
-// Whether a line has a LF.
+// Whether a line ends with a LF; the last one of an input may lack it.
 fn is_closed(line: &[u8]) -> bool
     ensures { result ≡ ends_with_byte 10 line.now }
 {
@@ -193,7 +199,8 @@ fn is_closed(line: &[u8]) -> bool
     }
 }
 
-// The two lines that show a place, with a LF before them if the line has none.
+// The two lines that show byte `at` of the script, whose name is `file`; before them a LF if the line has none, so
+// that they do not go on in it.
 fn closed_pointer(
     alloc: Global,
     line: &[u8],

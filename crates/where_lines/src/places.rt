@@ -19,9 +19,9 @@ use script_parse::parse;
 use script_places::{Named, first_token, start};
 use std::alloc::Global;
 
-/// The byte of a script at which what a line names begins. A token past the end is the end of the script. Nothing
-/// exactly where the script has no tokens, no such statement, source, text or output. `docs/faults.md` has the place of
-/// each line.
+/// The byte of a script at which begins what `line` names, which `named` tells: a byte, token, statement, source, text
+/// or output. A token past the end is the end of the script. `None` exactly where the script has no tokens, or no such
+/// statement, source, text or output. `docs/faults.md` has the place of each line; `kept` is what was read before.
 pub fn place_of(
     alloc: Global,
     line: &[u8],

@@ -7,7 +7,8 @@ use liq_base::Memory;
 use script_lex::LexFault;
 use script_parse::ParseFault;
 
-/// The place in a text that has no tokens: none. Where memory was refused it is not known, and that is the error.
+/// The place that is told in a text that has no tokens, for the fault `told`: none. Where memory was refused, it is not
+/// known whether the text has tokens, and that is the error.
 pub fn no_tokens(told: &LexFault) -> Result<Option<usize>, Memory>
     ensures nothing { IfOk result (λ at. at ≡ None) }
     ensures fault { IfOk result (λ at. told.now ≢ lex_fault.Memory) }
@@ -21,8 +22,8 @@ pub fn no_tokens(told: &LexFault) -> Result<Option<usize>, Memory>
     }
 }
 
-/// The place in a text whose tokens are no script: none. Where memory was refused it is not known, and that is the
-/// error.
+/// The place that is told in a text whose tokens are no script, for the fault `told`: none. Where memory was refused,
+/// it is not known whether they are one, and that is the error.
 pub fn no_script(told: &ParseFault) -> Result<Option<usize>, Memory>
     ensures nothing { IfOk result (λ at. at ≡ None) }
     ensures fault { IfOk result (λ at. told.now ≢ parse_fault.Memory) }

@@ -15,7 +15,7 @@ use script_plan::{ScriptFault, laws, sources_of};
 use std::alloc::Global;
 
 /// The byte at which the call begins that makes the source of this number: of calls that run within each other, the
-/// outermost. Nothing where the script has no such source. The plan is read where it is not kept.
+/// outermost. `None` where the script has no such source. The plan is read where it is not in `kept`, and put there.
 pub fn source_place(
     alloc: Global,
     text: &[u8],
@@ -33,8 +33,8 @@ pub fn source_place(
     }
 }
 
-// If the calls that make the sources are kept, the token of the one that makes this source, or nothing if there is no
-// such source.
+// The token of the call that makes this source, by the calls that are kept of the script. `None` if none are kept, so
+// that the script is to be read; `Some(None)` if they are kept, and there is no such source.
 fn kept_call(_text: &[u8], kept: &Option<Sources>, source: u64) -> Option<Option<u32>>
     requires { SourcesAreKept _text.now kept.now }
     ensures { IfSome result (IsCallOf _text.now source) }

@@ -8,7 +8,8 @@ use liq_base::Memory;
 use script_lex::{Token, TokenKind, lex};
 use std::alloc::Global;
 
-/// The byte at which the first token begins that is this string. Nothing where the script has no tokens or no such one.
+/// The byte at which the first quoted text with the characters `name` begins. `None` where the script `text` has no
+/// tokens or no such one.
 pub fn text_place(alloc: Global, text: &[u8], name: &[u8]) -> Result<Option<usize>, Memory>
     ensures place { IfOk result (λ at. IfSome at (IsTextAt text.now name.now)) }
     ensures none { IfOk result (λ at. at ≡ None → HasNoText text.now name.now) }

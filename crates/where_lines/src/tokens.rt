@@ -10,7 +10,8 @@ use script_lex::{Token, lex};
 use script_places::start;
 use std::alloc::Global;
 
-/// The byte at which a token begins. Nothing where the script has no tokens. They are read where they are not kept.
+/// The byte at which a token begins, by its number from 0. `None` where the script has no tokens, for a fault in it.
+/// They are read where they are not in `kept`, and put there.
 pub fn token_place(
     alloc: Global,
     text: &[u8],
@@ -28,7 +29,7 @@ pub fn token_place(
     }
 }
 
-// The byte at which a token begins, if tokens are kept.
+// The byte at which a token begins, by the tokens that are kept of the script; `None` if none are kept.
 fn kept_place(text: &[u8], kept: &Option<Vec<Token>>, token: u64) -> Option<usize>
     requires { AreKept text.now kept.now }
     ensures { IfSome result (IsTokenAt text.now token) }
