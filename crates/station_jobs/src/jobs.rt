@@ -45,7 +45,8 @@ pub fn alone_job<S: Shelf>(
 }
 
 /// Renders a script by threads, in windows of ticks: writes its outputs, then their cue files and its trace, if these
-/// are wanted. Gives the report of the rendering.
+/// are wanted. Gives the report of the rendering. `rt` runs the threads, and `gate` is what each clock's task passes
+/// before a tick.
 pub fn threads_job<S: Shelf, G: Gate + Sync, R: Threads + Wait + Sync>(
     rt: &R,
     alloc: Global,
@@ -62,7 +63,8 @@ pub fn threads_job<S: Shelf, G: Gate + Sync, R: Threads + Wait + Sync>(
     conclude(alloc, &job, ended)
 }
 
-/// Ends a job from how its rendering ended: gives the report of the rendering, or why there is none.
+/// Ends a job from how its rendering ended: gives the report of the rendering, or why there is none. The laws that are
+/// called do nothing when they run: their contracts serve the proof.
 pub(crate) fn conclude(
     alloc: Global,
     job: &Job<'_>,

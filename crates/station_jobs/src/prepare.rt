@@ -59,8 +59,8 @@ pub fn prepare<'a, S: Shelf>(
     })
 }
 
-/// Reads the script of this name for a check, which renders no tick: gives its plan and clocks, or the fault. Its audio
-/// files are read and given back, and none is decoded.
+/// Reads the script of this name for a check: gives its plan and clocks, or the fault. Its audio files are read and
+/// given back, and none is decoded, since a check renders no tick: that is the 0 in the body.
 pub fn prepare_check<S: Shelf>(
     alloc: Global,
     file: &str,
@@ -78,8 +78,8 @@ pub fn prepare_check<S: Shelf>(
     Ok(CheckedPlan { plan, clocks })
 }
 
-// Reads the script of this name and evaluates it to its plan. Refuses it if two of its outputs, cue files and trace
-// would have one name.
+// Reads the script of this name and evaluates it to its plan. Refuses it if two of its outputs, cue files (if `cues`
+// wants them) and trace (of the name `trace`, if one is wanted) would have one name.
 fn read_plan<S: Shelf>(
     alloc: Global,
     file: &str,
