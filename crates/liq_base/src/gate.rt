@@ -5,7 +5,8 @@ pub trait Gate {
     /// Tick `tick` of clock `clock` is about to begin. Both are counted from 0.
     fn enter(&self, clock: u32, tick: u64);
 
-    /// A buffer carries a source from one of these clocks to the other. It is told before their first ticks.
+    /// A buffer carries a source from one of these clocks to the other. It is told before their first ticks. A gate
+    /// that needs no such news does nothing here.
     fn join(&self, _from: u32, _to: u32) {}
 }
 

@@ -223,7 +223,7 @@ fn int_product(at: u32, a: i64, b: i64) -> Result<Value, Stop>
     int(at, i128::from(a) * i128::from(b))
 }
 
-/// The product of two numbers of millionths: in millionths of a millionth.
+/// The product of two numbers of millionths: in millionths of a millionth. It has 128 bits, so it fits.
 fn product(a: i64, b: i64) -> i128
     ensures { result ≡ a *ℤ b }
 {

@@ -28,7 +28,8 @@ pub fn same_pred(pred: &SharedPred, other: &SharedPred) -> bool
     is_same(pred.as_pred(), other.as_pred())
 }
 
-// Whether two predicates are written alike, part by part.
+// Whether two predicates are written alike, part by part. A predicate with the same meaning in another form is told as
+// different.
 #[cycle(same)]
 fn is_same(pred: &Pred, other: &Pred) -> bool
     ensures { result ≡ true → view_pred pred.now ≡ view_pred other.now }
