@@ -74,9 +74,9 @@ impl Mixer {
         self.change(from_left, from_right, left, right);
     }
 
-    // Writes the samples of a node over a run from those of its one source: times a factor, the mean of both sides, the
-    // left ones on both, or as they are. The mean of both sides is mono: it stands on the left, with zeros on the
-    // right.
+    // Writes the samples of a node over a run to `left` and `right`, from both sides of its one source: times a factor,
+    // the mean of both sides, the left ones on both, or as they are. The mean is mono: it stands on the left, with
+    // zeros on the right.
     fn change(&self, from_left: &[i16], from_right: &[i16], left: &mut [i16], right: &mut [i16])
         requires from { length from_right.now ≡ length from_left.now }
         requires same { length left.old ≡ length from_left.now }

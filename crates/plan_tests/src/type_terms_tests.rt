@@ -98,8 +98,8 @@ fn resolved_text(rt: &impl Abort, alloc: Global, subst: &Subst, ty: &Ty) -> Resu
     Ok(format!(in alloc; "{ty:?}")?)
 }
 
-// Unifies two types, and gives the text of both with their variables replaced, which must be one, or `clash` if they
-// cannot be equal.
+// Unifies two types, and gives the text of the first with its variables replaced, or `clash` if they cannot be equal.
+// If the text of the second is another, as it should not be, it follows behind `and`.
 fn outcome(
     rt: &impl Abort,
     alloc: Global,

@@ -44,7 +44,8 @@ pub fn added(minus: bool, at: u32, left: &Value, right: &Value) -> Result<Value,
     }
 }
 
-/// The value of `or` over two truth values. Other values are stuck, for typing refuses them.
+/// The value of `or` over two truth values; both were evaluated before. Other values are stuck, for typing refuses
+/// them.
 #[tactic(auto, unfolding(crate::specs::Numbers::either))]
 pub fn either(left: &Value, right: &Value) -> Result<Value, Stop>
     ensures { Gives (λ v. view_value v) result (either (view_value left.now) (view_value right.now)) }
@@ -55,7 +56,8 @@ pub fn either(left: &Value, right: &Value) -> Result<Value, Stop>
     }
 }
 
-/// The value of `and` over two truth values. Other values are stuck, for typing refuses them.
+/// The value of `and` over two truth values; both were evaluated before. Other values are stuck, for typing refuses
+/// them.
 #[tactic(auto, unfolding(crate::specs::Numbers::both))]
 pub fn both(left: &Value, right: &Value) -> Result<Value, Stop>
     ensures { Gives (λ v. view_value v) result (both (view_value left.now) (view_value right.now)) }

@@ -28,9 +28,9 @@ const TICKS: u64 = 500;
 /// How many ticks a window of its rendering has.
 const WINDOW: u64 = 16;
 
-/// Does `make`: makes the script and audio files of a workload from a seed, renders them by threads, and gives the
-/// summary. Its files and outputs are in memory, in a shelf of its own. `rt` runs the threads, and `gate` is what each
-/// clock's task passes before a tick.
+/// Does `make`: makes the script and `size` audio files of a workload from a seed, renders them by threads, and gives
+/// the summary. Its files and outputs are in memory, in a shelf of its own. `rt` runs the threads, and `gate` is what
+/// each clock's task passes before a tick.
 pub fn make_job<G: Gate + Sync, R: Threads + Wait + Sync>(
     rt: &R,
     alloc: Global,

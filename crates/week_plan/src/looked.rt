@@ -66,8 +66,8 @@ fn is_of(looked: &Looked<'_>, preds: &[SharedPred], sure: &[bool]) -> bool
     false
 }
 
-// Looks at the cases of a `switch` of which no answer is kept, keeps the answer, and gives its place. Where 64 are kept
-// already, they are let go first.
+// Looks at the cases of a `switch` of which no answer is kept, keeps the answer, and gives its place. `sure` has of
+// each case whether its source never falls silent. Where 64 answers are kept already, they are let go first.
 fn look_anew<'a>(
     alloc: Global,
     kept: &mut Vec<Looked<'a>>,

@@ -54,7 +54,8 @@ fn is_same(pred: &Pred, other: &Pred) -> bool
     }
 }
 
-// Whether two lists have predicates that are written alike, in the same order.
+// Whether two lists, the parts of two `and`s or of two `or`s, have predicates that are written alike, in the same
+// order.
 #[cycle(same)]
 fn all_same(parts: &[Pred], others: &[Pred]) -> bool
     ensures { result ≡ true → map view_pred parts.now ≡ map view_pred others.now }
@@ -100,7 +101,7 @@ fn is_mark(mark: TimeMark, pred: &Pred) -> bool
     }
 }
 
-// Whether a predicate is an interval of time, such as `8h-12h`, and between these marks.
+// Whether a predicate is an interval of time, such as `8h-12h`, that begins at the mark `from` and ends at `to`.
 fn is_interval(from: TimeMark, to: TimeMark, pred: &Pred) -> bool
     ensures { result ≡ true → Between from to ≡ view_pred pred.now }
 {
