@@ -55,7 +55,8 @@ fn shelf(alloc: Global) -> Result<SureShelf, AllocError> {
     Ok(SureShelf::new(alloc, files))
 }
 
-/// A plan for these tests with one node, a leaf that plays files, at `rate` samples a second.
+/// A plan for these tests with one node, a leaf that plays files, at `rate` samples a second. It has no sink, since
+/// loading needs none.
 fn plan_of(alloc: Global, leaf: Op, rate: u32) -> Result<Plan, AllocError>
     ensures leaf { IfOk result (λ plan. length plan.nodes ≡ 1) }
     ensures rate { IfOk result (λ plan. plan.rate ≡ rate) }
@@ -84,8 +85,8 @@ fn leaf_of(alloc: Global, is_list: bool, name: &str) -> Result<Op, Memory> {
     }
 }
 
-/// Loads the audio files of a plan with one leaf, from the shelf of these tests. `file` and `all` are the most bytes
-/// allowed for one file and for all.
+/// Loads the audio files of a plan with one leaf, the operator `leaf`, from the shelf of these tests. `file` and `all`
+/// are the most bytes allowed for one file and for all.
 fn library_of(alloc: Global, leaf: Op, rate: u32, file: u16, all: u16) -> Result<Library, LoadFault>
     requires least { 8000 ≤ rate }
     requires most { rate ≤ 192000 }
@@ -100,8 +101,9 @@ fn library_of(alloc: Global, leaf: Op, rate: u32, file: u16, all: u16) -> Result
     load(alloc, &plan, &mut shelf, sizes)
 }
 
-/// How many audio files are loaded for a plan of one leaf, or the fault of loading them. `file` and `all` are the most
-/// bytes allowed for one file and for all.
+/// How many audio files are loaded for a plan of one leaf, or the fault of loading them. The leaf plays the list of
+/// this name if `is_list` is true, else the file. `rate` is in samples a second; `file` and `all` are the most bytes
+/// for one file and for all.
 fn count_tracks(
     alloc: Global,
     rate: u32,
@@ -118,7 +120,8 @@ fn count_tracks(
     Ok(library.tracks(0))
 }
 
-/// The word by which the rows of these tests name a fault of loading.
+/// The word by which the rows of these tests name a fault of loading. Bad audio has a name here only where the file is
+/// no RIFF file.
 fn fault_name(fault: &LoadFault) -> &'static str {
     match fault {
         LoadFault::Missing(_) => "missing",
@@ -214,7 +217,8 @@ fn told_by(front: &[u8], size: u64) -> Option<Result<(u64, u64), WavFault>> {
 }
 
 /// Checks each row: takes so many bytes of the test file as the front of a file of this size, and compares what its
-/// head tells with the row.
+/// head tells with the row. A row has both sizes, and then where the samples begin with their bytes, a fault, or
+/// `None`.
 fn check_heads(rt: &impl Abort, rows: &[(usize, u64, Option<Result<(u64, u64), WavFault>>)]) {
     for row in rows {
         let (length, size, told) = *row;

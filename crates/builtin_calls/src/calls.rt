@@ -35,7 +35,8 @@ pub fn builtin(
 }
 
 // Evaluates a call of a builtin by its name: each has a function that takes its arguments out of `given`. `at` is the
-// token of its name.
+// token of its name. `kinds` has the kinds that typing found for the call, and `machine` is the state of evaluation,
+// with the plan.
 #[tactic(auto, unfolding(crate::specs::Builtins::builtin))]
 fn call(
     alloc: Global,

@@ -16,7 +16,8 @@ use plan_core::{Draft, Items, Op, Preds};
 use script_values::{Given, Machine, Stop, Value};
 use std::alloc::Global;
 
-/// `fallback(track_sensitive=true, sources)`: adds a node that plays the first source that is ready.
+/// `fallback(track_sensitive=true, sources)`: adds a node that plays the first source that is ready. `given` has the
+/// call's arguments, `kinds` the kind of the node (mono or stereo); the value is the node as a source.
 #[tactic(auto, unfolding(crate::specs::Builtins::fallback))]
 pub(crate) fn fallback(
     alloc: Global,
@@ -32,7 +33,8 @@ pub(crate) fn fallback(
 }
 
 /// `switch(track_sensitive=true, pairs)`: adds a node that plays the first source that is ready and whose predicate
-/// holds.
+/// holds. `given` has the call's arguments, `kinds` the kind of the node (mono or stereo); the value is the node as a
+/// source.
 #[tactic(auto, unfolding(crate::specs::Builtins::switch))]
 pub(crate) fn switch(
     alloc: Global,
@@ -56,7 +58,8 @@ pub(crate) fn switch(
 }
 
 /// `random(seed=0, sources)`, whose name stands at token `at`: adds a node that chooses a source by chance for each
-/// track.
+/// track. `given` has the call's arguments, `kinds` the kind of the node (mono or stereo); the value is the node as a
+/// source.
 #[tactic(auto, unfolding(crate::specs::Builtins::random))]
 pub(crate) fn random(
     alloc: Global,
@@ -77,7 +80,8 @@ pub(crate) fn random(
 }
 
 /// `add(normalize=true, sources)`: adds a node that mixes these sources, as their mean with `normalize` and else as
-/// their sum.
+/// their sum. `given` has the call's arguments, `kinds` the kind of the node (mono or stereo); the value is the node as
+/// a source.
 #[tactic(auto, unfolding(crate::specs::Builtins::add_sources))]
 pub(crate) fn sum(
     alloc: Global,
@@ -93,7 +97,7 @@ pub(crate) fn sum(
 }
 
 /// Adds a node of this operator that reads a list of sources, the one argument that is left, as `sequence(sources)` and
-/// `rotate(sources)` do.
+/// `rotate(sources)` do. `kinds` has the kind of the node (mono or stereo); the value is the node as a source.
 #[tactic(auto, unfolding(crate::specs::Builtins::over_sources))]
 pub(crate) fn over_sources(
     alloc: Global,
@@ -122,7 +126,7 @@ fn seed_of(at: u32, number: i64) -> Result<u64, Stop>
 }
 
 // Takes the first argument without a label, a list of sources of this kind, and gives the numbers of their nodes, at
-// most 65535.
+// most 65535. More are a fault.
 #[tactic(auto, unfolding(crate::specs::Builtins::few_sources))]
 fn few_sources(
     alloc: Global,
@@ -140,7 +144,7 @@ fn few_sources(
 }
 
 // Takes the first argument without a label, the cases of a `switch`, and gives their predicates of time and the nodes
-// of their sources, at most 65535.
+// of their sources, at most 65535. More are a fault.
 #[tactic(auto, unfolding(crate::specs::Builtins::few_pairs))]
 fn few_pairs(alloc: Global, plan: &Draft, kind: Kind, given: &mut Vec<Given>) -> Result<Pairs, Stop>
     ensures given { Gives (λ ps. (map view_shared ps.preds.items, ps.sources.items)) result

@@ -13,7 +13,8 @@ use plan_core::{Items, Op};
 use script_values::{Given, Machine, Stop, Value};
 use std::alloc::Global;
 
-/// `single(file)`: adds a node that repeats an audio file.
+/// `single(file)`: adds a node that repeats an audio file. `given` has the call's arguments, `kinds` the kind of the
+/// node (mono or stereo); the value is the node as a source.
 #[tactic(auto, unfolding(crate::specs::Builtins::single))]
 pub(crate) fn single(
     alloc: Global,
@@ -30,7 +31,8 @@ pub(crate) fn single(
 }
 
 /// `playlist(loop=true, mode="normal", file)`, whose name stands at token `at`: adds a node that plays the files of a
-/// list.
+/// list. `given` has the call's arguments, `kinds` the kind of the node (mono or stereo); the value is the node as a
+/// source.
 #[tactic(auto, unfolding(crate::specs::Builtins::playlist))]
 pub(crate) fn playlist(
     alloc: Global,
@@ -56,7 +58,8 @@ pub(crate) fn playlist(
     )
 }
 
-/// `blank(duration=0.)`, whose name stands at token `at`: adds a node of zeros, in tracks of this duration.
+/// `blank(duration=0.)`, whose name stands at token `at`: adds a node of zeros, in tracks of this duration. `given` has
+/// the call's arguments, `kinds` the kind of the node (mono or stereo); the value is the node as a source.
 #[tactic(auto, unfolding(crate::specs::Builtins::blank))]
 pub(crate) fn blank(
     alloc: Global,
@@ -74,7 +77,8 @@ pub(crate) fn blank(
     add(machine, Op::Blank { track }, kind, Items::new(alloc))
 }
 
-/// `square(f)`, whose name stands at token `at`: adds a node that plays a square wave of this pitch in hertz.
+/// `square(f)`, whose name stands at token `at`: adds a node that plays a square wave of this pitch in hertz. `given`
+/// has the call's arguments, `kinds` the kind of the node (mono or stereo); the value is the node as a source.
 #[tactic(auto, unfolding(crate::specs::Builtins::square))]
 pub(crate) fn square(
     alloc: Global,
@@ -92,7 +96,8 @@ pub(crate) fn square(
     add(machine, Op::Square { pitch }, kind, Items::new(alloc))
 }
 
-/// `fail()`: adds a node that has nothing to play.
+/// `fail()`: adds a node that has nothing to play. `kinds` has the kind of the node (mono or stereo); the value is the
+/// node as a source.
 #[tactic(auto, unfolding(crate::specs::Builtins::fail))]
 pub(crate) fn fail(alloc: Global, kinds: &[Kind], machine: &mut Machine) -> Result<Value, Stop>
     ensures { Gives (λ v. (view_value v, machine.new)) result (fail kinds.now machine.old) }

@@ -33,8 +33,8 @@ pub(crate) fn few(children: &[u32]) -> Result<(), Stop>
     Ok(())
 }
 
-/// Checks that a crossfade of node `child` may be made: it is a fault where a path down from it would have more than 4
-/// crossfades.
+/// Checks that a crossfade of node `child` may be made. Where a path down from `child` has 4 crossfades already, one
+/// more is a fault.
 pub(crate) fn room_over(plan: &Draft, child: u32) -> Result<(), Stop>
     ensures { Gives (λ _. crossfades_with child plan.now) result
         (at_most MAX_CROSSFADES Limit.Crossfades (crossfades_with child plan.now)) }
@@ -46,7 +46,7 @@ pub(crate) fn room_over(plan: &Draft, child: u32) -> Result<(), Stop>
 }
 
 /// Adds a node to the plan and gives its number. Faults: a path down from it has more than 4 crossfades, or the plan
-/// has as many nodes as it may.
+/// has as many nodes as it may. Another fault is want of memory.
 #[tactic(auto, unfolding(crate::specs::Nodes::push))]
 pub(crate) fn push(machine: &mut Machine, node: Node) -> Result<u32, Stop>
     requires children { All (λ child. child < length machine.old.plan.nodes) node.children }

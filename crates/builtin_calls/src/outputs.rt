@@ -16,7 +16,8 @@ use plan_core::SinkPlan;
 use script_values::{Given, Limit, Machine, Stop, Value};
 use std::alloc::Global;
 
-/// `output.file(fallible=false, format, name, s)`: adds an output of the source to the file of this name.
+/// `output.file(fallible=false, format, name, s)`: adds an output of the source to the file of this name. `given` has
+/// the call's arguments, `kinds` the kind of the source (mono or stereo); the value is `()`.
 #[tactic(auto, unfolding(crate::specs::Builtins::output_file))]
 pub(crate) fn output_file(
     alloc: Global,
@@ -71,7 +72,8 @@ fn outputs(sinks: &[SinkPlan]) -> usize
 }
 
 // Adds an output to the plan, which writes node number `node` to the file `name`, `wide` with samples of 24 bits.
-// Faults: an earlier output has this file, or there are 64 outputs.
+// Faults: an earlier output has this file, or there are 64 outputs. With `fallible` the source may fall silent. The
+// value is `()`.
 #[tactic(auto, unfolding(crate::specs::Sinks::add_output))]
 fn add_output(
     machine: &mut Machine,

@@ -13,7 +13,7 @@ use script_values::{Given, Stop, Value, argument};
 use std::alloc::Global;
 
 /// The first of the kinds (mono or stereo) that typing found for a call. A call that needs one has it, so an empty list
-/// is stuck.
+/// is stuck. Stuck is the end of evaluation to which no typed script comes.
 pub(crate) fn one_kind(kinds: &[Kind]) -> Result<Kind, Stop>
     ensures { Gives (λ k. k) result (one_kind kinds.now) }
 {
@@ -36,7 +36,8 @@ pub(crate) fn plain(given: &mut Vec<Given>) -> Result<Value, Stop>
     }
 }
 
-/// Takes the first argument without a label out of a call's arguments, and gives it as a text.
+/// Takes the first argument without a label out of a call's arguments, and gives it as a text. None, or one of another
+/// type, is stuck, for typing refuses it.
 #[tactic(auto, unfolding(crate::specs::Parts::plain_text))]
 pub(crate) fn plain_text(alloc: Global, given: &mut Vec<Given>) -> Result<Text, Stop>
     ensures { Gives (λ t. (t, map view_given given.new.items)) result (plain_text (map view_given given.old.items)) }
@@ -46,7 +47,8 @@ pub(crate) fn plain_text(alloc: Global, given: &mut Vec<Given>) -> Result<Text, 
     Ok(text)
 }
 
-/// Takes the first argument without a label out of a call's arguments, and gives it as a decimal.
+/// Takes the first argument without a label out of a call's arguments, and gives it as a decimal. None, or one of
+/// another type, is stuck, for typing refuses it.
 #[tactic(auto, unfolding(crate::specs::Parts::plain_decimal))]
 pub(crate) fn plain_decimal(given: &mut Vec<Given>) -> Result<Decimal, Stop>
     ensures { Gives (λ d. (d, map view_given given.new.items)) result (plain_decimal (map view_given given.old.items)) }
@@ -57,7 +59,7 @@ pub(crate) fn plain_decimal(given: &mut Vec<Given>) -> Result<Decimal, Stop>
 }
 
 /// Takes the first argument without a label out of a call's arguments, an output format: true for samples of 24 bits,
-/// false for 16.
+/// false for 16. None, or one of another type, is stuck.
 #[tactic(auto, unfolding(crate::specs::Parts::plain_format))]
 pub(crate) fn plain_format(given: &mut Vec<Given>) -> Result<bool, Stop>
     ensures { Gives (λ w. (w, map view_given given.new.items)) result (plain_format (map view_given given.old.items)) }
@@ -68,7 +70,7 @@ pub(crate) fn plain_format(given: &mut Vec<Given>) -> Result<bool, Stop>
 }
 
 /// Takes the argument with this label out of a call's arguments, and gives it as a bool, or the default where there is
-/// none.
+/// none. A value of another type is stuck, for typing refuses it.
 #[tactic(auto, unfolding(crate::specs::Parts::bool_or))]
 pub(crate) fn bool_or(given: &mut Vec<Given>, label: &str, default: bool) -> Result<bool, Stop>
     ensures { Gives (λ b. (b, map view_given given.new.items)) result
@@ -84,7 +86,7 @@ pub(crate) fn bool_or(given: &mut Vec<Given>, label: &str, default: bool) -> Res
 }
 
 /// Takes the argument with this label out of a call's arguments, and gives it as a decimal, or the default where there
-/// is none.
+/// is none. A value of another type is stuck, for typing refuses it.
 #[tactic(auto, unfolding(crate::specs::Parts::decimal_or))]
 pub(crate) fn decimal_or(
     given: &mut Vec<Given>,
@@ -104,7 +106,7 @@ pub(crate) fn decimal_or(
 }
 
 /// Takes the argument with this label out of a call's arguments, and gives it as an int, or the default where there is
-/// none.
+/// none. A value of another type is stuck, for typing refuses it.
 #[tactic(auto, unfolding(crate::specs::Parts::int_or))]
 pub(crate) fn int_or(given: &mut Vec<Given>, label: &str, default: i64) -> Result<i64, Stop>
     ensures { Gives (λ n. (n, map view_given given.new.items)) result
@@ -120,7 +122,7 @@ pub(crate) fn int_or(given: &mut Vec<Given>, label: &str, default: i64) -> Resul
 }
 
 /// Takes the argument with this label out of a call's arguments, and gives it as a text, or the default where there is
-/// none.
+/// none. A value of another type is stuck, for typing refuses it.
 #[tactic(auto, unfolding(crate::specs::Parts::text_or))]
 pub(crate) fn text_or(
     alloc: Global,

@@ -14,7 +14,7 @@ use script_values::{Given, Machine, Stop, Value};
 use std::alloc::Global;
 
 /// `set(key, value)`: makes the setting of this key, the sample rate or the duration of a tick; any other key changes
-/// nothing.
+/// nothing. `given` has the call's arguments; the value is `()`.
 #[tactic(auto, unfolding(crate::specs::Builtins::set))]
 pub(crate) fn set(
     alloc: Global,
@@ -29,6 +29,7 @@ pub(crate) fn set(
 }
 
 // Notes that this statement makes a setting, or faults where none may stand: settings come before all other statements.
+// The last such statement is kept, since a fault of a tick found later names it.
 fn opened(machine: &mut Machine) -> Result<(), Stop>
     ensures { Gives (λ _. machine.new) result (settings_opened machine.old) }
 {
@@ -77,7 +78,7 @@ fn duration_of(value: &Value) -> Result<Decimal, Stop>
 }
 
 /// Sets the sample rate of the plan, in samples a second. A fault, where settings are over or the value is no such
-/// rate.
+/// rate. The value is `()`.
 #[tactic(auto, unfolding(crate::specs::Settings::set_rate))]
 fn set_rate(machine: &mut Machine, value: &Value) -> Result<Value, Stop>
     ensures { Gives (λ v. (view_value v, machine.new)) result (set_rate (view_value value.now) machine.old) }
@@ -88,7 +89,7 @@ fn set_rate(machine: &mut Machine, value: &Value) -> Result<Value, Stop>
     Ok(Value::Nothing)
 }
 
-/// Sets how many seconds a tick lasts. A fault, where settings are over or the value is no decimal.
+/// Sets how many seconds a tick lasts. A fault, where settings are over or the value is no decimal. The value is `()`.
 #[tactic(auto, unfolding(crate::specs::Settings::set_duration))]
 fn set_duration(machine: &mut Machine, value: &Value) -> Result<Value, Stop>
     ensures { Gives (λ v. (view_value v, machine.new)) result (set_duration (view_value value.now) machine.old) }
@@ -99,7 +100,8 @@ fn set_duration(machine: &mut Machine, value: &Value) -> Result<Value, Stop>
     Ok(Value::Nothing)
 }
 
-/// What `set` does, by the key: sets the sample rate, or the duration of a tick. Any other key changes nothing.
+/// What `set` does, by the key: sets the sample rate, or the duration of a tick. Any other key changes nothing. The
+/// value is `()`.
 #[tactic(auto, unfolding(crate::specs::Settings::setting))]
 fn setting(machine: &mut Machine, key: &str, value: &Value) -> Result<Value, Stop>
     ensures { Gives (λ v. (view_value v, machine.new)) result (setting key.now (view_value value.now) machine.old) }

@@ -17,7 +17,8 @@ use plan_core::{BufferPlan, Draft, Items, Node, Op};
 use script_values::{Given, Limit, Machine, Stop, Value};
 use std::alloc::Global;
 
-/// `amplify(k, s)`: adds a node that multiplies each sample of the source by this factor.
+/// `amplify(k, s)`: adds a node that multiplies each sample of the source by this factor. `given` has the call's
+/// arguments, `kinds` the kind of the node (mono or stereo); the value is the node as a source.
 #[tactic(auto, unfolding(crate::specs::Builtins::amplify))]
 pub(crate) fn amplify(
     alloc: Global,
@@ -35,7 +36,8 @@ pub(crate) fn amplify(
     add(machine, Op::Amplify { factor }, kind, children)
 }
 
-/// `mean(s)`: adds a mono node that averages both sides of a stereo source.
+/// `mean(s)`: adds a mono node that averages both sides of a stereo source. `given` has the call's arguments, and the
+/// value is the new node as a source.
 #[tactic(auto, unfolding(crate::specs::Builtins::mean))]
 pub(crate) fn mean(
     alloc: Global,
@@ -49,7 +51,8 @@ pub(crate) fn mean(
     add(machine, Op::Mean, Kind::Mono, children)
 }
 
-/// `stereo(s)`: adds a stereo node that plays a mono source on both sides.
+/// `stereo(s)`: adds a stereo node that plays a mono source on both sides. `given` has the call's arguments, and the
+/// value is the new node as a source.
 #[tactic(auto, unfolding(crate::specs::Builtins::stereo))]
 pub(crate) fn stereo(
     alloc: Global,
@@ -64,6 +67,7 @@ pub(crate) fn stereo(
 }
 
 /// `crossfade(duration=5., s)`, whose name stands at token `at`: adds a node that mixes each track into the one before.
+/// `given` has the call's arguments, `kinds` the kind of the node (mono or stereo); the value is the node as a source.
 #[tactic(auto, unfolding(crate::specs::Builtins::crossfade))]
 pub(crate) fn crossfade(
     alloc: Global,
@@ -83,7 +87,8 @@ pub(crate) fn crossfade(
     add(machine, Op::Crossfade { overlap }, kind, children)
 }
 
-/// `mksafe(s)`: adds a source that plays `s` while it is ready, and silence while it is not.
+/// `mksafe(s)`: adds a source that plays `s` while it is ready, and silence while it is not. `given` has the call's
+/// arguments, `kinds` the kind of the node (mono or stereo); the value is the node as a source.
 #[tactic(auto, unfolding(crate::specs::Builtins::mksafe))]
 pub(crate) fn mksafe(
     alloc: Global,
@@ -100,7 +105,8 @@ pub(crate) fn mksafe(
 }
 
 /// `buffer(buffer=1., max=10., s)`, whose name stands at token `at`: adds a buffer, a sink that feeds it from `s`, and
-/// a node that reads it, which is the value.
+/// a node that reads it, which is the value. `given` has the call's arguments, `kinds` the kind of the source (mono or
+/// stereo).
 #[tactic(auto, unfolding(crate::specs::Builtins::buffer))]
 pub(crate) fn buffer(
     alloc: Global,
@@ -120,7 +126,8 @@ pub(crate) fn buffer(
     add_buffer(alloc, machine, source, kind, plan)
 }
 
-/// `clock(id="", s)`: adds a node that passes the source on and sets it in the clock of this id.
+/// `clock(id="", s)`: adds a node that passes the source on and sets it in the clock of this id. `given` has the call's
+/// arguments, `kinds` the kind of the node (mono or stereo); the value is the node as a source.
 #[tactic(auto, unfolding(crate::specs::Builtins::clock))]
 pub(crate) fn clock(
     alloc: Global,
@@ -140,7 +147,8 @@ pub(crate) fn clock(
 }
 
 // The overlap of a crossfade of this source, from seconds to samples. It is a fault where it is too long, or where a
-// path down from the crossfade has more than 4 crossfades.
+// path down from the crossfade has more than 4 crossfades. `at` is the token of the call's name, which a bad value
+// names.
 #[tactic(auto, unfolding(crate::specs::Builtins::short_overlap))]
 fn short_overlap(at: u32, plan: &Draft, source: u32, duration: Decimal) -> Result<u32, Stop>
     ensures { Gives (λ n. n) result (short_overlap at source duration plan.now) }
@@ -151,8 +159,8 @@ fn short_overlap(at: u32, plan: &Draft, source: u32, duration: Decimal) -> Resul
     Ok(overlap)
 }
 
-/// Makes a source infallible: adds an endless blank, and a fallback that plays node `source` while it is ready and else
-/// the blank. The value is the fallback.
+/// Makes a source infallible: adds an endless blank (its tracks have length 0), and a fallback that plays node `source`
+/// while it is ready and else the blank. The fallback changes within a track too. The value is the fallback.
 #[tactic(auto, unfolding(crate::specs::Builtins::safe))]
 fn safe(alloc: Global, machine: &mut Machine, kind: Kind, source: u32) -> Result<Value, Stop>
     requires { source < length machine.old.plan.nodes }
@@ -169,7 +177,8 @@ fn safe(alloc: Global, machine: &mut Machine, kind: Kind, source: u32) -> Result
 }
 
 // The sizes of a buffer, from two times in seconds: the samples that its reader collects before it plays (`held`), and
-// how many chunks it holds at most (`most`). Times below zero or beyond the limits are faults.
+// how many chunks it holds at most (`most`). Times below zero or beyond the limits are faults. `at` is the token of the
+// call's name, which a bad value names.
 #[tactic(auto, unfolding(crate::specs::Builtins::buffer_plan))]
 fn buffer_plan(at: u32, plan: &Draft, held: Decimal, most: Decimal) -> Result<BufferPlan, Stop>
     ensures { Gives (λ b. b) result (buffer_plan at held most plan.now) }

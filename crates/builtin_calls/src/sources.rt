@@ -22,7 +22,8 @@ pub(crate) struct Pairs {
     pub(crate) sources: Vec<u32>,
 }
 
-/// Takes the first argument without a label, a source of this kind, and gives the number of its node.
+/// Takes the first argument without a label, a source of this kind, and gives the number of its node. None, or a value
+/// that is no such source, is stuck, for typing refuses it. `plan` tells the kind of each node.
 #[tactic(auto, unfolding(crate::specs::Parts::plain_source))]
 pub(crate) fn plain_source(plan: &Draft, kind: Kind, given: &mut Vec<Given>) -> Result<u32, Stop>
     ensures given { Gives (λ n. (n, map view_given given.new.items)) result
@@ -35,6 +36,7 @@ pub(crate) fn plain_source(plan: &Draft, kind: Kind, given: &mut Vec<Given>) -> 
 }
 
 /// Takes the first argument without a label, a list of sources of this kind, and gives the numbers of their nodes.
+/// Anything else is stuck, for typing refuses it. `plan` tells the kind of each node.
 #[tactic(auto, unfolding(crate::specs::Parts::plain_sources))]
 pub(crate) fn plain_sources(
     alloc: Global,
@@ -52,7 +54,8 @@ pub(crate) fn plain_sources(
 }
 
 /// Takes the first argument without a label, the cases of a `switch`, and gives their predicates of time and the nodes
-/// of their sources, which are of this kind.
+/// of their sources, which are of this kind. Anything else is stuck, for typing refuses it. `plan` tells the kind of
+/// each node.
 #[tactic(auto, unfolding(crate::specs::Parts::plain_pairs))]
 pub(crate) fn plain_pairs(
     alloc: Global,
@@ -69,7 +72,7 @@ pub(crate) fn plain_pairs(
     Ok(pairs)
 }
 
-// The number of the node of a value that is a source of this kind. The value is dropped.
+// The number of the node of a value that is a source of this kind. The value is dropped. Any other value is stuck.
 fn as_source(plan: &Draft, kind: Kind, value: Value) -> Result<u32, Stop>
     ensures given { Gives (λ n. n) result (source_of plan.now.nodes kind (view_value value)) }
     ensures there { IfOk result (λ n. n < length plan.now.nodes) }
@@ -77,7 +80,8 @@ fn as_source(plan: &Draft, kind: Kind, value: Value) -> Result<u32, Stop>
     source_of(plan, kind, &value)
 }
 
-/// The numbers of the nodes of a value that is a list of sources of this kind. The value is dropped.
+/// The numbers of the nodes of a value that is a list of sources of this kind. The value is dropped. Any other value is
+/// stuck.
 fn as_sources(alloc: Global, plan: &Draft, kind: Kind, value: Value) -> Result<Vec<u32>, Stop>
     ensures given { Gives (λ ns. ns.items) result (sources_of plan.now.nodes kind (view_value value)) }
     ensures there { IfOk result (λ ns. All (λ n. n < length plan.now.nodes) ns.items) }
@@ -85,7 +89,8 @@ fn as_sources(alloc: Global, plan: &Draft, kind: Kind, value: Value) -> Result<V
     sources_of(alloc, plan, kind, &value)
 }
 
-/// The cases of a `switch` from a value that is a list of tuples, with sources of this kind. The value is dropped.
+/// The cases of a `switch` from a value that is a list of tuples, with sources of this kind. The value is dropped. Any
+/// other value is stuck.
 fn as_pairs(alloc: Global, plan: &Draft, kind: Kind, value: Value) -> Result<Pairs, Stop>
     ensures given { Gives (λ ps. (map view_shared ps.preds.items, ps.sources.items)) result
         (pairs_of plan.now.nodes kind (view_value value)) }
@@ -149,7 +154,8 @@ fn sources_of(alloc: Global, plan: &Draft, kind: Kind, value: &Value) -> Result<
     }
 }
 
-/// The numbers of the nodes of these values, each of which is a source of this kind.
+/// The numbers of the nodes of these values, each of which is a source of this kind. One that is none is stuck, for
+/// typing refuses it.
 fn sources_in(alloc: Global, plan: &Draft, kind: Kind, parts: &[Value]) -> Result<Vec<u32>, Stop>
     ensures given { Gives (λ ns. ns.items) result
         (nodes_from plan.now.nodes kind (many (map view_value parts.now)) []) }
@@ -176,7 +182,7 @@ fn pred_of(value: &Value) -> Result<SharedPred, Stop>
 }
 
 // The case of a `switch` that a value is, a tuple: its predicate of time, and the node of its source, which is of this
-// kind.
+// kind. Another value is stuck: typing refuses such a call.
 #[tactic(auto, unfolding(crate::specs::Parts::case_of))]
 fn pair_of(plan: &Draft, kind: Kind, value: &Value) -> Result<(SharedPred, u32), Stop>
     ensures given { Gives (λ x. (view_shared x.0, x.1)) result (case_of plan.now.nodes kind (view_value value.now)) }
@@ -209,7 +215,7 @@ fn pair_in(plan: &Draft, kind: Kind, parts: &[Value]) -> Result<(SharedPred, u32
 }
 
 /// The cases of a `switch` from these values, each a tuple: the predicates of time, and the nodes of the sources, in
-/// order.
+/// order. Another value among them is stuck, for typing refuses it.
 fn pairs_in(alloc: Global, plan: &Draft, kind: Kind, parts: &[Value]) -> Result<Pairs, Stop>
     ensures given { Gives (λ ps. (map view_shared ps.preds.items, ps.sources.items)) result
         (pairs_from plan.now.nodes kind (many (map view_value parts.now)) [] []) }
@@ -226,7 +232,7 @@ fn pairs_in(alloc: Global, plan: &Draft, kind: Kind, parts: &[Value]) -> Result<
 }
 
 /// The cases of a `switch` from a value that is a list of tuples: the predicates of time, and the nodes of the sources,
-/// in order.
+/// in order. Another value is stuck: typing refuses such a call.
 #[tactic(auto, unfolding(crate::specs::Parts::pairs_of))]
 fn pairs_of(alloc: Global, plan: &Draft, kind: Kind, value: &Value) -> Result<Pairs, Stop>
     ensures given { Gives (λ ps. (map view_shared ps.preds.items, ps.sources.items)) result

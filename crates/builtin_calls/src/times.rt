@@ -19,7 +19,8 @@ pub(crate) fn samples_of(at: u32, rate: u32, time: Decimal) -> Result<u64, Stop>
     }
 }
 
-/// How many samples an overlap lasts, at least one; a shorter time is a bad value at token `at`.
+/// How many samples an overlap lasts, at least one; a shorter time is a bad value at token `at`. `rate` is in samples a
+/// second.
 #[tactic(auto, unfolding(crate::specs::Times::overlap_samples))]
 pub(crate) fn overlap_of(at: u32, rate: u32, time: Decimal) -> Result<u64, Stop>
     ensures { Gives (λ n. n) result (overlap_samples at rate time) }
@@ -31,7 +32,8 @@ pub(crate) fn overlap_of(at: u32, rate: u32, time: Decimal) -> Result<u64, Stop>
     Ok(samples)
 }
 
-/// How many samples a track lasts, or 0 for a time that is not above zero, which makes one endless track.
+/// How many samples a track lasts, or 0 for a time that is not above zero, which makes one endless track. A time above
+/// zero that is shorter than one sample is a bad value at token `at`.
 #[tactic(auto, unfolding(crate::specs::Times::track_of))]
 pub(crate) fn track_of(at: u32, rate: u32, time: Decimal) -> Result<u64, Stop>
     ensures { Gives (λ n. n) result (track_of at rate time) }
@@ -54,7 +56,8 @@ pub(crate) fn pitch_of(at: u32, pitch: Decimal) -> Result<Decimal, Stop>
     Ok(pitch)
 }
 
-/// How many whole chunks of `frame` samples, the samples of one tick, fit in so many samples; at least one.
+/// How many whole chunks of `frame` samples, the samples of one tick, fit in so many samples. It is at least one, as a
+/// buffer holds a chunk at least, and also where `frame` is 0.
 pub(crate) fn chunks(samples: u64, frame: u32) -> u64
     ensures { result ≡ chunks samples frame }
 {

@@ -67,8 +67,8 @@ impl Entry {
     }
 }
 
-/// The bytes of the file of this name in a shelf in memory: of those that it wrote the newest, else the first of those
-/// with which it was made.
+/// The bytes of the file of this name in a shelf in memory: of those that it wrote (`closed`) the newest, else the
+/// first of those with which it was made (`given`); `None` where there is none.
 pub(crate) fn find_file<'a>(
     closed: &'a Closed,
     given: &'a [(String, Vec<u8>)],
@@ -84,7 +84,8 @@ pub(crate) fn find_file<'a>(
 }
 
 /// Reads the file of this name in a shelf in memory: adds its bytes to `into`, if it has at most `most`, and answers
-/// whether it was found, missing or too large.
+/// whether it was found, missing or too large. A written file (`closed`) goes before one with which the shelf was made
+/// (`given`). It fails for want of memory alone.
 pub(crate) fn fetch_file(
     closed: &Closed,
     given: &[(String, Vec<u8>)],
@@ -117,7 +118,8 @@ pub(crate) fn fetch_file(
     }
 }
 
-/// The bytes of the newest file of this name that a shelf in memory wrote. A sink whose closing failed is no file.
+/// The bytes of the newest file of this name that a shelf in memory wrote; `None` where it wrote none. `closed` has its
+/// closed sinks, the newest first. A sink whose closing failed (`Lost`) is no file.
 fn find_closed<'a>(closed: &'a Closed, name: &str) -> Option<&'a [u8]>
     ensures { MatchOption result (stored name.now (entries closed.now) ≡ None)
         (λ bytes. stored name.now (entries closed.now) ≡ Some bytes.now) }
@@ -135,7 +137,7 @@ fn find_closed<'a>(closed: &'a Closed, name: &str) -> Option<&'a [u8]>
     }
 }
 
-/// The bytes of the first file of this name with which a shelf in memory was made.
+/// The bytes of the first file of this name with which a shelf in memory was made; `None` where there is none.
 fn find_given<'a>(given: &'a [(String, Vec<u8>)], name: &str) -> Option<&'a [u8]>
     ensures { MatchOption result (stored name.now (given_entries given.now) ≡ None)
         (λ bytes. stored name.now (given_entries given.now) ≡ Some bytes.now) }

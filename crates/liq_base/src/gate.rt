@@ -2,10 +2,12 @@
 
 /// What a clock's task passes before each of its ticks, and where it may wait.
 pub trait Gate {
-    /// Tick `tick` of clock `clock` is about to begin. Both are counted from 0.
+    /// Is called before clock `clock` begins its tick `tick`, both counted from 0. The clock's task waits in it as long
+    /// as the gate wants.
     fn enter(&self, clock: u32, tick: u64);
 
-    /// A buffer carries a source from one of these clocks to the other. It is told before their first ticks.
+    /// Tells the gate that a buffer carries a source from clock `_from` to clock `_to`, before the first ticks of both.
+    /// A gate that needs no such news does nothing here.
     fn join(&self, _from: u32, _to: u32) {}
 }
 

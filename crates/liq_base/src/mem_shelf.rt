@@ -149,7 +149,8 @@ impl MemShelf {
         Ok(())
     }
 
-    /// The bytes of the file of this name in the shelf; `None` where there is none.
+    /// The bytes of the file of this name in the shelf; `None` where there is none. A file that was written goes before
+    /// one with which the shelf was made.
     pub fn get(&self, name: &str) -> Option<&[u8]>
         ensures file { MatchOption result (file_at self.now.files name.now ≡ None)
             (λ bytes. file_at self.now.files name.now ≡ Some bytes.now) }
@@ -167,7 +168,8 @@ impl MemShelf {
         Ok(())
     }
 
-    /// Counts one more read, and answers whether the shelf was told to let it fail; if so it counts a fault too.
+    /// Counts one more read, and answers whether the shelf was told to let it fail; if so it counts a fault too. Reads
+    /// are numbered from 0.
     fn count_read(&mut self) -> bool
         ensures next { self.new ≡ after_read self.old }
         ensures fails { result ≡ read_fails self.old }
@@ -210,8 +212,8 @@ impl Shelf for MemShelf {
         fetch_file(&self.closed, &self.given, name, into, most)
     }
 
-    // Makes an empty sink of this name in memory, with this room, and notes its name; fails where this creation is
-    // listed to fail.
+    // Makes an empty sink of this name in memory, with this room, and notes its name. Where this creation is listed to
+    // fail, it counts a fault and fails. The sink takes over the appends that are listed for it.
     fn create(&mut self, name: &str, room: u64) -> Result<NamedSink, ShelfFault>
         ensures next { OnOk result (self.new ≡ after_create self.old (name.now ∷ [])) }
         ensures refused { OnErr result (self.new ≡ after_create self.old []) }
@@ -236,7 +238,7 @@ impl Shelf for MemShelf {
     }
 
     // Makes the bytes of a sink the file of its name, and tells it among the closed ones. Where this closing is listed
-    // to fail, the files stay as they were.
+    // to fail, the files stay as they were. A fault is counted there, and also where an append of the sink had failed.
     fn close(&mut self, out: NamedSink) -> Result<(), Failed>
         ensures next { self.new ≡ after_close self.old out }
         ensures answer { is_ok result ≡ not (close_fails self.old) }
@@ -259,8 +261,8 @@ impl Shelf for MemShelf {
     }
 }
 
-/// The appends that are to fail of the sink which creation number `sink` makes: for each the number of the call, and
-/// how many bytes it takes.
+/// The appends that are to fail of the sink which creation number `sink` makes: for each the number of the call, from
+/// 0, and how many bytes it takes. `fails` has those of all sinks.
 fn listed_appends(
     alloc: Global,
     fails: &[FailingAppend],

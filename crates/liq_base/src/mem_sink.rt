@@ -106,7 +106,8 @@ fn find_stop(fails: &[(u64, u64)], call: u64) -> Option<u64>
 }
 
 /// After how many bytes a piece of `size` bytes stops, with room for `left` more; `None` where it is taken whole.
-/// `listed_stop` is where its call is listed to fail.
+/// `listed_stop` is where its call is listed to fail. Of a piece past the room nothing is taken, unless its call is
+/// listed.
 fn stop_at(listed_stop: Option<u64>, left: u64, size: u64) -> Option<u64>
     ensures { result ≡ stop listed_stop left size }
 {
@@ -122,8 +123,8 @@ impl Sink for MemSink {
 
     ghost told = { sink_told };
 
-    // Adds a piece to the bytes held. Where the call is listed to fail, or the room is too small, it takes a front of
-    // the piece, counts a fault and fails.
+    // Adds a piece to the bytes held. Where the call is listed to fail, it takes a front of the piece, counts a fault
+    // and fails; a piece past the room fails with nothing taken. The room was reserved, so memory is never wanting.
     fn append(&mut self, piece: &[u8]) -> Result<(), Failed>
         ensures next { self.new ≡ appended self.old piece.now }
         ensures answer { is_ok result ≡ is_none (stops self.old piece.now) }

@@ -52,7 +52,7 @@ impl NamedSink {
     }
 
     /// Makes the sink, as its shelf closes it, an entry of the shelf's list of closed sinks, with its name, bytes and
-    /// counts. The entry is linked to no other yet.
+    /// counts. The entry is linked to no other yet. It was made with the sink, so this takes no memory.
     pub(crate) fn into_entry(self) -> Box<Entry>
         ensures name { string_bytes result.value.name ≡ self.name }
         ensures bytes { result.value.bytes.items ≡ self.sink.held }

@@ -71,8 +71,8 @@ pub trait Shelf {
     /// What it tells of itself. No call changes which of its facts are told, and no count falls.
     ghost told: { Self → ShelfTold };
 
-    /// Adds the bytes of the file to `into`, if it has at most `most`; any answer but `Found` leaves
-    /// `into` as it was.
+    /// Adds the bytes of the file to `into`, if it has at most `most`, and answers whether it was found, missing or too
+    /// large; any answer but `Found` leaves `into` as it was.
     fn read(&mut self, name: &str, into: &mut Vec<u8>, most: u64) -> Result<Fetched, ShelfFault>
         ensures found { result ≡ Ok Fetched.Found
             → Found (told self.old).files name.now most into.old.items into.new.items }
@@ -86,7 +86,8 @@ pub trait Shelf {
         ensures shelf { OnlyRead (told self.old) (told self.new) };
 
     /// Adds the first bytes of the file to `into`, at least `front` of them or all, if it has at most `most`, and tells
-    /// how many it has; any answer but `Found` leaves `into` as it was.
+    /// how many it has; any answer but `Found` leaves `into` as it was. Unless a shelf does better, it reads the whole
+    /// file.
     fn look(
         &mut self,
         name: &str,
@@ -113,8 +114,8 @@ pub trait Shelf {
         }
     }
 
-    /// An empty sink of this name, with room for so many bytes. The name holds what it held until
-    /// the sink is closed.
+    /// Makes an empty sink of this name, with room for so many bytes. The name holds what it held until the sink is
+    /// closed.
     fn create(&mut self, name: &str, room: u64) -> Result<Self::Out, ShelfFault>
         ensures fresh { IfOk result (λ out. IsFresh name.now room (told self.old) (Self.Out.told out)) }
         ensures made { OnOk result (OnlyMade name.now (told self.old) (told self.new)) }

@@ -49,7 +49,8 @@ impl SureShelf {
         }
     }
 
-    /// The bytes of the file of this name in the shelf; `None` where there is none.
+    /// The bytes of the file of this name in the shelf; `None` where there is none. A file that was written goes before
+    /// one with which the shelf was made.
     pub fn get(&self, name: &str) -> Option<&[u8]>
         ensures file { MatchOption result (file_at self.now name.now ≡ None)
             (λ bytes. file_at self.now name.now ≡ Some bytes.now) }

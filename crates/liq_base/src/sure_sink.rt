@@ -46,6 +46,7 @@ impl SureSink {
     }
 
     /// Makes the sink, as its shelf closes it, an entry of the shelf's list of closed sinks, with its name and bytes.
+    /// The entry was made with the sink, so this takes no memory.
     pub(crate) fn into_entry(self) -> Box<Entry>
         ensures name { string_bytes result.value.name ≡ self.name }
         ensures bytes { result.value.bytes.items ≡ self.held }
@@ -68,7 +69,8 @@ impl Sink for SureSink {
 
     ghost told = { sure_told };
 
-    // Adds a piece, which fits in the room, to the bytes held. It never fails.
+    // Adds a piece, which fits in the room, to the bytes held. It never fails, since the room was reserved with the
+    // sink.
     fn append(&mut self, piece: &[u8]) -> Result<(), Failed>
         requires { HasRoom (sure_told self.old).room (length piece.now) }
         ensures next { self.new ≡ record self.old { held = self.old.held ++ piece.now } }

@@ -40,7 +40,8 @@ impl<T: Copy> TokenTable<T> {
         }
     }
 
-    /// The value that the table has for the token with index `at`; `None` where it has none.
+    /// The value that the table has for the token with index `at`; `None` where it has none. A place holds one more
+    /// than the index of its value, and 0 where there is none.
     pub fn get(&self, at: u32) -> Option<T>
         ensures { result ≡ at_token at self.now }
     {

@@ -16,8 +16,9 @@ use sample_kernels::{add_into, clamp_all, divide, halves, scale};
 use stream_meaning::Part;
 
 impl Mixer {
-    /// Writes the samples of a node over a run of instants to `left` and `right`, from the samples `before` of its
-    /// children. A child counts if it offers a cell; where none does, nothing is written. `sums` is room for the work.
+    /// Writes the samples of a node over a run of instants to `left` and `right`. `before` has what the nodes before it
+    /// gave, its children among them. A child counts if it offers a cell; where none does, nothing is written. `sums`
+    /// is room for the work of a sum.
     pub fn run(
         &self,
         children: &[u32],
@@ -47,7 +48,7 @@ impl Mixer {
     }
 
     // Writes the samples, over a run of instants, of a node that changes one source: the first of its children that
-    // offers. Where none does, nothing is written.
+    // offers. `before` has what all nodes before it gave. Where no child offers, nothing is written.
     fn change_first(
         &self,
         children: &[u32],
@@ -73,8 +74,9 @@ impl Mixer {
         self.change(from_left, from_right, left, right);
     }
 
-    // Writes the samples of a node over a run from those of its one source: times a factor, the mean of both sides, the
-    // left ones on both, or as they are.
+    // Writes the samples of a node over a run to `left` and `right`, from both sides of its one source: times a factor,
+    // the mean of both sides, the left ones on both, or as they are. The mean is mono: it stands on the left, with
+    // zeros on the right.
     fn change(&self, from_left: &[i16], from_right: &[i16], left: &mut [i16], right: &mut [i16])
         requires from { length from_right.now ≡ length from_left.now }
         requires same { length left.old ≡ length from_left.now }
@@ -104,7 +106,8 @@ impl Mixer {
 }
 
 /// Writes one side of the samples of a sum over a run of instants: at each, the sum or mean of the children that offer.
-/// `lanes` has the samples of all nodes; `sums` and `counts` are room. Where no child offers, nothing is written.
+/// `parts` tells which nodes offer, `lanes` has the samples of all nodes, and `sums` and `counts` are room. Where no
+/// child offers, nothing is written.
 pub fn sum_lane(
     children: &[u32],
     parts: &[Part],
@@ -132,7 +135,7 @@ pub fn sum_lane(
 }
 
 // Writes to `sums`, for each instant of a run, the sum of the samples of the children that offer, and answers how many
-// of them there are.
+// of them there are. `parts` tells which nodes offer, and `lanes` has the samples of all nodes.
 fn add_all(children: &[u32], parts: &[Part], lanes: &[Vec<i16>], sums: &mut [i32]) -> u16
     requires few { length children.now ≤ 65535 }
     requires short { length sums.old ≤ 2048 }
@@ -155,7 +158,7 @@ fn add_all(children: &[u32], parts: &[Part], lanes: &[Vec<i16>], sums: &mut [i32
 }
 
 // Makes samples of the sums over a run: with `normalize` the mean of the `parts` children that were added, or the sum
-// cut to the range of a sample. `counts` is room.
+// cut to the range of a sample. `counts` is room for the divisor of each sum.
 fn level_all(sums: &[i32], parts: u16, normalize: bool, counts: &mut [u16], into: &mut [i16])
     requires counts { length counts.old ≡ length sums.now }
     requires same { length into.old ≡ length sums.now }

@@ -29,7 +29,7 @@ pub enum Mixer {
 
 impl Mixer {
     /// What a mixing node offers at an instant, from what its children offer, in their order: a sum or mean of all, or
-    /// a change of the first one. It takes no memory.
+    /// a change of the first one. It takes no memory. `None` where no child offers.
     pub fn slot(&self, slots: &[Option<Cell>]) -> Option<Cell>
         requires { length slots.now ≤ 65535 }
         ensures { result ≡ mix_slot (mixing_of self.now) slots.now }

@@ -37,8 +37,9 @@ impl Sums {
         Ok(Sums { sums, counts })
     }
 
-    /// Writes one side of the samples of a sum over a run of instants: at each, the sum or mean of the children that
-    /// offer. `lanes` has the samples of all nodes. Where no child offers, nothing is written.
+    /// Writes one side of the samples of a sum over a run of instants: at each, the sum, or with `normalize` the mean,
+    /// of the children that offer. `parts` tells which nodes offer, and `lanes` has the samples of all nodes. Where no
+    /// child offers, nothing is written.
     pub fn sum(
         &mut self,
         children: &[u32],

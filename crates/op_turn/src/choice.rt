@@ -59,7 +59,7 @@ pub fn drawn(offers: &[Option<Cell>], word: u32) -> Option<u32>
 }
 
 /// Puts together what a rotate or a random offers: the child `used` with its cell, which is marked as the first of a
-/// track where it begins one or the child is another than `last`.
+/// track where it begins one or the child is another than `last`. `None` where no child is used.
 pub fn picked(offers: &[Option<Cell>], last: Option<u32>, used: Option<u32>) -> Option<Pick>
     ensures { result ≡ picked offers.now last used }
 {
@@ -73,7 +73,7 @@ pub fn picked(offers: &[Option<Cell>], last: Option<u32>, used: Option<u32>) -> 
 }
 
 // The child of this number, from 0, among those that offer a cell, in their order. `offers` begins with what child
-// `from` offers.
+// `from` offers. `None` where fewer offer one.
 fn find_offering(offers: &[Option<Cell>], from: u32, number: u32) -> Option<u32>
     requires { from + length offers.now < 2 ^ 32 }
     ensures { result ≡ slice_get (offering_from offers.now from) number }

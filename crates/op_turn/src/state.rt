@@ -73,8 +73,9 @@ impl TurnState {
         }
     }
 
-    /// Goes on by one instant at which the node gave this cell of this child, as it had offered: notes the child, and
-    /// uses up a word where it was newly chosen.
+    /// Goes on by one instant at which the node gave the cell of `pick`, as it had offered: notes its child as the one
+    /// used last. A cell that is marked as the first of a track tells that its child was newly chosen, and uses up a
+    /// word of the seed.
     pub fn give(&mut self, pick: Pick)
         requires { pick.child < self.old.children }
         ensures children { self.new.children ≡ self.old.children }
@@ -89,7 +90,7 @@ impl TurnState {
     }
 
     // The child that is played at this instant, by what each child offers: the one used last while it goes on with its
-    // track, or else a newly chosen one.
+    // track, or else a newly chosen one. `None` where none offers. A rotate is told by having no words of a seed.
     fn used(&self, offers: &[Option<Cell>]) -> Option<u32>
         requires { length offers.now ≡ self.now.children }
         ensures { result ≡ used_by self.now.words self.now.last offers.now }

@@ -98,7 +98,8 @@ fn resolved_text(rt: &impl Abort, alloc: Global, subst: &Subst, ty: &Ty) -> Resu
     Ok(format!(in alloc; "{ty:?}")?)
 }
 
-// Unifies two types, and gives the text of both with their variables replaced, or `clash` if they cannot be equal.
+// Unifies two types, and gives the text of the first with its variables replaced, or `clash` if they cannot be equal.
+// If the text of the second is another, as it should not be, it follows behind `and`.
 fn outcome(
     rt: &impl Abort,
     alloc: Global,
@@ -174,8 +175,8 @@ fn number_of(ty: &Ty) -> u64 {
     }
 }
 
-// Makes a new variable that is bound to the list of variable `below`, or, with `double`, to the pair of `below` and
-// `below`.
+// Makes a new type variable that is bound to the list of variable number `below`, or, with `double`, to the pair of
+// `below` and `below`; answers it as a type.
 fn storey(
     rt: &impl Abort,
     alloc: Global,
@@ -194,8 +195,8 @@ fn storey(
     Ok(top)
 }
 
-// Makes a deep type out of bound variables: each of `height` is the list of the one before, or, with `double`, the pair
-// of that one twice. Gives the last.
+// Makes a deep type out of bound variables: the lowest is free, and each of `height` more is the list of the one
+// before, or, with `double`, the pair of that one twice. Gives the last.
 fn tower(
     rt: &impl Abort,
     alloc: Global,

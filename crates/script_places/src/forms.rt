@@ -38,7 +38,7 @@ pub enum Form {
 }
 
 /// How a line of a fault names its place in the script (by a byte, token, statement, source or text), by the words that
-/// it begins with.
+/// it begins with. A `Clash` is a statement that fits no types.
 pub fn form_of(line: &[u8]) -> Form
     ensures { result ≡ form_of line.now }
 {
@@ -82,7 +82,8 @@ fn begins_statement(line: &[u8]) -> bool
     begins(line, b"E13 statement ") || begins(line, b"E15 statement ")
 }
 
-// How a line of a fault, or of the week's plan, names a source or a text, by the words that it begins with.
+// How a line of a fault, or of the week's plan, names a source or a text, by the words that it begins with; `Nothing`
+// where it names none.
 fn source_form(line: &[u8]) -> Form
     ensures { result ≡ source_form line.now }
 {
@@ -98,7 +99,8 @@ fn source_form(line: &[u8]) -> Form
 }
 
 // How a line of a fault names a text of the script, such as a file's name, or an output that may be silent; `Nothing`
-// where it names none.
+// where it names none. The text begins behind the first words, at byte `start`, and the last `after` bytes of the line
+// are no part of it.
 fn text_form(line: &[u8]) -> Form
     ensures { result ≡ text_form line.now }
 {

@@ -44,7 +44,8 @@ pub fn named_in(line: &str) -> Option<Named>
 }
 
 // The place of the script that a line of a fault names, by the form of the line: the number at its end or behind its
-// first words, or the text within it; `None` where it has none.
+// first words, or the text within it; `None` where it has none. The first words are skipped by their length, such as 14
+// for `E13 statement `.
 fn named_by(form: Form, line: &[u8]) -> Option<Named>
     ensures found { IfSome result (IsNamedBy form line.now) }
     ensures only { (named : Named) → IsNamedBy form line.now named → result ≡ Some named }

@@ -36,7 +36,7 @@ fn head(alloc: Global, file: &str, before: &[u8]) -> Result<String, Memory>
 }
 
 // Appends the first of the two lines that show a place: `head` (`FILE:LINE:COLUMN: `), the part of the line before the
-// place (`front`, ready to be shown), and the rest of the line.
+// place (`front`, ready to be shown), and the rest of the line. A line feed ends it.
 fn push_line(lines: &mut Vec<u8>, head: &[u8], front: &[u8], rest: &[u8]) -> Result<(), Memory>
     ensures { OnOk result (lines.new.items ≡ lines.old.items ++ head.now ++ front.now ++ shown rest.now ++ codes "\n") }
 {

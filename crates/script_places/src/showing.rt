@@ -17,7 +17,8 @@ fn is_control(byte: u8) -> bool
     (byte < 32 && byte != b'\t') || (127 <= byte && byte < 160)
 }
 
-// Whether the second of these bytes is there and is a control byte other than a TAB.
+// Whether the second of these bytes is there and is a control byte other than a TAB. It is for characters of two bytes,
+// whose second byte tells whether they are controls.
 fn has_control_next(bytes: &[u8]) -> bool
     ensures { result ≡ has_control_next bytes.now }
 {
@@ -36,7 +37,7 @@ pub fn is_marked(bytes: &[u8]) -> bool
 }
 
 // Whether these bytes begin with a character that is shown by its numbers: a control character other than a TAB, or the
-// byte order mark.
+// byte order mark. 194 begins the characters 128 to 191, so the control characters from 128 to 159.
 #[tactic(auto, unfolding(crate::specs::Showing::is_hidden))]
 fn is_hidden(bytes: &[u8]) -> bool
     ensures { result ≡ is_hidden bytes.now }

@@ -34,8 +34,8 @@ pub fn first_token(script: &Script, statement: u64) -> Option<u64>
     Some(first_at(&script.statements[index].part))
 }
 
-// The index of the first token of a statement, from the token indexes that its tree has: its name's, or for a `def`,
-// whose name is its second token, one less.
+// The index of the first token of a statement, from the token indexes that its tree has. It is that of the name or of
+// `if`; for a `def`, whose name is its second token, one less.
 fn first_at(part: &StmtPart) -> u64
     ensures { result ≡ first_at (view_part part.now) }
 {

@@ -64,7 +64,8 @@ impl Machine {
     }
 }
 
-/// Counts `steps` more steps of evaluation as work of the script; past 999999 it is a fault.
+/// Counts `steps` more steps of evaluation as work of the script. Where the work would pass 999999, it is a fault, and
+/// the count stays.
 pub fn count(machine: &mut Machine, steps: u64) -> Result<(), Stop>
     ensures { Gives (λ _. machine.new) result (count_work steps machine.old) }
 {
@@ -90,8 +91,8 @@ pub fn sources_made(plan: &Draft) -> usize
     plan.plan().nodes.len()
 }
 
-/// Notes which call made which sources: those from number `before` on, by the call at token `at`. Where memory is
-/// refused, some of them may be noted.
+/// Notes which call made which sources: those from number `before` on, by the call at token `at`. An earlier note on
+/// one of them is replaced. Where memory is refused, some of them may be noted.
 pub fn note(machine: &mut Machine, at: u32, before: usize) -> Result<(), Memory>
     ensures { OnOk result (machine.new ≡ noted_by at before machine.old) }
 {
@@ -101,7 +102,7 @@ pub fn note(machine: &mut Machine, at: u32, before: usize) -> Result<(), Memory>
 }
 
 // Notes the call at token `at` as the maker of each further source, until there is one call for each of `sources`
-// sources.
+// sources. `calls` has the token of such a call for each source, by its number.
 fn fill(calls: &mut Items<u32>, at: u32, sources: usize) -> Result<(), Memory>
     ensures { OnOk result (calls.new ≡ filled at sources calls.old) }
 {

@@ -44,7 +44,8 @@ pub fn added(minus: bool, at: u32, left: &Value, right: &Value) -> Result<Value,
     }
 }
 
-/// The value of `or` over two truth values. Other values are stuck, for typing refuses them.
+/// The value of `or` over two truth values; both were evaluated before. Other values are stuck, for typing refuses
+/// them.
 #[tactic(auto, unfolding(crate::specs::Numbers::either))]
 pub fn either(left: &Value, right: &Value) -> Result<Value, Stop>
     ensures { Gives (λ v. view_value v) result (either (view_value left.now) (view_value right.now)) }
@@ -55,7 +56,8 @@ pub fn either(left: &Value, right: &Value) -> Result<Value, Stop>
     }
 }
 
-/// The value of `and` over two truth values. Other values are stuck, for typing refuses them.
+/// The value of `and` over two truth values; both were evaluated before. Other values are stuck, for typing refuses
+/// them.
 #[tactic(auto, unfolding(crate::specs::Numbers::both))]
 pub fn both(left: &Value, right: &Value) -> Result<Value, Stop>
     ensures { Gives (λ v. view_value v) result (both (view_value left.now) (view_value right.now)) }
@@ -223,7 +225,7 @@ fn int_product(at: u32, a: i64, b: i64) -> Result<Value, Stop>
     int(at, i128::from(a) * i128::from(b))
 }
 
-/// The product of two numbers of millionths: in millionths of a millionth.
+/// The product of two numbers of millionths: in millionths of a millionth. It has 128 bits, so it fits.
 fn product(a: i64, b: i64) -> i128
     ensures { result ≡ a *ℤ b }
 {

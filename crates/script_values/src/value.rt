@@ -47,7 +47,7 @@ pub enum Value {
 }
 
 /// The size of a value, or `u64::MAX` where it is more: 1, and for a list or a tuple the sizes of its parts besides. A
-/// name for the value costs so much work.
+/// name for the value costs so much work. It counts without regard to what a text or a predicate holds.
 #[cycle(size)]
 pub fn size(value: &Value) -> u64
     ensures { result ≡ min (size (view_value value.now)) u64.MAX }

@@ -14,8 +14,8 @@ use refusal_lines::Fault;
 use station_render::cue_file_name;
 use std::alloc::Global;
 
-/// Refuses a rendering that would write two files of one name: a cue file (where they are wanted) and an output, or the
-/// trace and an output or a cue file.
+/// Refuses a rendering that would write two files of one name: a cue file and an output, or the trace and an output or
+/// a cue file. `trace` is the name of a trace that is wanted, and `cues` says whether cue files are.
 pub fn keep_apart(
     alloc: Global,
     plan: &Plan,
@@ -31,8 +31,9 @@ pub fn keep_apart(
     }
 }
 
-// The first name that two files of a rendering would have, if any: that of a cue file and an output, and then that of
-// the trace and an output or a cue file.
+// The first name that two files of a rendering would have: that of a cue file and an output, and then that of the trace
+// and an output or a cue file. `None` where all names differ. `trace` is the name of a trace that is wanted, and `cues`
+// says whether cue files are.
 fn find_clash(
     alloc: Global,
     plan: &Plan,
@@ -62,7 +63,8 @@ fn find_cue_clash(alloc: Global, plan: &Plan, cues: bool) -> Result<Option<Text>
     Ok(None)
 }
 
-// The name of the cue file of this sink, if it is an output, and if an output of the plan has the same name.
+// The name of the cue file of this sink, if it is an output, and if an output of the plan has the same name; else
+// `None`. A cue file is named as its output with `.cue` behind.
 fn cue_clash_of(alloc: Global, plan: &Plan, sink: &SinkPlan) -> Result<Option<Text>, Memory>
     ensures { IfOk result (λ name. name ≡ cue_clash_at plan.now.sinks sink.now) }
 {
@@ -77,7 +79,7 @@ fn cue_clash_of(alloc: Global, plan: &Plan, sink: &SinkPlan) -> Result<Option<Te
     Ok(Some(file))
 }
 
-// The name of the trace, if one is wanted and an output, or a wanted cue file, has the same name.
+// The name of the trace, if one is wanted and an output, or a wanted cue file, has the same name. Else `None`.
 fn find_trace_clash(
     alloc: Global,
     plan: &Plan,

@@ -21,8 +21,8 @@ use std::alloc::Global;
 use std::sync::Wait;
 use std::thread::Threads;
 
-/// Does `check`: reads the script of this name with its audio files, and gives the report on its outputs and clocks. No
-/// file changes.
+/// Does `check`: reads the script of this name with its audio files, and gives the report on its outputs and clocks, or
+/// why there is none. No file changes.
 pub fn check_job<S: Shelf>(alloc: Global, file: &str, shelf: &mut S) -> Result<String, CallEnd>
     ensures { Ended (Check file.now) (S.told shelf.old) (S.told shelf.new) result }
 {
@@ -30,8 +30,8 @@ pub fn check_job<S: Shelf>(alloc: Global, file: &str, shelf: &mut S) -> Result<S
     report_or_halt(check_report(alloc, &work.plan, &work.clocks))
 }
 
-/// Renders a script on one thread: writes its outputs to the shelf, and then their cue files, if they are wanted. Gives
-/// the report of the rendering.
+/// Renders a script on one thread, as `asked` says: writes its outputs to the shelf, and then their cue files, if they
+/// are wanted. Gives the report of the rendering, or why there is none.
 pub fn alone_job<S: Shelf>(
     alloc: Global,
     asked: &Rendering<'_>,
@@ -44,8 +44,9 @@ pub fn alone_job<S: Shelf>(
     conclude(alloc, &job, ended)
 }
 
-/// Renders a script by threads, in windows of ticks: writes its outputs, then their cue files and its trace, if these
-/// are wanted. Gives the report of the rendering.
+/// Renders a script by threads, as `asked` says, in windows of ticks: writes its outputs, then their cue files and its
+/// trace, if these are wanted. Gives the report, or why there is none. `rt` runs the threads, and `gate` is what each
+/// clock's task passes before a tick.
 pub fn threads_job<S: Shelf, G: Gate + Sync, R: Threads + Wait + Sync>(
     rt: &R,
     alloc: Global,
@@ -62,7 +63,8 @@ pub fn threads_job<S: Shelf, G: Gate + Sync, R: Threads + Wait + Sync>(
     conclude(alloc, &job, ended)
 }
 
-/// Ends a job from how its rendering ended: gives the report of the rendering, or why there is none.
+/// Ends a job from how its rendering ended: gives the report of the rendering, or why there is none. The laws that are
+/// called do nothing when they run: their contracts serve the proof.
 pub(crate) fn conclude(
     alloc: Global,
     job: &Job<'_>,

@@ -7,8 +7,8 @@ ghost use Rattle.stations.specs.Findings.{IsFit};
 ghost use Rattle.stations.specs.Stations.{IsLawful, Station, bare};
 ghost use Rattle.station_jobs.specs.Summary.{SumsAsOneThread, summary_of};
 
-/// Where no buffer joins two clocks, the summary of a lawful run is that of rounds on one thread, whatever the length
-/// of its windows.
+/// A law: where no buffer joins two clocks, the summary of a lawful run is that of rounds on one thread, whatever the
+/// length of its windows.
 pub fn sums_are_as_on_one_thread()
     ensures { (made : Files) (station : Station) (run : Run)
         → IsFit station.plan station.library station.clocks station.ticks

@@ -28,8 +28,9 @@ const TICKS: u64 = 500;
 /// How many ticks a window of its rendering has.
 const WINDOW: u64 = 16;
 
-/// Does `make`: makes the script and audio files of a workload from a seed, renders them by threads, and gives the
-/// summary. Its files and outputs are in memory, in a shelf of its own.
+/// Does `make`: makes the script and `size` audio files of a workload from a seed, renders them by threads, and gives
+/// the summary. Its files and outputs are in memory, in a shelf of its own. `rt` runs the threads, and `gate` is what
+/// each clock's task passes before a tick.
 pub fn make_job<G: Gate + Sync, R: Threads + Wait + Sync>(
     rt: &R,
     alloc: Global,
@@ -44,7 +45,8 @@ pub fn make_job<G: Gate + Sync, R: Threads + Wait + Sync>(
 }
 
 // Renders the workload of a seed and a size over the shelf that holds its files, and gives the summary: each output
-// with its gaps and the sum of its samples.
+// with its gaps and the sum of its samples. The seed and the size themselves are for the contract alone. `rt` runs the
+// threads, and `gate` is what each clock's task passes before a tick.
 fn sum_workload<G: Gate + Sync, R: Threads + Wait + Sync>(
     rt: &R,
     alloc: Global,

@@ -31,8 +31,8 @@ pub struct CheckedPlan {
     pub clocks: ClockMap,
 }
 
-/// Makes the job of a rendering ready to run: reads the script, evaluates it to a plan, refuses two files of one name,
-/// and reads the audio files and finds the clocks.
+/// Makes the job of a rendering, of the script and options in `asked`, ready to run: reads the script, evaluates it to
+/// a plan, refuses two files of one name, and reads the audio files and finds the clocks. The first fault ends it.
 pub fn prepare<'a, S: Shelf>(
     alloc: Global,
     asked: &Rendering<'a>,
@@ -59,8 +59,8 @@ pub fn prepare<'a, S: Shelf>(
     })
 }
 
-/// Reads the script of this name for a check, which renders no tick: gives its plan and clocks, or the fault. Its audio
-/// files are read and given back, and none is decoded.
+/// Reads the script of this name for a check: gives its plan and clocks, or the fault. Its audio files are read and
+/// given back, and none is decoded, since a check renders no tick: that is the 0 in the body.
 pub fn prepare_check<S: Shelf>(
     alloc: Global,
     file: &str,
@@ -78,8 +78,8 @@ pub fn prepare_check<S: Shelf>(
     Ok(CheckedPlan { plan, clocks })
 }
 
-// Reads the script of this name and evaluates it to its plan. Refuses it if two of its outputs, cue files and trace
-// would have one name.
+// Reads the script of this name and evaluates it to its plan. Refuses it if two of its outputs, cue files (if `cues`
+// wants them) and trace (of the name `trace`, if one is wanted) would have one name.
 fn read_plan<S: Shelf>(
     alloc: Global,
     file: &str,
@@ -101,7 +101,8 @@ fn read_plan<S: Shelf>(
     Ok(plan)
 }
 
-// Reads the bytes of the script of this name from the shelf. A script that is missing or too large is refused.
+// Reads the bytes of the script of this name from the shelf. A script that is missing or too large is refused. A failed
+// read and want of memory end the call.
 fn read_script<S: Shelf>(alloc: Global, file: &str, shelf: &mut S) -> Result<Vec<u8>, CallEnd>
     ensures script { IfOk result (λ script. ForSome (S.told shelf.old).files (λ files. file_at files file.now
         ≡ Some script.items)) }

@@ -13,8 +13,9 @@ use liq_base::Shelf;
 use station_render::render_again;
 use std::alloc::Global;
 
-/// Does `replay`: renders a script again on one thread, as the trace in a file tells, and gives the report. The trace
-/// is read before an output is created, so an output may have its name.
+/// Does `replay`: renders `ticks` ticks of a script again on one thread, from second `start` of the week, as the trace
+/// in a file tells, and gives the report. The trace is read before an output is created, so an output may have its
+/// name. It leaves no trace and no cue files.
 pub fn replay_job<S: Shelf>(
     alloc: Global,
     file: &str,

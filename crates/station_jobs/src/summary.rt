@@ -13,7 +13,8 @@ use station_render::push_counts;
 use std::alloc::Global;
 
 /// The summary of a workload that was rendered for so many ticks, at most 1000000000, into this shelf: a line for each
-/// output, in the order of the sinks, with its gaps (from `gaps`) and the sum of its samples.
+/// output, in the order of the sinks, with its samples, its gaps and the sum of its samples. `gaps` has the gaps of
+/// each output, in that order.
 pub fn summary(
     alloc: Global,
     plan: &Plan,

@@ -67,7 +67,7 @@ pub fn find_trace<S: Shelf>(
 }
 
 // Reads the file of this name and parses it as a trace: what the buffers between clocks answered in a run. Refuses the
-// replay if it is none.
+// replay if it is none. A failed read and want of memory end the call.
 fn read_trace<S: Shelf>(alloc: Global, name: &str, shelf: &mut S) -> Result<Trace, CallEnd>
     ensures form { IfOk result (λ trace. IsTrace trace) }
     ensures found { IfOk result (λ trace. ForSome (S.told shelf.old).files (λ files. HasTrace files name.now trace)) }
@@ -86,7 +86,7 @@ fn read_trace<S: Shelf>(alloc: Global, name: &str, shelf: &mut S) -> Result<Trac
 }
 
 // Reads the bytes of the trace's file from the shelf. Refuses the replay if the file is missing or larger than a trace
-// may be.
+// may be. A failed read and want of memory end the call.
 fn read_text<S: Shelf>(alloc: Global, name: &str, shelf: &mut S) -> Result<Vec<u8>, CallEnd>
     ensures found { IfOk result
         (λ text. ForSome (S.told shelf.old).files (λ files. HasText files name.now text.items)) }

@@ -33,8 +33,8 @@ pub struct Rest {
     pub marks: Vec<Mark>,
 }
 
-/// Makes the ticks of a clock from number `made` up to `ticks` in all, in a replay. The buffers hold the chunks that it
-/// gets. The first fault ends it.
+/// Makes the ticks of a clock from number `made` up to `ticks` in all, in a replay. `taps` are the buffers, which
+/// answer as the trace tells and hold the chunks that the clock gets. The first fault ends it.
 pub fn replay_clock<O: Sink>(
     alloc: Global,
     engine: &mut ClockEngine<'_, O>,
@@ -63,7 +63,8 @@ pub fn replay_clock<O: Sink>(
     Ok(())
 }
 
-// Makes one turn of a clock in a replay: its engine goes on from where it rests, up to `ticks` ticks in all. Chunks
+// Makes one turn of a clock in a replay: its engine goes on from where it rests, up to `ticks` ticks in all. `rest` has
+// its ticks and its marks on the buffers (`taps`) so far, and `sides` the clocks at the ends of each buffer. Chunks
 // that no clock gets any more are let go.
 fn replay_turn<O: Sink>(
     alloc: Global,
@@ -103,8 +104,8 @@ fn replay_turn<O: Sink>(
     Ok(())
 }
 
-// Where an engine rests before its first tick of a replay: no tick is made, and it has no mark on any of so many
-// buffers.
+// Where an engine rests before its first tick of a replay: no tick is made, and on each of so many buffers its mark,
+// how far its calls came, stands before the first call.
 fn new_rest(alloc: Global, buffers: usize) -> Result<Rest, Memory>
     ensures { IfOk result (λ rest. IsNewRest buffers rest) }
 {
@@ -125,7 +126,8 @@ fn new_rests(alloc: Global, count: usize, buffers: usize) -> Result<Vec<Rest>, M
     Ok(rests)
 }
 
-// Why a replay ends at a fault of the engine of this clock: a failed write of the clock to a sink, or want of memory.
+// Why a replay ends at a fault of the engine of this clock: a write to a sink that failed, told with the number of the
+// clock, or want of memory.
 fn end_of(clock: u32, fault: TickFault) -> End
     ensures write { (sink : ℕ) → fault ≡ TickWrite sink → result ≡ WriteEnd clock sink }
     ensures memory { fault ≡ OutOfMemory → result ≡ NoMemory }
@@ -145,8 +147,9 @@ fn turn_at(turns: &[TurnMade], i: usize) -> TurnMade
     turns[i]
 }
 
-// Makes all turns of a replay in their order; in each, the engine of one clock goes on from where it rests. The first
-// fault ends it.
+// Makes all turns of a replay in their order; in each, the engine of one clock goes on from where it rests. `taps` are
+// the buffers, and `sides` tells the clocks at the ends of each. `station` and `trace` are for the contract alone. The
+// first fault ends it.
 fn replay_turns<O: Sink>(
     alloc: Global,
     station: &Station<'_>,
@@ -189,8 +192,9 @@ fn replay_turns<O: Sink>(
     Ok(())
 }
 
-/// Makes all ticks of a replay: from engines that made none, in turns in which each clock finds its chunks in the
-/// buffers. The first fault ends it.
+/// Makes all ticks of a replay: from engines that made none, in `turns` in which each clock finds its chunks in the
+/// buffers (`taps`). `sides` tells the clocks at the ends of each buffer. `station` and `trace` are for the contract
+/// alone. The first fault ends it.
 pub fn replay_engines<O: Sink>(
     alloc: Global,
     station: &Station<'_>,

@@ -53,7 +53,7 @@ fn copy_logs(alloc: Global, logs: &[BufferLog]) -> Result<Vec<BufferLog>, Memory
     Ok(copies)
 }
 
-// How many of these answers of a buffer are true (a chunk was accepted or got), and how many are not.
+// How many of these answers of a buffer are true (a chunk was accepted or got), and behind it how many are not.
 fn count_answers(answers: &[bool]) -> (u64, u64)
     ensures yes { result.0 ≡ count_by yes answers.now }
     ensures no { result.1 ≡ count_by not answers.now }
@@ -71,7 +71,7 @@ fn count_answers(answers: &[bool]) -> (u64, u64)
 }
 
 // How often a buffer gave which answer, from its answers in each window: chunks accepted or refused as full, and got or
-// missed as empty.
+// missed as empty. The answers to its puts are counted apart from those to its takes.
 fn count_windows(alloc: Global, windows: &[WindowLog]) -> Result<Counts, Memory>
     ensures { IfOk result (λ counts. counts ≡ counts_in windows.now) }
 {

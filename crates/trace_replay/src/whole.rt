@@ -105,8 +105,8 @@ pub fn find_record(
     Ok(Some(RecordTurns { taps, sides, turns }))
 }
 
-// The result of a replay that made all its ticks, with these logs and their counts; or, without memory for them, an end
-// for want of memory.
+// The result of a replay that made all its ticks: copies of these logs, which are the answers of each buffer, and their
+// counts. Without memory for them it is an end for want of memory.
 fn told_or_ended(alloc: Global, logs: &[BufferLog]) -> RunEnd
     ensures counts { result.end ≡ Done → result.counts.items ≡ map counts_in logs.now }
     ensures logs { result.end ≡ Done → result.logs.items ≡ logs.now }

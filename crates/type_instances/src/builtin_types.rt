@@ -64,7 +64,7 @@ fn new_row_kind(subst: &mut Subst, builtin: Builtin) -> Result<u64, Memory>
 }
 
 /// The type of one call of a builtin, from its row in the table: type variable number `any` and kind variable number
-/// `kind` stand for those of the row.
+/// `kind` stand for those of the row. The number is not used where the row has no such variable.
 fn row_instance(alloc: Global, builtin: Builtin, any: u64, kind: u64) -> Result<Instance, Memory>
     ensures params { IfOk result (λ i. map term_of i.params.items
         ≡ map (instance (any ∷ []) (kind ∷ [])) (builtin_scheme builtin).params) }
@@ -93,7 +93,8 @@ fn has_type_variable(builtin: Builtin) -> bool
     }
 }
 
-/// Whether the type of a builtin is general in a kind, so that it takes or gives sources in mono or in stereo.
+/// Whether the type of a builtin is general in a kind, so that it takes or gives sources in mono or in stereo. `mean`
+/// and `stereo` have fixed kinds, and `set` takes no source.
 fn has_kind_variable(builtin: Builtin) -> bool
     ensures { (signature builtin).kinds ≡ cond result 1 0 }
 {
@@ -105,7 +106,8 @@ fn has_kind_variable(builtin: Builtin) -> bool
     }
 }
 
-/// The open kinds of a call of a builtin: the kind variable of this number, or none where the builtin has no open kind.
+/// The open kinds of a call of a builtin, those that evaluation is told of: the kind variable of this number, or none
+/// where the type of the builtin has no kind variable.
 fn row_kinds(alloc: Global, builtin: Builtin, kind: u64) -> Result<Vec<KindTerm>, Memory>
     ensures { IfOk result (λ ks. ks.items ≡ replicate (signature builtin).kinds (Var kind)) }
 {

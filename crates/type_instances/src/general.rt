@@ -35,7 +35,7 @@ pub struct General {
 
 impl General {
     /// What a call of this general type costs of the budget of type inference: the nodes of its types, 17 for each type
-    /// variable, as its new one allows 16, and four for each kind variable.
+    /// variable, as its new one allows 16, and four for each kind variable. It stops at the greatest number.
     pub fn places(&self) -> u64 {
         let types = (self.types.len() as u64).saturating_mul(17);
         let variables = (self.kinds.len() as u64)

@@ -21,8 +21,9 @@ pub struct Instance {
     pub kinds: Vec<KindTerm>,
 }
 
-/// The type of one call of a def: its general type with new variables of the substitution for its own. It takes time
-/// that grows with the type alone. Where memory runs out, some variables may be made that nothing names.
+/// The type of one call of a def: its general type with variables of the substitution for its own. A variable that is
+/// `Outer` there names one that the substitution has; for any other a new one is made. It takes time that grows with
+/// the type alone. Where memory runs out, some may be made that nothing names.
 pub fn instantiate(alloc: Global, subst: &mut Subst, general: &General) -> Result<Instance, Memory>
     requires over { IsSchemeOver subst.old (scheme_of general.now) }
     ensures instance { IfOk result
@@ -40,7 +41,7 @@ pub fn instantiate(alloc: Global, subst: &mut Subst, general: &General) -> Resul
 }
 
 /// The type of one call, from a general type: variables of these numbers stand for its type variables (`types`) and
-/// kind variables (`numbers`).
+/// kind variables (`numbers`). Its `kinds` are the kind variables of those parameters that the text of the def names.
 fn instance_with(
     alloc: Global,
     general: &General,
@@ -63,8 +64,9 @@ fn instance_with(
     })
 }
 
-/// Puts the parameter types and open kinds of one call into empty lists, and answers the type of its result. Variables
-/// of these numbers stand for those of the general type.
+/// Puts the types of the parameters of one call into `params` and its open kinds, those that the text of the def names,
+/// into `kinds`; both lists are empty before. Answers the type of the result. Variables number `types` and `numbers`
+/// stand for the type and kind variables of the general type.
 fn rename(
     alloc: Global,
     general: &General,
@@ -111,8 +113,8 @@ pub fn fresh_kind_number(subst: &mut Subst) -> Result<u64, Memory>
     }
 }
 
-/// The number of a type variable for a parameter of a general type: a new one for any type or any number type, or the
-/// outer variable that it names.
+/// The number of a type variable for a parameter of a general type: a new one for `Any` type or for a `Number` (int or
+/// decimal). An `Outer` one names a variable that the substitution has, which all calls share.
 fn new_type(subst: &mut Subst, parameter: TypeParameter) -> Result<u64, Memory>
     requires { HasOuterType subst.old parameter }
     ensures new { IfOk result (λ n. IsNewType subst.old subst.new parameter n) }
@@ -125,8 +127,9 @@ fn new_type(subst: &mut Subst, parameter: TypeParameter) -> Result<u64, Memory>
     }
 }
 
-/// The number of a kind variable for a parameter of a general type: a new one for either kind, or the outer variable
-/// that it names.
+/// The number of a kind variable for a parameter of a general type: a new one for either kind, whether the text of the
+/// def names it (`Open`) or not (`Unread`). An `Outer` one names a variable that the substitution has, which all calls
+/// share.
 fn new_kind(subst: &mut Subst, parameter: KindParameter) -> Result<u64, Memory>
     requires { HasOuterKind subst.old parameter }
     ensures new { IfOk result (λ n. IsNewKind subst.old subst.new parameter n) }
@@ -178,7 +181,7 @@ fn new_kinds(
 }
 
 /// Appends copies of these types to an empty list, in which variables of these numbers stand for their type and kind
-/// variables.
+/// variables. `types` and `kinds` have the numbers.
 fn push_renamed(
     alloc: Global,
     copies: &mut Vec<Ty>,
@@ -196,8 +199,9 @@ fn push_renamed(
     Ok(())
 }
 
-/// Appends to an empty list the kind variables, by their numbers, that stand for those parameters which are open, that
-/// is, named in the text of a def.
+/// Appends to an empty list the kind variables, by their `numbers`, that stand for the `Open` parameters: those of
+/// either kind that the text of a def names. Those that it does not name (`Unread`) and those that stand for a variable
+/// of the substitution (`Outer`) are left out.
 fn push_opened(
     kinds: &mut Vec<KindTerm>,
     parameters: &[KindParameter],

@@ -33,8 +33,9 @@ pub struct Seen {
     pub fates: Vec<Fate>,
 }
 
-/// Looks at a `switch` over the week: finds the seconds at which no case holds, and what becomes of each case. `preds`
-/// are the predicates in order, and `sure` tells of each case whether its source never falls silent.
+/// Looks at a `switch` over the week: finds the seconds at which no case holds (`holes`), and what becomes of each
+/// case: it may be chosen, is hidden by cases before it, or never holds. `preds` are the predicates in order, and
+/// `sure` tells of each case whether its source never falls silent.
 pub fn look(alloc: Global, preds: &[SharedPred], sure: &[bool]) -> Result<Seen, Memory>
     requires { length sure.now ≡ length preds.now }
     ensures holes { IfOk result (λ look. IsTableOf (λ at. not (some_case_holds (map view_shared preds.now) at))
@@ -46,8 +47,9 @@ pub fn look(alloc: Global, preds: &[SharedPred], sure: &[bool]) -> Result<Seen, 
     Ok(Seen { holes, fates })
 }
 
-// What becomes of each case of a `switch` over the week, in order. It takes out of `holes`, a table of seconds, those
-// at which one of these cases holds.
+// What becomes of each case of a `switch` over the week, in order: it may be chosen, is hidden by cases before it, or
+// never holds. `sure` tells of each whether its source never falls silent. `holes` is a table of all seconds, and loses
+// those at which one of these cases holds.
 fn fates_of(
     alloc: Global,
     holes: &mut [u64],
@@ -65,8 +67,9 @@ fn fates_of(
     Ok(fates)
 }
 
-// Appends what becomes of each case of a `switch`. `holes` has the seconds at which no case held yet, and `free` those
-// at which none did whose source never falls silent; each case takes its own from both.
+// Appends what becomes of each case of a `switch`. `sure` tells of each whether its source never falls silent. `holes`
+// has the seconds at which no case held yet, and `free` those at which none of the sure ones did; each case takes its
+// own from `holes`, and a sure one from `free` too.
 fn push_fates(
     alloc: Global,
     into: &mut Vec<Fate>,
@@ -114,7 +117,7 @@ fn push_each_fate(
 }
 
 // Makes in `kept` the table of the seconds of the week at which case k, with the predicate `pred`, holds. If case k - 1
-// has the same predicate, that table is there already.
+// has the same predicate, that table is there already, which saves the work.
 fn keep_table(
     alloc: Global,
     kept: &mut Vec<u64>,

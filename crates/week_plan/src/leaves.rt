@@ -30,7 +30,8 @@ pub fn minutes_of(mark: TimeMark) -> u32
     }
 }
 
-/// The table of the seconds of the week at which a predicate holds that comes back after so many minutes.
+/// The table of the seconds of the week at which a predicate holds that comes back after so many minutes. A word of it
+/// is a minute, a bit a second.
 pub fn repeated_table(alloc: Global, pred: &Pred, minutes: u32) -> Result<Vec<u64>, Memory>
     requires some { 0 < minutes }
     requires week { minutes ≤ 10080 }
@@ -43,7 +44,8 @@ pub fn repeated_table(alloc: Global, pred: &Pred, minutes: u32) -> Result<Vec<u6
 }
 
 // Fills a table of the week for a predicate that comes back after so many minutes: finds the seconds at which it holds
-// in these, and repeats them to the end of the week.
+// in these, and repeats them to the end of the week. It asks the predicate once for each stretch of seconds in which
+// its answer stays.
 fn fill_period(words: &mut [u64], pred: &Pred, minutes: u32)
     requires some { 0 < minutes }
     requires week { minutes ≤ 10080 }

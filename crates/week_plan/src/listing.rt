@@ -124,7 +124,8 @@ fn join(rounds: &mut Vec<Round>, end: u32)
     let _joined = rounds.remove(0);
 }
 
-// Whether the last of these spans goes as far as `end`, the end of the day or of the week, and another one begins at 0.
+// Whether the last of these spans goes as far as `end`, the end of the day or of the week, and another one begins at 0:
+// the two then are one span round that end.
 fn goes_round(rounds: &[Round], end: u32) -> bool
     requires { 0 < end }
     ensures is { result ≡ goes_round end rounds.now }
@@ -133,7 +134,8 @@ fn goes_round(rounds: &[Round], end: u32) -> bool
     count >= 2 && rounds[0].from == 0 && rounds[count - 1].last == end - 1
 }
 
-// Appends the text of these spans, with commas between them: the first 8, and how many more there are.
+// Appends the text of these spans, with commas between them: the first 8, and how many more there are. With `daily`
+// they are spans of each day, and else of the week.
 fn push_rounds(into: &mut Vec<u8>, rounds: &[Round], daily: bool) -> Result<(), Memory>
     ensures { OnOk result (into.new.items ≡ into.old.items ++ rounds_text daily 0 rounds.now) }
 {
@@ -148,6 +150,7 @@ fn push_rounds(into: &mut Vec<u8>, rounds: &[Round], daily: bool) -> Result<(), 
 }
 
 // Appends the text of span number k, from 0, by its first and last second, behind a comma unless it is the first.
+// Seconds past the end of the week are told as its last one. With `daily` it is one of each day, else of the week.
 fn push_round(into: &mut Vec<u8>, k: usize, daily: bool, round: &Round) -> Result<(), Memory>
     ensures { OnOk result (into.new.items ≡ into.old.items ++ (comma k ++ round_text daily round.now)) }
 {

@@ -21,7 +21,8 @@ pub struct Looked<'a> {
 }
 
 /// Looks at the cases of a `switch` as `look` does, but only if no kept answer is about the same predicates and flags.
-/// Keeps the answer, and gives its place among the kept ones.
+/// `sure` has the flags: of each case, whether its source never falls silent. Keeps the answer, and gives its place
+/// among the kept ones.
 pub fn look_kept<'a>(
     alloc: Global,
     kept: &mut Vec<Looked<'a>>,
@@ -39,7 +40,8 @@ pub fn look_kept<'a>(
     }
 }
 
-// The place of the kept answer that is about a `switch` with these predicates and flags; `None` where there is none.
+// The place of the first kept answer that is about a `switch` with these predicates and flags (of each case, whether
+// its source never falls silent); `None` where there is none.
 fn place_among(kept: &[Looked<'_>], preds: &[SharedPred], sure: &[bool]) -> Option<usize>
     requires { All IsLooked kept.now }
     ensures { IfSome result (λ place. IsLookedAt kept.now place (map view_shared preds.now) sure.now) }
@@ -52,7 +54,8 @@ fn place_among(kept: &[Looked<'_>], preds: &[SharedPred], sure: &[bool]) -> Opti
     None
 }
 
-// Whether a kept answer is about a `switch` with these predicates and flags (its source never falls silent).
+// Whether a kept answer is about a `switch` with these predicates, written alike and in the same order, and these flags
+// (of each case, whether its source never falls silent).
 fn is_of(looked: &Looked<'_>, preds: &[SharedPred], sure: &[bool]) -> bool
     ensures preds { result ≡ true → map view_shared looked.now.preds.now ≡ map view_shared preds.now }
     ensures sure { result ≡ true → looked.now.sure.items ≡ sure.now }
@@ -63,7 +66,8 @@ fn is_of(looked: &Looked<'_>, preds: &[SharedPred], sure: &[bool]) -> bool
     false
 }
 
-// Looks at the cases of a `switch` of which no answer is kept, keeps the answer, and gives its place.
+// Looks at the cases of a `switch` of which no answer is kept, keeps the answer, and gives its place. `sure` has of
+// each case whether its source never falls silent. Where 64 answers are kept already, they are let go first.
 fn look_anew<'a>(
     alloc: Global,
     kept: &mut Vec<Looked<'a>>,
@@ -81,7 +85,8 @@ fn look_anew<'a>(
     Ok(place)
 }
 
-// Looks at the cases of a `switch`, and gives the answer together with their predicates and flags.
+// Looks at the cases of a `switch`, and gives the answer together with their predicates and flags. `sure` has the
+// flags: of each case, whether its source never falls silent.
 fn looked_of<'a>(
     alloc: Global,
     preds: &'a [SharedPred],
@@ -96,7 +101,7 @@ fn looked_of<'a>(
     Ok(Looked { preds, sure, seen })
 }
 
-// Lets all kept answers go, if as many are kept as may be.
+// Lets all kept answers go, if there are 64 of them, so that memory stays bounded.
 fn make_room(kept: &mut Vec<Looked<'_>>)
     requires { All IsLooked kept.old.items }
     ensures { All IsLooked kept.new.items }

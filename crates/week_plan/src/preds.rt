@@ -12,7 +12,7 @@ use std::alloc::Global;
 use time_pred::Pred;
 
 /// The table of the seconds of the week at which a predicate holds: a word for each minute, and in it a bit for each
-/// second.
+/// second. A time mark or an interval is tabled up to where it comes back, and repeated.
 #[cycle(table)]
 pub fn table_of(alloc: Global, pred: &Pred) -> Result<Vec<u64>, Memory>
     ensures { IfOk result (λ words. IsTableOf (holds (view_pred pred.now)) words.items) }

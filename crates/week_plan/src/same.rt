@@ -28,7 +28,8 @@ pub fn same_pred(pred: &SharedPred, other: &SharedPred) -> bool
     is_same(pred.as_pred(), other.as_pred())
 }
 
-// Whether two predicates are written alike, part by part.
+// Whether two predicates are written alike, part by part. A predicate with the same meaning in another form is told as
+// different.
 #[cycle(same)]
 fn is_same(pred: &Pred, other: &Pred) -> bool
     ensures { result ≡ true → view_pred pred.now ≡ view_pred other.now }
@@ -53,7 +54,8 @@ fn is_same(pred: &Pred, other: &Pred) -> bool
     }
 }
 
-// Whether two lists have predicates that are written alike, in the same order.
+// Whether two lists, the parts of two `and`s or of two `or`s, have predicates that are written alike, in the same
+// order.
 #[cycle(same)]
 fn all_same(parts: &[Pred], others: &[Pred]) -> bool
     ensures { result ≡ true → map view_pred parts.now ≡ map view_pred others.now }
@@ -99,7 +101,7 @@ fn is_mark(mark: TimeMark, pred: &Pred) -> bool
     }
 }
 
-// Whether a predicate is an interval of time, such as `8h-12h`, and between these marks.
+// Whether a predicate is an interval of time, such as `8h-12h`, that begins at the mark `from` and ends at `to`.
 fn is_interval(from: TimeMark, to: TimeMark, pred: &Pred) -> bool
     ensures { result ≡ true → Between from to ≡ view_pred pred.now }
 {

@@ -15,7 +15,8 @@ pub struct Stretch {
     pub end: u32,
 }
 
-/// Whether a second is in the set that a table of the week has, and until which second, at least, all are as this one.
+/// Whether second `at` is in the set that a table of the week has (`told`), and up to which second (`end`), at least,
+/// all are as this one.
 pub fn stretch_from(words: &[u64], at: u32) -> Stretch
     requires table { IsTable words.now }
     requires week { at < 604800 }
@@ -53,7 +54,7 @@ fn over_minutes(words: &[u64], from: u32, told: bool) -> u32
 }
 
 // For how many seconds, from `second` on, those of one minute are all in its word (`told`) or all not: up to the end of
-// the minute at most.
+// the minute at most. It counts the zeros before the next second that is otherwise.
 fn stays_in(word: u64, second: u32, told: bool) -> u32
     requires word { word < 2 ^ 60 }
     requires minute { second < 60 }

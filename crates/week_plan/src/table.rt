@@ -24,14 +24,15 @@ pub enum Way {
     Without,
 }
 
-/// A table of the week that has each second, or none: a word for each minute, and in it a bit for each second.
+/// A table of the week that has each second, if `told` is true, or none: a word for each minute, and in it a bit for
+/// each second.
 pub fn filled(alloc: Global, told: bool) -> Result<Vec<u64>, Memory>
     ensures { IfOk result (λ words. IsTableOf (λ at. told) words.items) }
 {
     repeated(alloc, word_of(told), MINUTES)
 }
 
-/// The word of a minute that has each of its 60 seconds, or none.
+/// The word of a minute that has each of its 60 seconds, if `told` is true, or none.
 pub fn word_of(told: bool) -> u64
     ensures small { result < 2 ^ 60 }
     ensures same { (second : ℕ) → second < 60 → is_set result second ≡ told }
@@ -62,7 +63,7 @@ pub fn join(into: &mut [u64], other: &[u64], way: Way)
 }
 
 // The word of one minute of two joined tables: the seconds that both have, that either has, or that the first has
-// without the other.
+// without the other. A word has a bit for each of the 60 seconds of its minute.
 fn joined_words(way: Way, one: u64, other: u64) -> u64
     requires one { one < 2 ^ 60 }
     requires other { other < 2 ^ 60 }
@@ -77,7 +78,8 @@ fn joined_words(way: Way, one: u64, other: u64) -> u64
     }
 }
 
-/// Whether two tables of the week have a second in common.
+/// Whether two tables of the week have a second in common: true where in some minute the words of both have a bit in
+/// common.
 pub fn meet(one: &[u64], other: &[u64]) -> bool
     requires one { IsTable one.now }
     requires other { IsTable other.now }
@@ -92,7 +94,8 @@ pub fn meet(one: &[u64], other: &[u64]) -> bool
     false
 }
 
-/// Adds to a table of the week the seconds from `from` up to `to`, without `to`.
+/// Adds to a table of the week the seconds from `from` up to `to`, without `to`: in each minute that they touch, those
+/// that lie in it.
 pub fn add_span(into: &mut [u64], from: u32, to: u32)
     requires into { IsTable into.old }
     requires order { from ≤ to }
@@ -117,7 +120,8 @@ fn ones(from: u32, to: u32) -> u64
     (1u64 << to) - (1u64 << from)
 }
 
-/// Repeats the first so many minutes of a table of the week over and over, up to its end.
+/// Repeats the first so many minutes of a table of the week over and over, up to its end. What stood behind them is
+/// lost.
 pub fn repeat(into: &mut [u64], minutes: usize)
     requires into { IsTable into.old }
     requires some { 0 < minutes }

@@ -69,7 +69,8 @@ fn push_end_day(into: &mut Vec<u8>, from: u32, last: u32) -> Result<(), Memory>
     }
 }
 
-// Whether a span of the week, by its first and last second, begins and ends on the same day.
+// Whether a span of the week, by its first and last second, begins and ends on the same day. One that goes round the
+// end of the week to the same day does not.
 fn is_one_day(from: u32, last: u32) -> bool
     requires { last < 604800 }
     ensures { result ≡ is_one_day from last }
@@ -77,7 +78,8 @@ fn is_one_day(from: u32, last: u32) -> bool
     from / DAY == last / DAY && from < last + 1
 }
 
-// Appends the time of the day at which a span ends, from its last second of the week; `24:00` at the end of a day.
+// Appends the time of the day at which a span ends, from its last second of the week; `24:00` at the end of a day. A
+// span ends a second after its last one.
 fn push_end(into: &mut Vec<u8>, last: u32) -> Result<(), Memory>
     ensures { OnOk result (into.new.items ≡ into.old.items ++ end_text last) }
 {
