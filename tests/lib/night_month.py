@@ -40,6 +40,7 @@ class Song:
         ending = {"vbr": "mp3"}.get(form, form)
         self.number, self.form, self.name = number, form, f"music/{name}.{ending}"
         self.touched: Set[int] = set()
+        self.story: List[str] = []             # what was done to it
 
 
 class Songs:
@@ -75,6 +76,7 @@ class Songs:
         what, song = self.chance.choice("remove rename replace cut cut add add".split()), self.chance.choice(self.songs)
         path = self.path(song.name)
         song.touched.update((self.night - 1, self.night, self.night + 1))
+        song.story.append(f"{what} in night {self.night}")
         self.changes += 1
         if what == "remove" and len(self.songs) > SONGS - 8:
             os.remove(path)
@@ -88,7 +90,7 @@ class Songs:
         elif what == "replace":
             self.songs[self.songs.index(song)] = other = self.made(song.number, song.form)
             os.replace(self.path(other.name), path)
-            other.name, other.touched = song.name, song.touched
+            other.name, other.touched, other.story = song.name, song.touched, song.story
         elif what == "cut":
             data = content(path)
             write_file(self.folder, "part", data[:len(data) * 3 // 5])
@@ -246,7 +248,11 @@ class Month(Songs):
         touched = {song.name: song.touched for song in self.songs}
         rock = {song.name: song.touched for song in self.songs if song.number % 3 == 0}
         for name, rows in self.rows.items():
-            self.found += [f"{name}: {line}" for line in out_of_order(rows, rock if name == "rock" else touched)]
+            self.found += [f"{name}: {line}; {self.stories(line)}" for line in out_of_order(rows, rock if name == "rock" else touched)]
+
+    def stories(self, line: str) -> str:
+        """What was done to the songs that a line names."""
+        return "; ".join(f"{song.name}: {', '.join(song.story)}" for song in self.songs if song.story and song.name in line)
 
 
 def out_of_order(rows: Rows, touched: Dict[str, Set[int]]) -> Iterator[str]:
