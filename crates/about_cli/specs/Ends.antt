@@ -30,18 +30,21 @@ pub record Outside : Type 0 where
 abbrev pub outside_of : (scripts shelf : ShelfTold) (out err : SinkTold) → Outside
 outside_of scripts shelf out err = record { scripts = scripts; shelf = shelf; out = out; err = err }
 
--- a piece was written whole, and the status is the wanted one, or it broke off, and the status is 4
+-- A sink took the bytes `piece` whole, and a call's status is the `wanted` one; or the write failed with a beginning
+-- of them, and the status is 4. `old` and `new` are what the sink tells before and after.
 abbrev pub Puts : (piece : List ℕ) → (wanted : ℕ) → (old new : SinkTold) → (status : ℕ) → Type 0
 Puts piece wanted old new status = ((status ≡ wanted) × TookPiece piece old new)
     ⊎ ((status ≡ 4) × TookPart piece old new)
 
--- `out` got all that is told, in one piece
+-- Standard output took all bytes of some answer, `told`, in one piece, and P holds of the answer. `out` and `out_new`
+-- are what the sink of standard output tells before and after.
 pub record Said (P : List ℕ → Type 0) (out out_new : SinkTold) : Type 0 where
   pub told : List ℕ
   pub said : TookPiece told out out_new
   pub is : P told
 
--- `out` got a front of what is told, and the write failed
+-- A write to standard output failed: it took only a beginning of some answer, `told`, and P holds of the whole answer.
+-- `out` and `out_new` are what the sink of standard output tells before and after.
 pub record Broken (P : List ℕ → Type 0) (out out_new : SinkTold) : Type 0 where
   pub told : List ℕ
   pub part : TookPart told out out_new
@@ -51,7 +54,9 @@ pub record Broken (P : List ℕ → Type 0) (out out_new : SinkTold) : Type 0 wh
 abbrev pub TellsEachLong : Question → (shelf : ShelfTold) → (told : List ℕ) → Type 0
 TellsEachLong question shelf told = (text : List ℕ) → MAX_SCRIPT_BYTES < length text → Tells question text shelf shelf told
 
--- the answer to a question about the bytes of a script, by status
+-- What a call leaves for a question about a script with the bytes `text`, by status: 0 answered, 1 the script has no
+-- plan, 4 the write failed, 5 memory was refused. `old` and `new` are the shelf before and after the call, `out` and
+-- `out_new` standard output.
 pub record TellsText (question : Question) (text : List ℕ) (old new : ShelfTold) (out out_new : SinkTold)
     (status : ℕ) : Type 0 where
   pub is_status : status ≤ 5
@@ -62,7 +67,9 @@ pub record TellsText (question : Question) (text : List ℕ) (old new : ShelfTol
   pub unwritten : status ≡ 4 → Broken (Tells question text old new) out out_new
   pub refused : status ≡ 5 → out_new ≡ out
 
--- The answer on a script that is too long, whatever its bytes are. No file is read.
+-- What a call leaves for a question about a script that is longer than the limit, by status as for other scripts. The
+-- script's bytes and the files of the `shelf` are not read. `out` and `out_new` are standard output before and after
+-- the call.
 pub record TellsLong (question : Question) (shelf : ShelfTold) (out out_new : SinkTold) (status : ℕ) : Type 0 where
   pub is_status : status ≤ 5
   pub done : status ≡ 0 → Said (TellsEachLong question shelf) out out_new
@@ -72,11 +79,14 @@ pub record TellsLong (question : Question) (shelf : ShelfTold) (out out_new : Si
   pub unwritten : status ≡ 4 → Broken (TellsEachLong question shelf) out out_new
   pub refused : status ≡ 5 → out_new ≡ out
 
--- the script of this name is there, and P holds of its bytes, where the shelf tells its files
+-- A script of the name `file` is on this shelf, and P holds of its bytes. Where the shelf does not tell its files,
+-- nothing is claimed.
 abbrev pub Holds : ShelfTold → (file : List ℕ) → (List ℕ → Type 0) → Type 0
 Holds shelf file P = ForSome shelf.files (λ files. IsSomeAnd (file_at files file) P)
 
--- the answer to a question about the script of this name, by status
+-- What a call leaves for a question about the script named `file`, by status: 0 answered, 1 it has no plan, 3 it is
+-- not there or a read failed, 4 the write failed, 5 memory was refused. `scripts` is the shelf of scripts before the
+-- call, `old` the other shelf, and `out` standard output. With `new` they are those after it.
 pub record Told (question : Question) (file : List ℕ) (scripts scripts_new old new : ShelfTold) (out out_new : SinkTold)
     (status : ℕ) : Type 0 where
   pub is_status : status ≤ 5
@@ -91,35 +101,42 @@ pub record Told (question : Question) (file : List ℕ) (scripts scripts_new old
       → Broken (λ told. Holds scripts file (λ text. Tells question text old new told)) out out_new
   pub refused : status ≡ 5 → out_new ≡ out
 
--- the status after lines were passed on, by how that ended
+-- The status of `where`, by how its copying of input lines ended: 0 where all were passed on, 3 where the input
+-- failed, 4 where the output failed, 5 where memory was refused.
 abbrev pub IsPassedBy : Result (Unit {0}) Broke → (status : ℕ) → Type 0
 IsPassedBy (Ok done) status = status ≡ 0
 IsPassedBy (Err Input) status = status ≡ 3
 IsPassedBy (Err Output) status = status ≡ 4
 IsPassedBy (Err Memory) status = status ≡ 5
 
--- the bytes of a script, where they can be told; otherwise it is not there, is too long, or a read failed
+-- The last argument is the bytes of the script named `file`. It may be `None` only where the script is not there or
+-- too long, or where a read failed. `scripts` and `scripts_new` are the shelf of scripts before and after.
 abbrev pub IsScript : (file : List ℕ) → (scripts scripts_new : ShelfTold) → Option (List ℕ) → Type 0
 IsScript file scripts scripts_new (Some text) = ForSome scripts.files (λ files. file_at files file ≡ Some text)
 IsScript file scripts scripts_new None = Rose scripts.reads scripts_new.reads
     ⊎ ForSome scripts.files (λ files. file_at files file ≡ None)
     ⊎ Holds scripts file (λ text. MAX_SCRIPT_BYTES < length text)
 
--- all lines of the input were passed on, with the places in the script that they name
+-- All lines of the input were passed on to standard output, with the places in the script that they name. `file` is
+-- the script's name, and `script` its bytes if they can be told. With `_new` are what the objects tell afterwards.
 pub record AllShown (file : List ℕ) (scripts scripts_new : ShelfTold) (input : Option (List ℕ))
     (out out_new : SinkTold) : Type 0 where
   pub script : Option (List ℕ)
   pub is_script : IsScript file scripts scripts_new script
   pub passed : AllPassed file script input out out_new
 
--- the passing on of lines broke off for this reason: what was passed on until then
+-- The passing on of input lines to standard output broke off for the reason `broke`: what was passed on until then.
+-- `file` is the script's name, and `script` its bytes if they can be told. With `_new` are what the objects tell
+-- afterwards.
 pub record ShownUntil (broke : Broke) (file : List ℕ) (scripts scripts_new : ShelfTold) (input : Option (List ℕ))
     (out out_new : SinkTold) : Type 0 where
   pub script : Option (List ℕ)
   pub is_script : IsScript file scripts scripts_new script
   pub broke_off : BrokeOff file script broke input out out_new
 
--- The answer of `where`, by status. Why reading an input fails is not told, so neither is why status 3 came.
+-- What a call of `where` leaves, by status: 0 all lines were passed on, 3 the input failed, 4 the output failed, 5
+-- memory was refused. `file` names the script in which places are looked up. Why reading an input fails is not told,
+-- so neither is why status 3 came.
 pub record Passed (file : List ℕ) (scripts scripts_new : ShelfTold) (input : Option (List ℕ))
     (out out_new : SinkTold) (status : ℕ) : Type 0 where
   pub is_status : status ≤ 5
@@ -137,14 +154,16 @@ Answers Where file input old new status =
 Answers (Tell question) file input old new status =
     Told question file old.scripts new.scripts old.shelf new.shelf old.out new.out status
 
--- words without a form: the usage line is all that is written
+-- A call with words that the program does not know as a form: it writes the usage line to standard error, and nothing
+-- else. The status is 2, or 4 where that write failed. `old` and `new` are all outside before and after.
 pub record UsageSaid (old new : Outside) (status : ℕ) : Type 0 where
   pub said : Puts usage_line 2 old.err new.err status
   pub out_kept : new.out ≡ old.out
   pub scripts_kept : new.scripts ≡ old.scripts
   pub shelf_kept : new.shelf ≡ old.shelf
 
--- what a call leaves, by its words and by what is still to be read of the input
+-- What a call leaves outside (from `old` to `new`) and with which status, by its words and by what is still to be read
+-- of the input. Shelves are only read. A verb is answered, and words without a form get the usage line.
 pub record Ends (words : List (List ℕ)) (input : Option (List ℕ)) (old new : Outside) (status : ℕ) : Type 0 where
   pub scripts_read : OnlyRead old.scripts new.scripts
   pub shelf_read : OnlyRead old.shelf new.shelf
@@ -152,17 +171,18 @@ pub record Ends (words : List (List ℕ)) (input : Option (List ℕ)) (old new :
       → Answers verb file input old new status × (new.err ≡ old.err)
   pub usage : HasNoForm words → UsageSaid old new status
 
--- the words ask for what is told of files
+-- the words of a call ask which files some script needs
 abbrev pub AsksForFiles : List (List ℕ) → Type 0
 AsksForFiles words = (file : List ℕ) × AsksFor words (Tell Files) file
 
--- nothing failed: no count rose
+-- Nothing failed in a call: the number of failed reads of scripts did not rise, nor did that of failed writes to
+-- standard output or standard error.
 pub record Calm (old new : Outside) : Type 0 where
   pub scripts : Rose old.scripts.reads new.scripts.reads → ⊥
   pub out : Rose old.out.faults new.out.faults → ⊥
   pub err : Rose old.err.faults new.err.faults → ⊥
 
--- the status is the wanted one, or 5 for want of memory
+-- the status of a call is the `wanted` one, or 5 for want of memory
 abbrev pub Comes : (wanted status : ℕ) → Type 0
 Comes wanted status = (status ≡ wanted) ⊎ (status ≡ 5)
 
@@ -172,7 +192,8 @@ pub record Completes (question : Question) (text : List ℕ) (status : ℕ) : Ty
   pub planned : (plan : Plan) → IsPlan text plan → Comes 0 status
   pub unplanned : question ≢ Tokens → HasNoPlan text → Comes 1 status
 
--- the status of a question about a script that is there or not
+-- The status of a question about a script with these bytes; `None` says that it is not there, which gives status 3.
+-- Want of memory gives 5 in any case.
 abbrev pub CompletesFor : Question → Option (List ℕ) → (status : ℕ) → Type 0
 CompletesFor question None status = Comes 3 status
 CompletesFor question (Some text) status = Completes question text status

@@ -51,7 +51,7 @@ pub record Held : Type 0 where
   pub chunks : List (List Cell)
   pub answers : Answers
 
--- a buffer that one thread keeps, as a bounded queue of the rules: its windows are taken as one
+-- A buffer of one thread, seen as a bounded queue: its chunks, and the answers of all its windows as those of one.
 abbrev pub held : LocalBuffer → Held
 held buffer = record { capacity = buffer.capacity; chunks = buffer.chunks; answers = all_answers buffer }
 
@@ -95,7 +95,7 @@ abbrev pub buffer_of : Call → ℕ
 buffer_of (Took buffer answer) = buffer
 buffer_of (Given buffer chunk accepted) = buffer
 
--- those of these calls that were made on one buffer, in order
+-- those of these calls that were made on the buffer with this number, in order
 abbrev pub on : ℕ → List Call → List Call
 on buffer [] = []
 on buffer (call ∷ calls) = if buffer == buffer_of call then call ∷ on buffer calls else on buffer calls
@@ -114,7 +114,7 @@ counts_of answers = record {
   empty = count_by not answers.takes;
 }
 
--- a buffer after its open window was closed (its answers go to the closed ones) and the next one opened
+-- a buffer after its open window was closed: its answers go to the closed windows, and a new one is open
 abbrev pub closed : LocalBuffer → LocalBuffer
 closed buffer = record {
   capacity = buffer.capacity;
@@ -123,7 +123,7 @@ closed buffer = record {
   current = no_answers;
 }
 
--- a list of buffers after the open windows of its first so many were closed
+-- a list of buffers after the open windows of the first n of them were closed; n is the first argument
 abbrev pub closed_first : ℕ → List LocalBuffer → List LocalBuffer
 closed_first zero buffers = buffers
 closed_first (suc n) [] = []

@@ -41,12 +41,13 @@ BeginsTrack (cell ∷ cells) = (cell.first ≡ true) × AllInner cells
 abbrev pub held : Crossing → List Cell
 held state = drop state.ready state.cells
 
--- the cells of the next track while more may come to it, which is so where no cell is ready; otherwise none
+-- The cells `next` of the next track, while more may come to it. That is so where the first argument, how many cells
+-- are ready to be given, is 0; otherwise the list is empty.
 abbrev pub growing_at : ℕ → List Cell → List Cell
 growing_at zero next = next
 growing_at (suc ready) next = []
 
--- the cells of the next track that are known while more may come to it; otherwise none
+-- the cells of the next track that a crossfade has, while more may come to it; otherwise none
 abbrev pub growing : Crossing → List Cell
 growing state = growing_at state.ready state.next
 
@@ -65,17 +66,17 @@ gap_of gap = if gap then None ∷ [] else []
 abbrev pub ready_items : Crossing → List Slot
 ready_items state = ready_cells state ++ gap_of state.gap
 
--- the state of a crossfade after its next n items, all faded cells, were given
+-- the state of a crossfade after its next n items were given, all of them mixed of two tracks
 abbrev pub mixed_on : ℕ → Crossing → Crossing
 mixed_on n state = record state { cells = drop n state.cells; next = drop n state.next; ready = state.ready - n }
 
--- the left or right samples (`side` picks) of a crossfade's next n items, all faded cells
+-- The left or right samples, which `side` picks, of a crossfade's next n items, all of them mixed of two tracks.
 abbrev pub mixed_side : (Cell → ℤ) → ℕ → Crossing → List ℤ
 mixed_side side n state = mixed (map side (take n state.cells)) (map side (take n state.next))
     (state.whole - length state.next) state.whole
 
--- the slots that still have to be decided: the cells held back, those of the next track so far, and then the slots
--- `more`
+-- The slots from which later items of the output have yet to be mixed: the cells held back, those of the next track so
+-- far, and then the slots `more` that follow from the source.
 abbrev pub unsettled : Crossing → List Slot → List Slot
 unsettled state more = map Some (held state) ++ (map Some (growing state) ++ more)
 
@@ -95,7 +96,8 @@ track_room state =
 abbrev pub passes : Crossing → Bool
 passes state = wants state && (nat_eq (length state.next) 0 && nat_eq (length state.cells) state.overlap)
 
--- a bound on how many further slots settle the item at which a crossfade stands; 0 where it is settled
+-- A bound on how many further slots of its source a crossfade needs before the item at which it stands is settled; 0
+-- where it is settled already.
 abbrev pub left : Crossing → ℕ
 left state = if wants state then 2 * state.overlap - length state.cells - length state.next else 0
 
@@ -123,7 +125,8 @@ pub record StandsFor (state : Crossing) (slots : List Slot) (p : ℕ) : Type 0 w
   pub track : IsTrack (held state)
   pub next : BeginsTrack (growing state)
 
--- the number of the item after item p at the next instant: one more if p was given or is empty, and otherwise p again
+-- The number of the item at which a crossfade stands at the next instant, where item p is the given slot. It is p + 1
+-- if the crossfade gave (the Bool) or the item is empty, and otherwise p again.
 abbrev pub position_after : Bool → Slot → ℕ → ℕ
 position_after gave None p = suc p
 position_after gave (Some cell) p = if gave then suc p else p

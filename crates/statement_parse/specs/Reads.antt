@@ -27,13 +27,13 @@ bind_of loose stamp at name w = both (expect is_assign) (value loose stamp) w >>
 unfoldable pub behind_tilde : (ℕ → ℕ) → Reader (Tree AParam)
 behind_tilde stamp w = param stamp (Symbol sign.Tilde ∷ w)
 
--- reads the default value of a parameter behind its name and "=", and gives the parameter; `at` is the index of its
--- name's token
+-- Reads a parameter's default value, from behind its `name` and "=" on, and gives the parameter. `at` is the index of
+-- the name's token, and `stamp` makes such an index of the number of tokens left.
 abbrev pub default_of : (ℕ → ℕ) → ℕ → List ℕ → Reader (Tree AParam)
 default_of stamp at name w = value false stamp w >>= made (Optional at name)
 
--- reads what may stand behind "~" and a parameter's name, "=" and a default, and gives the parameter; `at` is the index
--- of its name's token
+-- Reads what may stand behind "~" and a parameter's `name`, "=" and a default, and gives the parameter. `at` is the
+-- index of the name's token, and `stamp` makes such an index of the number of tokens left.
 unfoldable pub label_of : (ℕ → ℕ) → ℕ → List ℕ → Reader (Tree AParam)
 label_of stamp at name w = perhaps is_assign w >>= λ x. elim x.0 [
   | true ↦ default_of stamp at name x.1
@@ -44,12 +44,13 @@ label_of stamp at name w = perhaps is_assign w >>= λ x. elim x.0 [
 abbrev pub some_params : (ℕ → ℕ) → Reader (Tree (Many AParam))
 some_params stamp w = both (chain is_comma (param stamp)) (expect is_close_round) w >>= made (λ x. more x.0.0 x.0.1)
 
--- reads the last of a def: the expression of its result, and `end`; `stamp` makes token indexes
+-- Reads the end of a def: the expression that is its result, and the word `end`. `stamp` makes a token's index of the
+-- number of tokens left.
 abbrev pub ended : (ℕ → ℕ) → Reader (Tree AnExpr × Unit {0})
 ended stamp w = both (result stamp) (expect is_end) w
 
--- reads a def behind its name: parameters, ")", maybe "=", the inner bindings, the result and `end`; `at` is the index
--- of its name's token
+-- Reads a def from behind its `name` on: parameters, ")", maybe "=", the inner bindings, the result and `end`. `at` is
+-- the index of the name's token, and `stamp` makes such an index of the number of tokens left.
 abbrev pub def_of : (ℕ → ℕ) → ℕ → List ℕ → Reader (Tree ADef)
 def_of stamp at name w = both (closed is_comma is_close_round (param stamp))
     (both (perhaps is_assign) (both (many binds (inner stamp)) (ended stamp))) w >>= made
@@ -80,11 +81,13 @@ bind_part stamp w = bind false stamp w >>= made BindPart
 abbrev pub def_part : (ℕ → ℕ) → Reader (Tree APart)
 def_part stamp w = as_def (def stamp w)
 
--- reads a call, whose values nest in fewer than so many levels, and gives it as a part of a statement
+-- Reads a call, whose values nest in fewer than `levels` levels, and gives it as a part of a statement. `stamp` makes
+-- a token's index of the number of tokens left.
 abbrev pub call_part : (ℕ → ℕ) → ℕ → Reader (Tree APart)
 call_part stamp levels w = as_call (call stamp (full_by levels stamp) w)
 
--- reads an `if`, whose values nest in fewer than so many levels, and gives it as a part of a statement
+-- Reads an `if`, whose values nest in fewer than `levels` levels, and gives it as a part of a statement. `stamp` makes
+-- a token's index of the number of tokens left.
 abbrev pub if_part : (ℕ → ℕ) → ℕ → Reader (Tree APart)
 if_part stamp levels w = as_if (choice stamp (full_by levels stamp) w)
 
@@ -96,7 +99,8 @@ as_stmt read = read >>= λ x. perhaps is_semicolon x.1 >>= made (Stmt x.0)
 abbrev pub bind_stmt : (ℕ → ℕ) → Reader (Tree AStmt)
 bind_stmt stamp w = as_stmt (bind_part stamp w)
 
--- reads a statement that is a binding, from behind the binding's name on; `at` is the index of its name's token
+-- Reads a statement that is a binding, from behind its `name` on, with the ";" that may stand behind it. `at` is the
+-- index of the name's token, and `stamp` makes such an index of the number of tokens left.
 abbrev pub bind_stmt_of : (ℕ → ℕ) → ℕ → List ℕ → Reader (Tree AStmt)
 bind_stmt_of stamp at name w = as_stmt (bind_of false stamp at name w >>= made BindPart)
 

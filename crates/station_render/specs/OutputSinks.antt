@@ -22,8 +22,8 @@ has_one None = true
 has_one (Some zero) = false
 has_one (Some (suc room)) = true
 
--- What an output owes its file, as a number. It is 0 for nothing, 1 for a last zero byte that the room does not hold,
--- and 2 for one that it holds.
+-- What an output owes its file, as a number: 0 for nothing, 1 for a last zero byte without room, 2 for one with room.
+-- `odd` says whether its sample bytes are odd in number, and the Option is the room left, if told.
 abbrev pub owed_by : (odd : Bool) → Option ℕ → ℕ
 owed_by false room = 0
 owed_by true room = if has_one room then 2 else 1
@@ -48,12 +48,13 @@ abbrev pub told_name : Option (List ℕ) → List ℕ
 told_name None = []
 told_name (Some name) = 0 ∷ name
 
--- What identifies an output's sink and stays over all calls, coded as one list: what it owes, its size, and its name.
+-- What identifies an output's sink and never changes, coded as one list: what it owes, its size, and its name. `odd`
+-- says whether its sample bytes are odd in number.
 abbrev pub known : (odd : Bool) → SinkTold → List ℕ
 known odd sink = owed_by odd sink.room ∷ told_number (size_of sink) ∷ told_name sink.name
 
--- What an output's sink tells, from what the plain sink within tells. The byte that it owes is no room for samples, and
--- its constant code stands as its name.
+-- What an output's sink tells, from what the plain sink within it tells. A zero byte that it owes (where `odd` holds)
+-- is taken from the room, and as its name stands a code that never changes.
 abbrev pub told_by : (odd : Bool) → SinkTold → SinkTold
 told_by odd sink = record {
   held = sink.held;
@@ -72,19 +73,21 @@ abbrev pub last_byte : (odd : Bool) → List ℕ
 last_byte false = []
 last_byte true = 0 ∷ []
 
--- a sink got the zero byte that ends a file with an odd number of sample bytes; with an even number it is as it was
+-- A sink took the zero byte that ends a file where `odd` says that its sample bytes are odd in number; otherwise it is
+-- as it was. `old` and `new` are what it tells before and after.
 abbrev pub HasEnded : (odd : Bool) → (old new : SinkTold) → Type 0
 HasEnded false old new = new ≡ old
 HasEnded true old new = TookPiece (0 ∷ []) old new
 
--- each sink of each clock that owes a last zero byte has room for it
+-- Each sink of an output that owes a last zero byte has room for it. `groups` has the sinks of each clock, and `told`
+-- says what a sink tells.
 abbrev pub HaveRooms : {O : Type 0} → (told : O → SinkTold) → List (List (OutputSink O)) → Type 0
 HaveRooms told groups = (m k : ℕ) (group : List (OutputSink _)) (output : OutputSink _)
     → slice_get groups m ≡ Some group → slice_get group k ≡ Some output → output.odd ≡ true
     → HasRoom (told output.sink).room 1
 
--- a sink holds an output's file but for the zero byte that it owes, if any: its least bytes, which make its most with
--- that byte
+-- The plain sink within an output's sink has the name and holds just the bytes `least` of this output. `most` is these
+-- with the zero byte that is still owed after an odd number of sample bytes. `told` says what the plain sink tells.
 pub record HoldsBody {O : Type 0} (told : O → SinkTold) (part : OutputPart) (output : OutputSink O) : Type 0 where
   pub named : (told output.sink).name ≡ Some part.name
   pub holds : (told output.sink).held ≡ Some part.least
@@ -98,7 +101,7 @@ inner told output = told output.sink
 abbrev pub MayHaveTaken : (old new : SinkTold) → Type 0
 MayHaveTaken old new = (new ≡ old) ⊎ ((taken : List ℕ) × TookPiece taken old new)
 
--- the plain sink within an output's sink holds a beginning of the output's file, from its least to its most bytes; or
--- it failed with fewer
+-- The plain sink within an output's sink holds bytes that begin with `least` of the output and are a beginning of its
+-- `most`; or it failed with fewer than `least`. `told` says what the plain sink tells.
 abbrev pub HoldsSoMuch : {O : Type 0} → (told : O → SinkTold) → OutputPart → OutputSink O → Type 0
 HoldsSoMuch told part output = HoldsFront part (told output.sink)

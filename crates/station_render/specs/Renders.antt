@@ -36,7 +36,7 @@ abbrev pub main_of : NodeClock → ℕ
 main_of (Main m) = m
 main_of (Sub k) = 0
 
--- for each of these outputs, in sink order, the number of the main clock that drives it
+-- the numbers of the main clocks that drive these outputs, in the order of the outputs
 abbrev pub order_of : Setting → List Written → List ℕ
 order_of setting outputs = map (λ output. main_of (clock_of setting output.node)) outputs
 
@@ -120,9 +120,9 @@ pub record IsPart {O : Type 0} (told : O → SinkTold) (shelf : ShelfTold) (sett
   pub holds : TellsSinks shelf → HoldsFront (front_file setting ticks made tried output) (told sink.sink)
   pub measured : ForSome shelf.closed (λ before. AreTold 1 (told sink.sink))
 
--- A rendering began: the first outputs of a plan were created, and each sink holds its bytes of the ticks that its
--- clock made, and maybe some of those that it tried, or it failed. This holds whatever `rest` of answers follows those
--- of the run.
+-- A rendering made some ticks: outputs were `created`, and each one's sink holds at least the bytes of the ticks
+-- `made` and at most those `tried`, or failed. `order` has the clock of each output, and `groups` the sinks of each
+-- clock. `answers` has those of the run before any `rest`, and `created_now` is the shelf's list of created names.
 pub record AreBegun {O : Type 0} (told : O → SinkTold) (shelf : ShelfTold) (setting : Setting) (answers : (ℕ
     → List Answer) → ℕ → List Answer) (ticks : ℕ) (made tried : ℕ → ℕ)
     (order : List ℕ) (groups : List (List (OutputSink O))) (created_now : Option (List (List ℕ))) : Type 0 where
@@ -133,8 +133,9 @@ pub record AreBegun {O : Type 0} (told : O → SinkTold) (shelf : ShelfTold) (se
   pub parts : (rest : ℕ → List Answer)
       → AreCreated (IsPart told shelf (answered setting (answers rest)) ticks made tried) created order groups
 
--- A sink was created with this name and holds these bytes, a file's header, as its one piece. It has room for `body`
--- bytes of samples, and for the zero byte that it owes after an odd number.
+-- A sink was created for a file with this name, and holds `bytes`, the file's header, as its one piece. It has room
+-- for `body` bytes of samples, and for the zero byte that it owes after an odd number. `told` says what a sink tells,
+-- and the shelf whether it tells so much.
 pub record IsOpened {O : Type 0} (told : O
     → SinkTold) (shelf : ShelfTold) (name bytes : List ℕ) (body : ℕ) (sink : OutputSink O) : Type 0 where
   pub holds : TellsSinks shelf → HoldsWhole (record { name = name; bytes = bytes }) (told sink.sink)
@@ -142,15 +143,17 @@ pub record IsOpened {O : Type 0} (told : O
   pub room : HasRoom (but_one_if sink.odd (told sink.sink).room) body
   pub owes : owed_by sink.odd (told sink.sink).room ≡ debt_of body
 
--- a sink was created for a file of these bytes, and then a write failed: it holds a front of them
+-- A sink was created for a file of this name and these `bytes`, and then a write failed: it holds a beginning of them.
+-- `told` says what a sink tells, and the shelf whether it tells so much.
 pub record IsCutShort {O : Type 0} (told : O
     → SinkTold) (shelf : ShelfTold) (name bytes : List ℕ) (sink : OutputSink O) : Type 0 where
   pub holds : TellsSinks shelf → HoldsPart (record { name = name; bytes = bytes }) (told sink.sink)
   pub measured : ForSome shelf.closed (λ before. AreTold 1 (told sink.sink))
   pub failed : 0 < (told sink.sink).faults
 
--- A sink with this name was created for an output of this clock, and `Is` holds of it. It is the last in the order of
--- the outputs, and the last among the sinks of its clock.
+-- A sink of this name was created for an output of this clock, and `Is` holds of it. `before` and `after` are the
+-- shelf's lists of created names, `order` has the clock of each output, and `old` and `new` the sinks of each clock.
+-- The sink comes last in all of them.
 pub record WasCreated {O : Type 0} (Is : OutputSink O
     → Type 0) (clock : ℕ) (name : List ℕ) (before after : Option (List (List ℕ))) (order_old order_new : List ℕ)
     (old new : List (List (OutputSink O))) : Type 0 where
@@ -160,7 +163,8 @@ pub record WasCreated {O : Type 0} (Is : OutputSink O
   pub made_is : after ≡ after_making (name ∷ []) before
   pub is : Is sink
 
--- no sink was created: the list of created names, the clock of each output and the sinks of each clock stay
+-- No sink was created. `before` and `after` are the shelf's lists of created names, `order_old` and `order_new` have
+-- the clock of each output, and `old` and `new` the sinks of each clock: all stay.
 pub record NoneCreated {O : Type 0} (before after : Option (List (List ℕ))) (order_old order_new : List ℕ)
     (old new : List (List (OutputSink O))) : Type 0 where
   pub order_is : order_new ≡ order_old
