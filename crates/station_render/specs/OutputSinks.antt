@@ -101,7 +101,7 @@ inner told output = told output.sink
 abbrev pub MayHaveTaken : (old new : SinkTold) → Type 0
 MayHaveTaken old new = (new ≡ old) ⊎ ((taken : List ℕ) × TookPiece taken old new)
 
--- The plain sink within an output's sink holds bytes that begin with `least` of the output and are a beginning of its
--- `most`; or it failed with fewer than `least`. `told` says what the plain sink tells.
+-- The plain sink within an output's sink has the name of this part of a file and holds a beginning of its bytes
+-- `most`. It holds at least its bytes `least`, unless it failed. `told` says what the plain sink tells.
 abbrev pub HoldsSoMuch : {O : Type 0} → (told : O → SinkTold) → OutputPart → OutputSink O → Type 0
 HoldsSoMuch told part output = HoldsFront part (told output.sink)

@@ -77,8 +77,8 @@ traces_by InRounds name ticks logs = []
 traces_by (InWindows window) name ticks logs = traced name (record { ticks = ticks; window = window; buffers = logs })
 traces_by (Again trace) name ticks logs = []
 
--- A rendering in this way can be told by a lawful record of a run. A rendering by a trace needs a trace that the rules
--- accept; the other ways need nothing.
+-- A run in this way can be told by a lawful record of what the buffers answered. Only a rendering by a trace needs
+-- anything for it: a trace that the rules accept for so many clocks and ticks.
 abbrev pub HasRecord : Setting → (clocks ticks : ℕ) → Way → Type 0
 HasRecord setting clocks ticks InRounds = ⊤
 HasRecord setting clocks ticks (InWindows window) = ⊤
@@ -112,8 +112,9 @@ pub record IsRendered (station : Station) (old new : ShelfTold) (rendered : Rend
   pub made : new.created ≡ after_making (names_of station) old.created
   pub closed : HaveListed (closings_of station run) old.closed new.closed
 
--- Some lawful run of the station made all ticks: each output's sink got all its bytes but for the zero byte that it
--- owes. `rendered` is what is told of this run.
+-- Some lawful run of the station made all ticks: each output's sink got all its bytes but for a last zero byte.
+-- `rendered` is what is told of this run. `order` has the clock of each output, `groups` the sinks of each clock, and
+-- `told` says what a sink tells.
 pub record RanWhole {O : Type 0} (told : O
     → SinkTold) (shelf : ShelfTold) (station : Station) (order : List ℕ) (groups : List (List (OutputSink O)))
     (rendered : Rendered) : Type 0 where
@@ -123,8 +124,9 @@ pub record RanWhole {O : Type 0} (told : O
   pub whole : AreCreated (IsWhole told shelf (setting_of_run station run) station.ticks) (written station.plan.sinks)
       order groups
 
--- A run of the station broke off after some ticks. Each sink that was created holds the bytes of the ticks that its
--- clock made, and maybe some of the next ones.
+-- A run of the station broke off after some ticks: each sink that was created has the bytes of the ticks that its
+-- clock made, and maybe some of the next. `order` has the clock of each output, and `groups` the sinks of each clock.
+-- `told` says what a sink tells, and `created_now` is the shelf's list of created names.
 pub record RanPart {O : Type 0} (told : O
     → SinkTold) (shelf : ShelfTold) (station : Station) (order : List ℕ) (groups : List (List (OutputSink O)))
     (created_now : Option (List (List ℕ))) : Type 0 where

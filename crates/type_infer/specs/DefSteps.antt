@@ -38,40 +38,43 @@ vars_named ts = map (λ t. t.var) ts
 abbrev pub tokens_named : List TypedName → List ℕ
 tokens_named ts = map (λ t. t.at) ts
 
--- A def's parameters were typed, from substitution s to s': ts has for each the token of its name and its type
--- variable. The uses in the defaults were added to `old`, which gives `new`.
+-- The parameters ps of a def were typed, from substitution s to s': ts has for each the token of its name and its type
+-- variable. The uses of names in the defaults were added to `old`, which gives `new`. `env` says what names mean.
 pub record AreTypedParams (s s' : Table) (env : Env) (ps : Tree (Many AParam)) (ts : List TypedName)
     (old new : List Found) : Type 0 where
   pub typed : InfersParams s s' env ps (vars_named ts) old new
   pub named : tokens_named ts ≡ param_tokens ps
 
--- What the answer on the parameters means: names with their type variables, or without an answer that some default has
--- no type. s is the substitution before and s' after, `old` and `new` are the uses.
+-- What the answer on the parameters ps means: their names with their type variables, or `None`, which says that some
+-- default has no type. s is the substitution before and s' after, and `old` and `new` are the uses of names. `env`
+-- says what names mean.
 abbrev pub AreParamsOf : Table → Table → Env → Tree (Many AParam) → List Found → List Found → Option (List TypedName)
     → Type 0
 AreParamsOf s s' env ps old new None = HaveNoParams s env ps old
 AreParamsOf s s' env ps old new (Some ts) = AreTypedParams s s' env ps ts old new
 
--- What the answer on the bindings in a def's body means: true, they lead from the bindings us to the bindings vs;
--- false, one of them has no type.
+-- What the answer on the bindings `is` in a def's body means: true, they lead from the bindings us to the bindings vs;
+-- false, one has no type. The substitutions are s and s', and the uses `old` and `new`. `targets` says what names
+-- mean, and `before` is what is bound outside of the def.
 abbrev pub AreInnersOf : Table → Table → Targets → List Known → Tree (Many AnInner) → List (ℕ × Term) → List (ℕ × Term)
     → List Found → List Found → Bool → Type 0
 AreInnersOf s s' targets before is us vs old new false = HaveNoInners s (outside targets before) is us old
 AreInnersOf s s' targets before is us vs old new true = InfersInners s s' (outside targets before) is us vs old new
 
--- A def's body has a result of type g behind the parameters us: its inner bindings have some types ws, and the result e
--- has type g behind these.
+-- A def's body has a result of type g behind the parameters us: its inner bindings `is` have some types ws, and the
+-- result e has type g behind these. `env` says what names mean, a what its variables are, and `kinds` which kinds each
+-- use has.
 abbrev pub BodyHas : Env → Places → Assignment → Tree (Many AnInner) → Tree AnExpr → TypesByToken → Ground → Type 0
 BodyHas env kinds a is e us g = (ws : TypesByToken) × InnersHave (sight_under env a kinds) is us ws
     × Has (within ws (sight_under env a kinds)) e g
 
--- The claim on an assignment b: it gives type variable n the type g, and each use in fs the kinds that are told for its
--- place.
+-- The claim on an assignment b of types to variables: it gives type variable n the type g. It gives each use of a name
+-- in fs the kinds that `kinds` tells for the use's place; `env` says what names mean.
 abbrev pub ResultAs : Env → Places → ℕ → Ground → List Found → Assignment → Type 0
 ResultAs env kinds n g fs b = (b.type_of n ≡ g) × AreFound env b kinds fs
 
--- A def's body was typed behind the parameters us, from substitution s to s': variable n is the type of its result. Its
--- uses were added to `old`, which gives `new`.
+-- A def's body, bindings `is` and result e, was typed behind the parameters us, from substitution s to s': variable n
+-- is the type of e. Its uses of names were added to `old`, which gives `new`. `env` says what names mean outside.
 pub record InfersBody (s s' : Table) (env : Env) (is : Tree (Many AnInner)) (e : Tree AnExpr) (us : List (ℕ
     × Term)) (n : ℕ) (old new : List Found) : Type 0 where
   pub inside : n < length s'.types
@@ -83,21 +86,23 @@ pub record InfersBody (s s' : Table) (env : Env) (is : Tree (Many AnInner)) (e :
       → BodyHas env kinds a is e (types_under a us) g → AreFound env a kinds old
       → Reached s s' a (ResultAs env kinds n g new)
 
--- A def's body cannot be typed behind the parameters us: no solution of the substitution s does so together with the
--- uses `old` that were found before.
+-- A def's body, bindings `is` and result e, cannot be typed behind the parameters us. No solution of the substitution
+-- s does so together with the uses `old` that were found before. `env` says what names mean outside.
 abbrev pub HasNoBody : Table → Env → Tree (Many AnInner) → Tree AnExpr → List (ℕ × Term) → List Found → Type 0
 HasNoBody s env is e us old = (a : Assignment) → Solves a s → (kinds : Places) (g : Ground)
     → BodyHas env kinds a is e (types_under a us) g → AreFound env a kinds old → ⊥
 
--- What the answer on a def's body means: a number is the type variable of its result, and no number says that the body
--- has no type.
+-- What the answer on a def's body, bindings `is` and result e, means: a number is the type variable of e, and `None`
+-- says that the body has no type. The substitutions are s and s', the parameters us, and the uses `old` and `new`.
+-- `targets` says what names mean, and `before` is what is bound outside of the def.
 abbrev pub IsBodyOf : Table → Table → Targets → List Known → Tree (Many AnInner) → Tree AnExpr → List (ℕ × Term)
     → List Found → List Found → Option ℕ → Type 0
 IsBodyOf s s' targets before is e us old new None = HasNoBody s (outside targets before) is e us old
 IsBodyOf s s' targets before is e us old new (Some n) = InfersBody s s' (outside targets before) is e us n old new
 
--- What the answer on a def means: the type variables of its parameters and its result, or without an answer that the
--- def has no typing.
+-- What the answer on the def d means: the type variables of its parameters and its result, or `None`, which says that
+-- d has no typing. The substitutions are s and s', and `new` the uses in its text. `targets` says what names mean, and
+-- `before` is what is bound outside of the def.
 abbrev pub ArePartsOf : Table → Table → Targets → List Known → Tree ADef → List Found → Option TypedParts → Type 0
 ArePartsOf s s' targets before d new None = HasNoDef s (outside targets before) d
 ArePartsOf s s' targets before d new (Some p) = InfersDef s s' (outside targets before) d p.params.items p.result new

@@ -29,14 +29,15 @@ use Rattle.type_infer.specs.declared.steps.TypedExpr.{TypedExpr}
 
 -- ---- one expression
 
--- an expression was noted with this type variable and these uses, under a substitution s that has a solution
+-- An expression was noted with this type variable and these uses of names: t holds just them. The substitution s,
+-- under which that was done, has a solution.
 pub record IsNoted (s : Table) (var : ℕ) (uses : List FoundUse) (t : TypedExpr) : Type 0 where
   pub some : (a : Assignment) × Solves a s
   pub same : t.var ≡ var
   pub uses_are : t.uses.items ≡ uses
 
--- An expression was typed, from substitution s to s': t has its type variable and its uses. These are its names in
--- order, with what they mean, and each has as many kinds as the type of its target leaves open.
+-- The expression e was typed, from substitution s to s': t has its type variable and its uses of names, in order.
+-- `env` says what names mean, and ds are the defs so far. Each use has as many kinds as its target's type leaves open.
 pub record IsTypedWith (s s' : Table) (env : Env) (ds : List KnownDef) {r : Sort} (e : Tree r) (t : TypedExpr) : Type 0
   where
     pub infers : Infers s s' env e (variable t.var) [] (founds t.uses.items)
@@ -44,7 +45,8 @@ pub record IsTypedWith (s s' : Table) (env : Env) (ds : List KnownDef) {r : Sort
     pub named : map found_said (founds t.uses.items) ≡ map (aimed env.targets) (tokens_used e)
     pub counted : HaveCountsIn ds (founds t.uses.items)
 
--- what the answer on an expression means: a type variable with its uses, or without an answer that it has no type
+-- What the answer on the expression e means: a type variable with its uses of names, or `None`, which says that e has
+-- no type. s is the substitution before and s' after, `env` says what names mean, and ds are the defs so far.
 abbrev pub IsTypedAs : Table → Table → Env → List KnownDef → {r : Sort} → Tree r → Option TypedExpr → Type 0
 IsTypedAs s s' env ds e None = HasNoType s env e []
 IsTypedAs s s' env ds e (Some t) = IsTypedWith s s' env ds e t
@@ -55,26 +57,28 @@ IsTypedAs s s' env ds e (Some t) = IsTypedWith s s' env ds e t
 abbrev pub knowns : Typing → List Known
 knowns t = newest_first t.defs t.before
 
--- what each statement typed so far has left for the end: its bound name, its def or its uses
+-- what each statement typed so far has left for the end of typing: a bound name, a def or uses of names
 abbrev pub dones : Typing → List Done
 dones t = dones_in t.defs t.steps.items
 
--- The state of typing may take one more statement: its bound names and defs are in order, the free variables of values
--- are known as of an earlier substitution, and each def is there.
+-- The state of typing may take one more statement: its bound names and defs are in order, and each def that a step
+-- names is there. What the free variables of values were is known at an earlier substitution. `targets` says what
+-- names mean.
 pub record IsReady (targets : Targets) (t : Typing) : Type 0 where
   pub seen : AreSeenDefs t.subst targets t.before t.defs
   pub holds : HoldsLater t.subst (knowns t) t.held t.pending.items
   pub numbered : AreNumberedDefs t.defs (knowns t)
   pub there : AreThere (length t.defs) t.steps.items
 
--- The state of typing stands for a script: the solutions of its substitution are the typings of the script, and what
--- the statements have left has all uses with their kinds.
+-- The state of typing stands for a script: the solutions of its substitution are the typings of the script. What its
+-- statements left for the end is all uses with their kinds. `targets` says what names mean.
 pub record IsTypedSo (targets : Targets) (script : Script) (t : Typing) : Type 0 where
   pub known : knowns t ≡ known_of (dones t)
   pub typings : AreTypings t.subst targets script (dones t)
   pub whole : AreWhole script (dones t)
 
--- the state of typing after a script: it stands for its typings, and may take one more statement
+-- The state of typing after a script: it stands for the script's typings, and may take one more statement. `targets`
+-- says what the names mean.
 pub record IsAfter (targets : Targets) (script : Script) (t : Typing) : Type 0 where
   pub ready : IsReady targets t
   pub typed : IsTypedSo targets script t
@@ -88,8 +92,8 @@ pub record IsSameTyping (old new : Typing) : Type 0 where
   pub held : new.held ≡ old.held
   pub pending : new.pending.items ≡ old.pending.items
 
--- A statement s may come next behind a script: the targets say what its names mean there, and its tokens are numbered
--- as they stand.
+-- A statement s may come next behind a script: `targets` says of its names what they mean there, and its tokens are
+-- numbered as they stand.
 pub record IsNext (targets : Targets) (script : Script) (s : Tree AStmt) : Type 0 where
   pub aimed : AreAimed targets (map meant (names (scope_after [] script) s))
   pub placed : IsPlaced 0 (with_last script s)
@@ -113,8 +117,8 @@ IsStepped targets part old new false = IsNoMore targets part old
 
 -- ---- what is kept of a statement
 
--- The state of typing kept a binding of a name: the token `at`, the type variable and uses of its value, which is
--- pending to be looked through for free variables.
+-- The state of typing kept a binding of a name: the name's token `at`, and the type variable and uses of its value e.
+-- The value is put with those whose types have yet to be searched for free variables (`pending`).
 pub record IsValueKept (at : ℕ) (e : TypedExpr) (old new : Typing) : Type 0 where
   pub subst : new.subst ≡ old.subst
   pub before : new.before ≡ old.before ++ known.Value (record { at = at; var = e.var }) ∷ []
@@ -132,7 +136,7 @@ pub record IsRunKept (e : TypedExpr) (old new : Typing) : Type 0 where
   pub held : new.held ≡ old.held
   pub pending : new.pending.items ≡ old.pending.items
 
--- the state of typing kept a def, behind the other defs
+-- the state of typing kept the def d behind the other defs, with a step that names it by its index
 pub record IsDefKept (d : KnownDef) (old new : Typing) : Type 0 where
   pub subst : new.subst ≡ old.subst
   pub before : new.before ≡ old.before ++ known.Function (length old.defs) ∷ []
@@ -141,8 +145,8 @@ pub record IsDefKept (d : KnownDef) (old new : Typing) : Type 0 where
   pub held : new.held ≡ old.held
   pub pending : new.pending.items ≡ old.pending.items
 
--- The answer of typing where the names have no fault: the uses of all statements, with what is still open put at its
--- default.
+-- The answer of typing, where the names have no `fault`: the uses of all statements of the state t. Each type and kind
+-- that is still open gets its default.
 pub record AreDefaultUses (t : Typing) (fault : Option TypeFault) (uses : List Use) : Type 0 where
   pub faultless : fault ≡ None
   pub default : HasDefaults t.subst
