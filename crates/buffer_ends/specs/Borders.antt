@@ -14,14 +14,15 @@ pub record HasEnd (sides : List Side) (buffer : ℕ) (window : Window) : Type 0 
   pub place : ℕ
   pub at : HasAt sides place (record { buffer = buffer; window = window })
 
--- one end closed its window and opened the next one; the clock's other ends stay
+-- One of a clock's buffer ends, that of this buffer, closed its window `old` and opened the window `new`; the clock's
+-- other ends stay. `sides` are all its ends before, and `after` those afterwards.
 pub record Turned (sides after : List Side) (buffer : ℕ) (old new : Window) : Type 0 where
   pub place : ℕ
   pub at : HasAt sides place (record { buffer = buffer; window = old })
   pub are : after ≡ slice_set sides place (record { buffer = buffer; window = new })
 
--- A buffer's two ends met and closed their window, one end in the list of a clock that puts and one in that of a clock
--- that takes. `log` tells which calls of the window succeeded.
+-- The two ends of this buffer met and closed their window. One is among the ends of a clock that puts (`puts`), and
+-- one among those of a clock that takes (`takes`). `log` tells which calls of the window succeeded.
 pub record WasClosed (buffer : ℕ) (puts puts_after takes takes_after : List Side) (log : Answers) : Type 0 where
   pub put : Window
   pub take : Window
@@ -42,8 +43,8 @@ pub record HaveEnds (puts takes : List Side) (buffer : ℕ) : Type 0 where
   pub takes_there : HasEnd takes buffer take
   pub queue : put.queue ≡ take.queue
 
--- Two ends of one queue close their window together and open the next one; `log` tells which puts and takes of the
--- closed one succeeded.
+-- The two ends of one buffer, `put` and `take`, close their window together, and `next_put` and `next_take` are they
+-- in the next one. `log` tells which puts and takes of the closed window succeeded.
 pub record ClosesSides (put take next_put next_take : Side) (log : Answers) : Type 0 where
   pub closes : Closes put.window take.window put.window.queue next_put.window next_take.window
   pub put_buffer : next_put.buffer ≡ put.buffer

@@ -12,12 +12,12 @@ slot_in (Some left) (Some right) None = None
 slot_in (Some left) None mark = None
 slot_in None right mark = None
 
--- whether there is a mark that has this title and begins no track
+-- whether there is a mark (what a cell has beside its samples) that has this title and begins no track
 abbrev pub begins_none : (title : ℕ) → Option CellMark → Bool
 begins_none title None = false
 begins_none title (Some mark) = not mark.first && nat_eq mark.title title
 
--- whether there is a mark, and it has this title
+-- whether there is a mark (what a cell has beside its samples), and it has this title
 abbrev pub has_name : (title : ℕ) → Option CellMark → Bool
 has_name title None = false
 has_name title (Some mark) = nat_eq mark.title title

@@ -19,8 +19,8 @@ mark_of (Some run) = Some (record { first = run.first; title = run.title })
 abbrev pub rest_run : MarkRun → (skip : ℕ) → MarkRun
 rest_run run skip = record { first = run.first && nat_eq skip 0; title = run.title; count = run.count - skip }
 
--- whether a mark is there that a walk counts: it has this title and begins no track, or with `begins` true may begin
--- one
+-- Whether there is a mark (what a cell has beside its samples) of this title. If `begins` is false, it must also begin
+-- no track.
 abbrev pub passing : (begins : Bool) → (title : ℕ) → Option CellMark → Bool
 passing true title mark = has_name title mark
 passing false title mark = begins_none title mark

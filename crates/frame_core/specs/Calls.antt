@@ -40,7 +40,7 @@ abbrev pub IsGive : ℕ → List Cell → Gave → Call → Type 0
 IsGive buffer chunk Accepted call = call ≡ Given buffer chunk true
 IsGive buffer chunk (Full back) call = (back ≡ chunk) × (call ≡ Given buffer chunk false)
 
--- A step from one state of some buffers to another made the calls `more`. For whatever list of calls the first state
--- stood, the second stands for that list with `more` at its end.
+-- A step from the state `before` of some buffers to the state `after` made the calls `more`. `stands` says for which
+-- calls a state stands. For whatever calls `before` stood, `after` stands for these with `more` at the end.
 abbrev pub Adds : {T : Type 0} → (T → List Call → Type 0) → T → T → List Call → Type 0
 Adds stands before after more = (calls : List Call) → stands before calls → stands after (calls ++ more)

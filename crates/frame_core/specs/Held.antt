@@ -12,14 +12,15 @@ samples_held (Numbers samples) = samples.items
 samples_held (Bytes raw) = samples_from (take raw.size (drop raw.from raw.bytes.items))
 samples_held (OtherRate changed) = changed.samples
 
--- where a track's samples stand as bytes of the file, the part of the bytes that holds them lies within the file; else
--- nothing
+-- If a track's samples stand as bytes of a file, the stretch of bytes that holds them lies within the file. Of samples
+-- that are held in another way nothing is claimed.
 abbrev pub are_inside : Held → Type 0
 are_inside (Numbers samples) = ⊤
 are_inside (Bytes raw) = raw.from + raw.size ≤ length raw.bytes.items
 are_inside (OtherRate changed) = ⊤
 
--- where a track is made from a file at another rate, that file is mono or stereo as `kind` says; else nothing
+-- If a track is made from a file at another rate, that file is mono or stereo as `kind` says. Of samples that are held
+-- in another way nothing is claimed.
 abbrev pub are_of : Kind → Held → Type 0
 are_of kind (Numbers samples) = ⊤
 are_of kind (Bytes raw) = ⊤

@@ -15,8 +15,8 @@ pub data Legal {X : Type 0} (capacity : ℕ) (rest : List X) : List X → List (
   empty : {puts takes : List (Option X)} →
       Legal capacity rest [] puts takes → Legal capacity rest [] puts (None ∷ takes)
 
--- Windows one after another fit a bounded queue: the puts and takes of each are legal from the items that the one
--- before it left. The first begins with `queue`, and the last leaves `rest`.
+-- Windows one after another fit a bounded queue of at most `capacity` items. The puts and takes of each window are
+-- legal from the items that the one before it left. The first begins with `queue`, and the last leaves `rest`.
 abbrev pub IsHistory : {X : Type 0} → ℕ → List X → List (List (Option X) × List (Option X)) → List X → Type 0
 IsHistory capacity queue [] rest = queue ≡ rest
 IsHistory {X} capacity queue (window ∷ windows) rest =

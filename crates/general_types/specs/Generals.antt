@@ -14,7 +14,8 @@ use Rattle.general_types.specs.declared.generalising.TextKind.{TextKind}
 use Rattle.general_types.specs.declared.generalising.TextKind.TheVariants.{Open, Outer}
 use Rattle.general_types.specs.Holding.{SameTypes}
 
--- a kind in a def's text as that of a use: an open one by its number, and one from outside as `a` gives it
+-- A kind in a def's text as that of a use: one that is open in the def by its number, and one from outside as the
+-- assignment `a` gives it.
 abbrev pub settled : Assignment → TextKind → KindOf
 settled a (Outer k) = Fixed (kind_meaning a k)
 settled a (Open j) = Given j
@@ -25,7 +26,8 @@ abbrev pub AreKindsOf : Assignment → List TextKind → List Kind → List Kind
 AreKindsOf a text opens kinds b = kinds_of opens (map (settled a) text) ≡ Some (map (kind_meaning b) kinds)
 
 -- The scheme g, with its text, is the general type of a def with these parameters, result and kinds. At each solution
--- its instances are just the types that the def has at the solutions that give the outer names the same types.
+-- of the substitution s, its instances are just the types of the def at solutions that give the outer `names` the same
+-- types.
 pub record IsGeneral (s : Table) (names params : List Term) (result : Term) (kinds : List KindTerm) (g : Scheme)
     (text : List TextKind) : Type 0 where
   pub sound : (a : Assignment) → Solves a s → (ts : List Ground) (r : Ground) (opens : List Kind)

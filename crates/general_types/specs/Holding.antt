@@ -20,7 +20,7 @@ pub record HeldVariables : Type 0 where
   pub kind_count : ℕ
   pub free_count : ℕ
 
--- whether the number is in the list
+-- whether the number k of a variable is in the list, such as that of the held variables
 abbrev pub is_held : List ℕ → ℕ → Bool
 is_held ks k = list_any (nat_eq k) ks
 
@@ -29,13 +29,14 @@ pub record AgreeOn (h : HeldVariables) (a b : Assignment) : Type 0 where
   pub types : (k : ℕ) → is_held h.types k ≡ true → a.type_of k ≡ b.type_of k
   pub kinds : (k : ℕ) → is_held h.kinds k ≡ true → a.kind_of k ≡ b.kind_of k
 
--- both assignments give the held kind variables the same kinds, and those held type variables the same types whose type
--- under the first has fewer than n nodes
+-- Both assignments give the held kind variables h the same kinds. They give the same types to those held type
+-- variables whose type under the first has fewer than n nodes. Proofs by induction on n use it.
 pub record AgreeBelow (h : HeldVariables) (n : ℕ) (a b : Assignment) : Type 0 where
   pub types : (k : ℕ) → is_held h.types k ≡ true → size (a.type_of k) < n → a.type_of k ≡ b.type_of k
   pub kinds : (k : ℕ) → is_held h.kinds k ≡ true → a.kind_of k ≡ b.kind_of k
 
--- both assignments give those passed variables the same types whose type under the first has fewer than n nodes
+-- Both assignments give the same types to those passed variables of h (bound ones that a search went through) whose
+-- type under the first has fewer than n nodes.
 abbrev pub AgreeOnPassed : HeldVariables → ℕ → Assignment → Assignment → Type 0
 AgreeOnPassed h n a b = (k : ℕ) → is_held h.passed k ≡ true → size (a.type_of k) < n → a.type_of k ≡ b.type_of k
 

@@ -39,17 +39,18 @@ pub record AreSettled (s : Table) (xs us : List Term) : Type 0 where
   pub unbound : InTerms (IsFreeType s) (IsFreeKind s) (terms_of us)
   pub same : (a : Assignment) → Solves a s → map (meaning a) us ≡ map (meaning a) xs
 
--- What type variable k may stand for in a def's general type: itself if an outer name holds it, any number type if s
--- says it is one, and otherwise any type.
+-- What type variable k may stand for in a def's general type under the substitution s. It is itself if it is among the
+-- variables h of outer names, any number type if s says that it is one, and otherwise any type.
 abbrev pub type_parameter : Table → HeldVariables → ℕ → TypeParameter
 type_parameter s h k = cond (is_held h.types k) (OuterType k) (cond (number_at s.types k) Number Any)
 
--- What a kind variable may stand for in a def's general type: itself if an outer name holds it, and otherwise `free`.
+-- What kind variable k may stand for in a def's general type: itself if it is among the variables h of outer names,
+-- and otherwise `free`.
 abbrev pub kind_parameter : HeldVariables → KindParameter → ℕ → KindParameter
 kind_parameter h free k = cond (is_held h.kinds k) (OuterKind k) free
 
--- What each kind variable in ks may stand for in a def's general type. The def's text names the first n, which are open
--- to each use; the others are never read.
+-- What each kind variable in ks may stand for in a def's general type, where outer names hold the variables h. The
+-- def's text names the first n, which are open to each use unless held; the others are never read.
 abbrev pub kind_parameters : HeldVariables → ℕ → List ℕ → List KindParameter
 kind_parameters h n ks = map (kind_parameter h Open) (take n ks) ++ map (kind_parameter h Unread) (drop n ks)
 

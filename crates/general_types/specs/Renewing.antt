@@ -35,14 +35,14 @@ counted_in s h = record {
 abbrev pub IsLeft : List ℕ → List ℕ → ℕ → Type 0
 IsLeft old gone k = (is_held old k ≡ true) × (is_held gone k ≡ true → ⊥)
 
--- Held variables were renewed after more was bound: names that held the old ones hold the new ones. In place of the
--- bound ones (the lists `types` and `kinds`) stand the free variables of what they are bound to.
+-- Held variables were renewed from `old` to `new`, since the substitution s bound some of them: `types` and `kinds`.
+-- In place of these stand the free variables of what they are bound to. Names whose types held `old` hold `new`.
 pub record Renews (s : Table) (types kinds : List ℕ) (old new : HeldVariables) : Type 0 where
   pub fixed : (names : List Term) → IsFixedBy s names old → IsFixedBy s names new
   pub types_only : (k : ℕ) → is_held new.types k ≡ true → IsLeft old.types types k ⊎ IsFreeType s k
   pub kinds_only : (k : ℕ) → is_held new.kinds k ≡ true → IsLeft old.kinds kinds k ⊎ IsFreeKind s k
 
--- the list `found` is some of the numbers, and P holds of all that it leaves out
+-- a search through the numbers gave the list `found`: some of them, and P holds of all that it leaves out
 pub record FindsBut (P : ℕ → Type 0) (numbers found : List ℕ) : Type 0 where
   pub among : (k : ℕ) → is_held found k ≡ true → is_held numbers k ≡ true
   pub others : (k : ℕ) → is_held numbers k ≡ true → (is_held found k ≡ true) ⊎ P k

@@ -17,7 +17,8 @@ use Rattle.general_types.specs.declared.generalising.TextKind.TheVariants.{Open,
 use Rattle.general_types.specs.Holding.{HeldVariables}
 use Rattle.general_types.specs.Numbering.{AreSettled, IsFront, kind_parameters, place_of, type_parameter}
 
--- For each kind parameter, how many open ones stand before it. The count begins with n for the first.
+-- For each kind parameter of a general type, the number that its kind gets if it is open: how many open ones stand
+-- before it. The count begins with n.
 abbrev pub open_counts : ℕ → List KindParameter → List ℕ
 open_counts n [] = []
 open_counts n (p ∷ ps) = n ∷ open_counts (n + length (open_numbers 0 (p ∷ []))) ps
@@ -30,8 +31,8 @@ variable_in_text i before (Some OpenKind) = Open before
 variable_in_text i before (Some Unread) = Outer (Var i)
 variable_in_text i before (Some (OuterKind n)) = Outer (Var n)
 
--- a kind of a general type, as a def's text writes it: an open one by its number among the open ones, and any other as
--- a kind from outside
+-- A kind of a general type, as a def's text writes it: an open one by its number among the open ones, and any other as
+-- a kind from outside of the def. ps are the kind parameters of the general type.
 abbrev pub text_kind : List KindParameter → KindTerm → TextKind
 text_kind ps (Fixed k) = Outer (Fixed k)
 text_kind ps (Var i) = variable_in_text i (length (open_numbers 0 (take i ps))) (slice_get ps i)
@@ -89,8 +90,9 @@ pub record OpensDef (s : Table) (found : DefTerms) (ts ks : List ℕ) (n : ℕ) 
   pub order : numbered_on 0 (flat_map place_of opened.kinds) ≡ Some n
   pub few : n ≤ length ks
 
--- The general type of a def in numbered form, over the type variables ts and the kind variables ks. h are held by outer
--- names, and the def's text names the first n of ks.
+-- The general type of a def, from its types in numbered form (`opened`), over the type variables ts and the kind
+-- variables ks. The variables h are held by outer names, and s is the substitution. The def's text names the first n
+-- of ks.
 abbrev pub scheme_with : Table → HeldVariables → List ℕ → List ℕ → ℕ → DefTerms → Scheme
 scheme_with s h ts ks n opened = record {
   params = opened.params;

@@ -8,7 +8,8 @@ use Rattle.type_terms.specs.declared.ty.KindTerm.{KindTerm}
 use Rattle.general_types.specs.declared.walking.Reached.{Reached}
 use Rattle.general_types.specs.Holding.{HeldVariables, AgreeBelow, AgreeOnPassed, is_held}
 
--- held variables and passed ones as one record, with its counts left at 0
+-- Held variables from lists of free type variables, free kind variables, and bound variables that were passed. The
+-- counts are left at 0.
 abbrev pub held : List ℕ → List ℕ → List ℕ → HeldVariables
 held types kinds passed = record {
   types = types;
@@ -37,19 +38,21 @@ IsSame a b t = meaning a t ≡ meaning b t
 abbrev pub IsSameBelow : Assignment → Assignment → ℕ → Term → Type 0
 IsSameBelow a b n t = size (meaning a t) < n + extra t → meaning a t ≡ meaning b t
 
--- type variable k is free and occurs in the terms ts: two solutions that give ts the same meaning agree on it
+-- Type variable k is free under the substitution s and occurs in the terms ts: two solutions of s that give ts the
+-- same meaning agree on k.
 pub record IsTypeIn (s : Table) (ts : List Term) (k : ℕ) : Type 0 where
   pub free : IsFreeType s k
   pub fixed : (a b : Assignment) → Solves a s → Solves b s → Every (IsSame a b) ts → a.type_of k ≡ b.type_of k
 
--- kind variable k is free and occurs in the terms ts: two solutions that give ts the same meaning agree on it
+-- Kind variable k is free under the substitution s and occurs in the terms ts: two solutions of s that give ts the
+-- same meaning agree on k.
 pub record IsKindIn (s : Table) (ts : List Term) (k : ℕ) : Type 0 where
   pub free : IsFreeKind s k
   pub fixed : (a b : Assignment) → Solves a s → Solves b s → Every (IsSame a b) ts → a.kind_of k ≡ b.kind_of k
 
--- A walk that gathers free variables went on: of the terms `todo` it has `left` still to go through, and its findings
--- grew from `old` to `new`. Two solutions that agree on what is left and on the findings agree on `todo` and on what
--- was passed.
+-- A walk through types, which gathers free variables, went on under the substitution s. Of the terms `todo` it has
+-- `left` still to go through, and its findings grew from `old` to `new`. Two solutions that agree on `left` and on the
+-- findings agree on `todo` and on what was passed.
 pub record Leads (s : Table) (todo left : List Term) (old new : HeldVariables) : Type 0 where
   pub over : Every (IsOver s) todo → Every (IsOver s) left
   pub needed : (a b : Assignment) → Solves a s → Solves b s → Every (IsSame a b) todo → Every (IsSame a b) left
@@ -63,7 +66,8 @@ pub record Leads (s : Table) (todo left : List Term) (old new : HeldVariables) :
   pub types_only : (k : ℕ) → is_held new.types k ≡ true → (is_held old.types k ≡ true) ⊎ IsTypeIn s todo k
   pub kinds_only : (k : ℕ) → is_held new.kinds k ≡ true → (is_held old.kinds k ≡ true) ⊎ IsKindIn s todo k
 
--- The list of kind variables grew by the free variable that a kind comes to under s, if it comes to one.
+-- The list of kind variables grew from `old` to `new`: by the free variable to which `kind` comes under the
+-- substitution s, if it comes to one.
 pub record AddsKind (s : Table) (kind : KindTerm) (old new : List ℕ) : Type 0 where
   pub kept : (k : ℕ) → is_held old k ≡ true → is_held new k ≡ true
   pub only : (k : ℕ) → is_held new k ≡ true → (is_held old k ≡ true) ⊎ IsKindIn s (source_term kind ∷ []) k

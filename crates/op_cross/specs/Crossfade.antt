@@ -31,7 +31,8 @@ overlap_of most r next = min most (min (length r) (length next))
 abbrev pub takes_part : ℕ → List Cell → Piece → Bool
 takes_part most r next = is_closed next.border || nat_le (min most (length r)) (length next.cells)
 
--- what is settled of a track r while nothing after it is known: all but the last `most` cells, which may still be faded
+-- What is settled of a track r while nothing after it is known: all but its last `most` cells, which may still be
+-- faded into the next track.
 abbrev pub held_back : ℕ → List Cell → List Slot
 held_back most r = map Some (take (length r - min most (length r)) r)
 
@@ -39,8 +40,8 @@ held_back most r = map Some (take (length r - min most (length r)) r)
 abbrev pub overlapped : ℕ → List Cell → List Cell → List Slot
 overlapped o r next = map Some (take (length r - o) r) ++ mixed_cells (drop (length r - o) r) (take o next) 0 o
 
--- The output that is settled, that is, that no later slot changes, from the track r on. Behind r come this border and
--- these pieces; tracks overlap by at most `most` cells.
+-- The output of a crossfade that no later slot of its source changes, from the track r on. The border says what
+-- follows r, and the pieces are the tracks behind it. Tracks overlap by at most `most` cells.
 abbrev pub settled : ℕ → List Cell → Border → List Piece → List Slot
 settled most r Unended pieces = held_back most r
 settled most r Gap [] = map Some r ++ None ∷ []

@@ -39,8 +39,9 @@ pub record AreOpened {O : Type 0} (told : O
   pub many : length groups ≡ length engines
   pub taken : AreEmptyBelow (length engines) groups
 
--- The engines of so many clocks made all ticks, as some lawful run in this way does. Each has written the bytes of its
--- ticks, one piece for each tick. `counts` and `logs` are what the run's buffers answered.
+-- The engines of so many clocks made all ticks, as some lawful run in this way does: `old` are they before and `new`
+-- after. Each has written the bytes of its ticks, in one piece for each. `counts` and `logs` are what the buffers
+-- answered, and `told` says what a sink tells.
 pub record RanAll {S : Type 0} (told : S → SinkTold) (setting : Setting) (clocks ticks : ℕ) (way : Way)
     (old new : List (ClockEngine S)) (counts : List Counts) (logs : List (List Answers)) : Type 0 where
   pub run : Run
@@ -49,9 +50,9 @@ pub record RanAll {S : Type 0} (told : S → SinkTold) (setting : Setting) (cloc
   pub counts_are : counts ≡ counts_of_run run
   pub logs_are : logs ≡ map (map told_of) run.buffers
 
--- The engines of so many clocks made some ticks in this way, as a lawful run begins. Each has written its bytes of the
--- ticks that it made, and maybe some of those that it tried, whatever answers follow. If a write ended the run, a sink
--- has failed.
+-- The engines of so many clocks made some ticks, as a lawful run in this way begins: `old` are they before and `new`
+-- after. Each has written the bytes of the ticks that it made, and maybe some of those that it tried. If a failed
+-- write is the `end` of the run, a sink has failed; `told` says what one tells.
 pub record RanSome {S : Type 0} (told : S → SinkTold) (setting : Setting) (clocks ticks : ℕ) (way : Way)
     (old new : List (ClockEngine S)) (end : End) : Type 0 where
   pub run : Run

@@ -20,18 +20,20 @@ pooled (first ∷ others) (list ∷ lists) = first ∷ pooled others lists
 abbrev pub AreEmptyBelow : {S : Type 0} → (n : ℕ) → List (List S) → Type 0
 AreEmptyBelow n lists = (m : ℕ) (list : List _) → m < n → slice_get lists m ≡ Some list → list ≡ []
 
--- an engine of main clock m is at its beginning, before any tick, over what the streams are computed from
+-- An engine of main clock m is at its beginning, before any tick. `setting` is what its streams are computed from:
+-- plan, audio files and clocks.
 pub record IsAt {S : Type 0} (setting : Setting) (m : ℕ) (engine : ClockEngine S) : Type 0 where
   pub over : setting_of engine.parts ≡ setting
   pub clock_is : engine.parts.clock ≡ m
   pub stands : EngineStands engine.parts 0 nothing
 
--- the engines of all clocks, in clock order, are at their beginning, before any tick
+-- The engines of all clocks, in clock order, are at their beginning, before any tick. `setting` is what their streams
+-- are computed from: plan, audio files and clocks.
 pub record AreAt {S : Type 0} (setting : Setting) (engines : List (ClockEngine S)) : Type 0 where
   pub each : (m : ℕ) (engine : ClockEngine S) → slice_get engines m ≡ Some engine → IsAt setting m engine
 
--- An engine of main clock m has made so many ticks. `world` is the setting in which its buffers answer what they did
--- answer, and then anything.
+-- An engine of main clock m has made so many ticks. `setting` is what its streams are computed from before any buffer
+-- answered. `world` is the same where its buffers answer what they did answer, and then anything.
 pub record IsPast {S : Type 0} (setting world : Setting) (ticks m : ℕ) (engine : ClockEngine S) : Type 0 where
   pub over : setting_of engine.parts ≡ setting
   pub clock_is : engine.parts.clock ≡ m
@@ -40,8 +42,8 @@ pub record IsPast {S : Type 0} (setting world : Setting) (ticks m : ℕ) (engine
   pub given : with_rest setting answers rest ≡ world
   pub stands : EngineStands engine.parts ticks answers
 
--- The engines of all clocks, in clock order, have made so many ticks. `world` is the setting in which their buffers
--- answer as they did.
+-- The engines of all clocks, in clock order, have made so many ticks. `setting` is what their streams are computed
+-- from before any buffer answered, and `world` is the same where the buffers answer as they did.
 pub record ArePast {S : Type 0} (setting world : Setting) (ticks : ℕ) (engines : List (ClockEngine S)) : Type 0 where
   pub each : (m : ℕ) (engine : ClockEngine S) → slice_get engines m ≡ Some engine → IsPast setting world ticks m engine
 

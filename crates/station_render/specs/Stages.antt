@@ -23,8 +23,8 @@ pub record AreReady {S : Type 0} (told : S → SinkTold) (job : Job) (engines : 
   pub at : AreAt (setting_by job) engines
   pub over : AreOver told job.plan job.ticks (setting_by job) engines
 
--- The engines of a job, `old` before and `new` after, ran their ticks in this way: all of them if the run ended as
--- done, and otherwise some.
+-- The engines of a job, `old` before and `new` after, ran their ticks in this way: all if the `run` ended as done, and
+-- otherwise some. `told` says what a sink tells.
 pub record HaveTicked {S : Type 0} (told : S
     → SinkTold) (job : Job) (way : Way) (old new : List (ClockEngine S)) (run : RunEnd) : Type 0 where
   pub all : run.end ≡ Done
@@ -48,8 +48,9 @@ pub record OnlyOpened (job : Job) (old new : ShelfTold) : Type 0 where
   pub reads_grew : old.reads ≤ new.reads
   pub writes_grew : old.writes ≤ new.writes
 
--- A rendering may go on to close its outputs: they were opened by a shelf that told this, and then the engines made
--- their ticks in this way.
+-- A rendering may go on to close its outputs: they were opened on this shelf, and then the engines made their ticks in
+-- this way. `order` has the clock of each output, `groups` has an empty list of sinks for each clock, and `run` says
+-- how the ticks ended. `told` says what a sink tells.
 pub record MayClose {O : Type 0} (told : O → SinkTold) (shelf : ShelfTold) (job : Job) (way : Way)
     (order : List ℕ) (groups : List (List (OutputSink O))) (engines : List (ClockEngine (OutputSink O)))
     (run : RunEnd) : Type 0 where

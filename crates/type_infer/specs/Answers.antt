@@ -25,12 +25,14 @@ text_of d = map text_use d.uses.items
 abbrev pub said_in : TextUse → Said
 said_in u = (u.at, Some u.target, Some (length u.kinds))
 
--- the uses us are those of the names at the tokens ts, in order, with what ns says of each name
+-- The uses us are those of the names at the tokens ts, in order; ns says what each name means and how many kinds it
+-- has.
 abbrev pub AreSaidAs : Names → List ℕ → List TextUse → Type 0
 AreSaidAs ns ts us = map said_in us ≡ map (said_at ns) ts
 
--- A def d was typed, from substitution s to s': t has its general type and the uses in its text, which give its
--- typings. A typing of the statements before is lost only where d has none. The values' types hold the variables h now.
+-- The def d was typed, from substitution s to s': t has its general type and the uses in its text, which give its
+-- typings. Typings of the statements `before` are lost only where d has none. The types of values hold the variables h
+-- now; `targets` says what names mean.
 pub record IsTypedDef (s s' : Table) (targets : Targets) (before : List Known) (d : Def) (h : HeldVariables)
     (t : KnownDef) : Type 0 where
   pub def : t.def.now ≡ d
@@ -47,8 +49,9 @@ pub record IsNumberedDef (s : Table) (d : KnownDef) : Type 0 where
   pub some : (a : Assignment) × Solves a s
   pub numbered : text_count (text_of d) ≡ Some (scheme_count (scheme_of d.general))
 
--- What the answer on a def means: its general type and uses, or without an answer that it has no typing. `before` is
--- what is bound, and h the variables that values hold afterwards.
+-- What the answer on the def d means: its general type and uses, or `None`, which says that it has no typing. The
+-- substitutions are s and s', `targets` says what names mean, and `before` is what is bound. The types of values hold
+-- the variables h afterwards.
 abbrev pub IsDefTyped : Table → Table → Targets → List Known → Def → HeldVariables → Option KnownDef → Type 0
 IsDefTyped s s' targets before d h None = HasNoTyping s targets before (view_def d)
 IsDefTyped s s' targets before d h (Some t) = IsTypedDef s s' targets before d h t

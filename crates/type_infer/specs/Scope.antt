@@ -15,8 +15,8 @@ AreAmong n [] = ⊤
 AreAmong n (known.Value v ∷ ks) = AreAmong n ks
 AreAmong n (known.Function i ∷ ks) = (i < n) × AreAmong n ks
 
--- The bound names bs and the defs ds fit together: each def that is named is there, the types have only variables of
--- the substitution, and a def is called at just the instances of its general type.
+-- The bound names bs and the defs ds fit together under the substitution s: each def that is named is there, and types
+-- have only variables of s. A def is called at just the instances of its general type; `targets` says what names mean.
 pub record AreSeenDefs (s : Table) (targets : Targets) (bs : List AKnown) (ds : List KnownDef) : Type 0 where
   pub here : AreAmong (length ds) bs
   pub over : AreKnownOver s (newest_first ds bs)
