@@ -26,7 +26,7 @@ pub record Outside : Type 0 where
   pub out : SinkTold
   pub err : SinkTold
 
--- all that is outside of the call, as its objects tell it
+-- all that is outside of a call, as its objects tell it: the two shelves, standard output and standard error
 abbrev pub outside_of : (scripts shelf : ShelfTold) (out err : SinkTold) → Outside
 outside_of scripts shelf out err = record { scripts = scripts; shelf = shelf; out = out; err = err }
 
@@ -50,7 +50,8 @@ pub record Broken (P : List ℕ → Type 0) (out out_new : SinkTold) : Type 0 wh
   pub part : TookPart told out out_new
   pub is : P told
 
--- this is the answer to the question for each script that is too long, since it does not rest on the bytes
+-- The bytes `told` are the right answer to the question for each script that is longer than the limit. So they rest on
+-- no byte of it; `shelf` has the script's audio files, none of which is read.
 abbrev pub TellsEachLong : Question → (shelf : ShelfTold) → (told : List ℕ) → Type 0
 TellsEachLong question shelf told = (text : List ℕ) → MAX_SCRIPT_BYTES < length text → Tells question text shelf shelf told
 

@@ -28,13 +28,15 @@ use Rattle.week_lines.specs.Weeks.{IsWeek}
 abbrev pub sizes : Sizes
 sizes = record { file = MAX_FILE_BYTES; all = MAX_ALL_BYTES }
 
--- the number of the first sink that may be silent and must not be, where there is one
+-- The Option is the number of the first sink of a plan that may fall silent and must not; it is `None` where there is
+-- no such sink. `mark` says of each node whether it is infallible (always has a cell to play).
 abbrev pub IsRefused : Plan → (mark : ℕ → Bool) → Option ℕ → Type 0
 IsRefused plan mark None = All (λ sink. refuses mark sink ≡ false) plan.sinks
 IsRefused plan mark (Some k) = ((sink : SinkPlan) × (slice_get plan.sinks k ≡ Some sink) × (refuses mark sink ≡ true))
     × ((j : ℕ) (sink : SinkPlan) → j < k → slice_get plan.sinks j ≡ Some sink → refuses mark sink ≡ false)
 
--- the picture of a plan
+-- The text `drawn` is the picture of a plan. It shows its clocks, its infallible nodes and the first sink that may
+-- fall silent and must not, all as inferred from the plan.
 pub record IsDrawn (plan : Plan) (drawn : List ℕ) : Type 0 where
   pub inferred : Inferred
   pub is_inferred : IsInferred plan inferred
@@ -48,7 +50,8 @@ pub record OfPlan (text : List ℕ) (P : Plan → Type 0) : Type 0 where
   pub is_plan : IsPlan text plan
   pub holds : P plan
 
--- the text has a plan, and P holds of it and of the bytes at which the calls begin that make its sources
+-- The text has a plan, and P holds of it and of some places in the text: the bytes at which the calls begin that make
+-- its sources.
 pub record OfSources (text : List ℕ) (P : Plan → (ats : List ℕ) → Type 0) : Type 0 where
   pub plan : Plan
   pub calls : List ℕ
@@ -57,13 +60,14 @@ pub record OfSources (text : List ℕ) (P : Plan → (ats : List ℕ) → Type 0
   pub are_tokens : AreTokens text tokens
   pub holds : P plan (map (start (length text) tokens) calls)
 
--- the lines of the week of a plan
+-- The text `told` is the lines about the week of a plan: when its sources play, and how long it is silent.
 pub record IsWeekOf (plan : Plan) (told : List ℕ) : Type 0 where
   pub inferred : Inferred
   pub is_inferred : IsInferred plan inferred
   pub lines : IsWeek plan (mark_at inferred.marks.items) told
 
--- the answer to a question about the bytes of a script; `old` and `new` are what the shelf of its files told
+-- The bytes `told` are the right answer to a question about a script with the bytes `text`. `old` and `new` are what
+-- the shelf of its audio files tells before and after they were looked at.
 abbrev pub Tells : Question → (text : List ℕ) → (old new : ShelfTold) → (told : List ℕ) → Type 0
 Tells Tokens text old new told = AreTold text told
 Tells Files text old new told = OfSources text (λ plan ats. IsTold (rules_for plan sizes) plan ats old new told)

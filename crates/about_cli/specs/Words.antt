@@ -6,11 +6,11 @@ use Rattle.about_cli.specs.declared.verb.Question.TheVariants.{Week, Picture, Fi
 use Rattle.about_cli.specs.declared.verb.Verb.{Verb}
 use Rattle.about_cli.specs.declared.verb.Verb.TheVariants.{Where, Tell}
 
--- the bytes of the words
+-- the bytes of each word of a call
 abbrev pub texts : List (String Global) → List (List ℕ)
 texts words = map string_bytes words
 
--- the verb that a word is, if it is one
+-- the verb, such as `week`, that a word of a call spells, if it spells one
 abbrev pub verb_of : List ℕ → Option Verb
 verb_of word =
     if bytes_eq word (codes "where") then Some Where
@@ -21,13 +21,13 @@ verb_of word =
     else if bytes_eq word (codes "tokens") then Some (Tell Tokens)
     else None
 
--- the words are two, a verb and the name of a script
+-- The words of a call are two: the first spells the verb, and the second is `file`, the name of a script.
 pub record AsksFor (words : List (List ℕ)) (verb : Verb) (file : List ℕ) : Type 0 where
   pub word : List ℕ
   pub two : words ≡ word ∷ file ∷ []
   pub is_verb : verb_of word ≡ Some verb
 
--- the words have no form: they are not a verb and a name
+-- the words of a call are not a verb and a name, so that the program does not know what is asked
 abbrev pub HasNoForm : List (List ℕ) → Type 0
 HasNoForm words = (verb : Verb) (file : List ℕ) → AsksFor words verb file → ⊥
 

@@ -21,8 +21,8 @@ use Rattle.sound_looks.specs.declared.look.Look.TheVariants.{Unread, Bad, Sound}
 use Rattle.sound_looks.specs.declared.list.ListLook.{ListLook}
 use Rattle.sound_looks.specs.declared.list.ListLook.TheVariants as list_look
 
--- what is told of a WAV file that was read whole, from its bytes: kind, rate, width, where the samples begin, how many
--- there are, how many are played, and for how many bytes it counts
+-- What is told of a WAV file that was read whole, from its bytes: kind, rate, width, where the samples begin, how many
+-- there are, how many are played, and for how many bytes it counts. `rules` has the rate of the script.
 abbrev pub facts_of : Rules → (bytes : List ℕ) → Wav → Facts
 facts_of rules bytes wav = record {
   kind = wav.kind;
@@ -34,7 +34,8 @@ facts_of rules bytes wav = record {
   bytes = counted_bytes (length bytes) (sound_of rules.rate wav);
 }
 
--- what is told of a WAV file from its head alone, where the file has `size` bytes
+-- What is told of a WAV file of `size` bytes from its head alone, which says where the samples are and how many.
+-- `rules` has the rate of the script.
 abbrev pub head_facts : Rules → (size : ℕ) → Head → Facts
 head_facts rules size head = record {
   kind = head.kind;
@@ -46,30 +47,33 @@ head_facts rules size head = record {
   bytes = max size (written_size head rules.rate);
 }
 
--- what a look finds in bytes that were read as a WAV file: the facts of it, or why they are none
+-- What a look finds in bytes that were read as a WAV file: the facts of it, or why they are none. `rules` has the rate
+-- of the script.
 abbrev pub look_in : Rules → (bytes : List ℕ) → Result Wav WavFault → Look
 look_in rules bytes (Err fault) = Bad (NotWav fault)
 look_in rules bytes (Ok wav) = Sound (facts_of rules bytes wav)
 
--- what a look finds in a file, from its bytes, or from the reason why these are of no use
+-- What a look finds in a file, from its bytes, or from the reason why these are of no use. `rules` has the rate of the
+-- script.
 abbrev pub look_of : Rules → Result (List ℕ) Unusable → Look
 look_of rules (Err fault) = Bad fault
 look_of rules (Ok bytes) = look_in rules bytes (read_of bytes)
 
--- What a look at the file of this name finds is `found`, by the bytes that the shelf tells of it. Nothing is said where
--- the shelf does not tell its files.
+-- What a look at the file of this name finds is `found`, by the bytes that the shelf tells of it. The rules have the
+-- script's rate and the most bytes of one file. Nothing is claimed where the shelf does not tell its files.
 abbrev pub Looks : Rules → (name : List ℕ) → ShelfTold → Look → Type 0
 Looks rules name told found = ForSome told.files
     (λ files. look_of rules (bytes_in rules.file (file_at files name)) ≡ found)
 
--- What a look at the file of this name answered is true. `Unread` comes only if the shelf's count of failed reads rose,
--- and any other answer is what the file's bytes say.
+-- What a look at the file of this name answered is true. `Unread` comes only if the shelf's count of failed reads
+-- rose, from `old` to `new`, and any other answer is what the file's bytes say. The rules have the script's rate and
+-- the most bytes of one file.
 abbrev pub IsLooked : Rules → (name : List ℕ) → (old new : ShelfTold) → Look → Type 0
 IsLooked rules name old new Unread = Rose old.reads new.reads
 IsLooked rules name old new (Bad fault) = Looks rules name old (Bad fault)
 IsLooked rules name old new (Sound facts) = Looks rules name old (Sound facts)
 
--- whether a line of a list is skipped: it is not empty, no comment (it does not begin with `#`), and not UTF-8
+-- whether a line of an `.m3u` list is skipped: it is not empty, no comment (it does not begin with `#`), and not UTF-8
 abbrev pub is_skipped : List ℕ → Bool
 is_skipped line = not (nat_eq (length line) 0) && not (nat_eq (slice_index line 0) 35) && not (is_utf8 line)
 
@@ -92,15 +96,15 @@ list_look_of (Ok bytes) = Ok (names_listed bytes, skipped_in bytes)
 abbrev pub ListLooks : (name : List ℕ) → ShelfTold → Result (List (List ℕ) × ℕ) Unusable → Type 0
 ListLooks name told found = ForSome told.files (λ files. list_look_of (bytes_in (2 ^ 20) (file_at files name)) ≡ found)
 
--- What a look at the list of this name answered is true. `Unread` comes only if the shelf's count of failed reads rose,
--- and any other answer is what the list's bytes say.
+-- What a look at the list (an `.m3u` file) of this name answered is true. `Unread` comes only if the shelf's count of
+-- failed reads rose, from `old` to `new`, and any other answer is what the list's bytes say.
 abbrev pub IsListLook : (name : List ℕ) → (old new : ShelfTold) → ListLook → Type 0
 IsListLook name old new list_look.Unread = Rose old.reads new.reads
 IsListLook name old new (list_look.Bad fault) = ListLooks name old (Err fault)
 IsListLook name old new (list_look.Names names skipped) = ListLooks name old (Ok (names.items, skipped))
 
--- for how many bytes a file counts that was looked at, if a plan uses it where it is met alone; otherwise why it is not
--- used
+-- For how many bytes a file counts that was looked at, if a plan may use it by itself; otherwise why it is not used.
+-- The rules have the most bytes of one file.
 abbrev pub counted_as : Rules → Look → Result ℕ Unusable
 counted_as rules Unread = Err NotThere
 counted_as rules (Bad fault) = Err fault

@@ -25,9 +25,9 @@ abbrev pub HaveEnded : {S : Type 0} → Job → List (ClockEngine S) → Type 0
 HaveEnded job engines = (setting : Setting) × (world : Setting) × (ticks : ℕ) × (setting.plan ≡ job.plan)
     × (setting.clocks ≡ job.ready.clocks.of) × ArePast setting world ticks engines
 
--- The outputs of a plan were created, as the shelf tells, and no tick was made. Each of the engines, one for each
--- running clock, took the sinks of its clock, which hold their headers and have room for the samples. `order` has the
--- clock of each output; the lists in `groups` are empty.
+-- The outputs of a plan were created on this shelf, and no tick was made. Each engine, one for each running clock,
+-- holds the sinks of its clock, which have their headers and room for the samples. `order` has the clock of each
+-- output, and the lists of sinks in `groups` are empty. `told` says what a sink tells.
 pub record AreOpened {O : Type 0} (told : O
     → SinkTold) (shelf : ShelfTold) (setting : Setting) (clocks : ClockMap) (ticks : ℕ)
     (order : List ℕ) (engines : List (ClockEngine (OutputSink O))) (groups : List (List (OutputSink O))) : Type 0 where
@@ -40,7 +40,7 @@ pub record AreOpened {O : Type 0} (told : O
   pub taken : AreEmptyBelow (length engines) groups
 
 -- The engines of so many clocks made all ticks, as some lawful run in this way does: `old` are they before and `new`
--- after. Each has written the bytes of its ticks, in one piece for each. `counts` and `logs` are what the buffers
+-- after. Each has written the bytes of its ticks, one piece for each tick. `counts` and `logs` are what the buffers
 -- answered, and `told` says what a sink tells.
 pub record RanAll {S : Type 0} (told : S → SinkTold) (setting : Setting) (clocks ticks : ℕ) (way : Way)
     (old new : List (ClockEngine S)) (counts : List Counts) (logs : List (List Answers)) : Type 0 where

@@ -10,7 +10,8 @@ use Rattle.rounds_run.specs.Rounds.{nothing}
 abbrev pub outs_of : {S : Type 0} → List (ClockEngine S) → List (List S)
 outs_of engines = map (λ engine. engine.outs) engines
 
--- Sinks put back clock by clock: the second list of lists, with its first items replaced by those of the first.
+-- Sinks of engines put back to their clocks: the second list of lists, with its first items replaced by those of the
+-- first. Each item is the list of one clock's sinks.
 abbrev pub pooled : {S : Type 0} → List (List S) → List (List S) → List (List S)
 pooled [] lists = lists
 pooled (first ∷ others) [] = []
@@ -20,20 +21,20 @@ pooled (first ∷ others) (list ∷ lists) = first ∷ pooled others lists
 abbrev pub AreEmptyBelow : {S : Type 0} → (n : ℕ) → List (List S) → Type 0
 AreEmptyBelow n lists = (m : ℕ) (list : List _) → m < n → slice_get lists m ≡ Some list → list ≡ []
 
--- An engine of main clock m is at its beginning, before any tick. `setting` is what its streams are computed from:
--- plan, audio files and clocks.
+-- An engine of main clock m is at its beginning, before any tick. `setting` is what its streams are computed from,
+-- such as the plan and the files.
 pub record IsAt {S : Type 0} (setting : Setting) (m : ℕ) (engine : ClockEngine S) : Type 0 where
   pub over : setting_of engine.parts ≡ setting
   pub clock_is : engine.parts.clock ≡ m
   pub stands : EngineStands engine.parts 0 nothing
 
 -- The engines of all clocks, in clock order, are at their beginning, before any tick. `setting` is what their streams
--- are computed from: plan, audio files and clocks.
+-- are computed from, such as the plan and the files.
 pub record AreAt {S : Type 0} (setting : Setting) (engines : List (ClockEngine S)) : Type 0 where
   pub each : (m : ℕ) (engine : ClockEngine S) → slice_get engines m ≡ Some engine → IsAt setting m engine
 
--- An engine of main clock m has made so many ticks. `setting` is what its streams are computed from before any buffer
--- answered. `world` is the same where its buffers answer what they did answer, and then anything.
+-- An engine of main clock m has made so many ticks. `setting` is what its streams are computed from, such as the plan
+-- and the files. `world` is that setting where its buffers answer what they did answer, and then anything.
 pub record IsPast {S : Type 0} (setting world : Setting) (ticks m : ℕ) (engine : ClockEngine S) : Type 0 where
   pub over : setting_of engine.parts ≡ setting
   pub clock_is : engine.parts.clock ≡ m
@@ -43,7 +44,7 @@ pub record IsPast {S : Type 0} (setting world : Setting) (ticks m : ℕ) (engine
   pub stands : EngineStands engine.parts ticks answers
 
 -- The engines of all clocks, in clock order, have made so many ticks. `setting` is what their streams are computed
--- from before any buffer answered, and `world` is the same where the buffers answer as they did.
+-- from, such as the plan and the files. `world` is that setting where their buffers answer as they did.
 pub record ArePast {S : Type 0} (setting world : Setting) (ticks : ℕ) (engines : List (ClockEngine S)) : Type 0 where
   pub each : (m : ℕ) (engine : ClockEngine S) → slice_get engines m ≡ Some engine → IsPast setting world ticks m engine
 

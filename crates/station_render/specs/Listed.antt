@@ -12,7 +12,7 @@ use Rattle.station_render.specs.declared.output_sink.OutputSink.{OutputSink}
 abbrev pub TellsSinks : ShelfTold → Type 0
 TellsSinks shelf = IsSome shelf.files ⊎ IsSome shelf.closed
 
--- a sink tells that it was created for `size` bytes, and that it got so many pieces
+-- A sink tells that it was created for `size` bytes, and that it got just `pieces` pieces, one for each append.
 pub record IsMeasured (size pieces : ℕ) (sink : SinkTold) : Type 0 where
   pub size_is : size_of sink ≡ Some size
   pub pieces_are : sink.appends ≡ Some pieces
@@ -35,8 +35,8 @@ abbrev pub WillClose : {O : Type 0} → (told : O → SinkTold) → (closed : Op
 WillClose told closed name output = ForSome closed (λ before. ((told output.sink).name ≡ Some name)
     × (AreTold 1 (told output.sink) × HasHeader (told output.sink)))
 
--- an entry of the list of closed files says what the sink last told: its name, its size, how many bytes and pieces it
--- got, and no fault
+-- This entry of the shelf's list of closed files says what the sink last told: its name, its size, how many bytes and
+-- pieces it got, and no fault.
 pub record EndsAs (closing : Closing) (last : SinkTold) : Type 0 where
   pub named : last.name ≡ Some closing.name
   pub size_is : size_of last ≡ Some closing.room

@@ -24,7 +24,8 @@ cues_of marks = map (map cue_of) (lists_of marks)
 abbrev pub cue_file : Sounds → (name : List ℕ) → List Cue → OutputFile
 cue_file library name cues = record { name = cue_name name; bytes = cue_text library cues }
 
--- the cue files of the outputs among these sinks, in sink order; each list of cues is that of the next output
+-- The cue files of the outputs among these sinks, in sink order. `marks` has for each output, in turn, its cues: the
+-- instants at which tracks begin, with their titles.
 abbrev pub cue_files_with : Sounds → List SinkPlan → List (List Cue) → List OutputFile
 cue_files_with library [] marks = []
 cue_files_with library (Output name node fallible wide ∷ sinks) [] = []
@@ -32,11 +33,13 @@ cue_files_with library (Output name node fallible wide ∷ sinks) (cues ∷ mark
     ∷ cue_files_with library sinks marks
 cue_files_with library (Feed buffer node ∷ sinks) marks = cue_files_with library sinks marks
 
--- the cue files of the outputs among these sinks, from the cues of each, if cue files are wanted; otherwise none
+-- The cue files of the outputs among these sinks, if they are wanted; otherwise none. `marks` has the cues of each
+-- output: the instants at which tracks begin, with their titles.
 abbrev pub cue_files_if : (wanted : Bool) → Sounds → List SinkPlan → List (List Cue) → List OutputFile
 cue_files_if false library sinks marks = []
 cue_files_if true library sinks marks = cue_files_with library sinks marks
 
--- the cue files of a job, from the cues of each output, if the job wants cue files; otherwise none
+-- the cue files of a job, if it wants them; otherwise none. `marks` has the cues of each output: the instants at which
+-- tracks begin, with their titles.
 abbrev pub cue_files_by : Job → List (List Cue) → List OutputFile
 cue_files_by job marks = cue_files_if job.cues job.ready.library job.plan.sinks marks

@@ -15,16 +15,16 @@ TookAtOnce (byte ∷ bytes) old new = TookPiece (byte ∷ bytes) old new
 abbrev pub one_file : (name bytes : List ℕ) → List OutputFile
 one_file name bytes = record { name = name; bytes = bytes } ∷ []
 
--- A shelf wrote all of these files, each in one piece at most, and no other. Their sinks were created and closed under
--- these names, in this order.
+-- A shelf, from `old` to `new`, wrote all of the files `outputs`, each in one piece at most, and no other file. Their
+-- sinks were created and closed under these names, in this order.
 pub record WroteFiles (old new : ShelfTold) (names : List (List ℕ)) (outputs : List OutputFile) : Type 0 where
   pub written : ForSome old.files (λ all. new.files ≡ Some (with_outputs all outputs))
   pub made : new.created ≡ after_making names old.created
   pub closes : HaveClosed 0 names old.closed new.closed
   pub listed : HaveListed (map closing_at_once outputs) old.closed new.closed
 
--- A shelf wrote the first of these files, and a part of the next one maybe. The first names were created, and no count
--- of failed reads or writes fell.
+-- A shelf, from `old` to `new`, wrote the first of the files `outputs`, and maybe a beginning of the next one. The
+-- first of these names were created, and no count of failed reads or writes fell.
 pub record WroteUpto (old new : ShelfTold) (names : List (List ℕ)) (outputs : List OutputFile) : Type 0 where
   pub part : ForSome old.files (λ all. IsSomeAnd new.files (HoldsUpto all outputs))
   pub front : CreatedFront names old new

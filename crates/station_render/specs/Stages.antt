@@ -16,8 +16,8 @@ use Rattle.station_render.specs.Runs.{setting_by}
 use Rattle.station_render.specs.declared.job.Job.{Job}
 use Rattle.station_render.specs.declared.output_sink.OutputSink.{OutputSink}
 
--- the engines of a job may begin their ticks: there is one for each running clock, before its first tick, and its sinks
--- have room for all that it will write
+-- The engines of a job may begin their ticks: there is one for each running clock, before its first tick. Its sinks
+-- have room for all that it will write; `told` says what a sink tells.
 pub record AreReady {S : Type 0} (told : S → SinkTold) (job : Job) (engines : List (ClockEngine S)) : Type 0 where
   pub all : length engines ≡ job.ready.clocks.running
   pub at : AreAt (setting_by job) engines
@@ -31,8 +31,9 @@ pub record HaveTicked {S : Type 0} (told : S
       → RanAll told (setting_by job) job.ready.clocks.running job.ticks way old new run.counts.items run.logs.items
   pub some : RanSome told (setting_by job) job.ready.clocks.running job.ticks way old new run.end
 
--- The outputs of a job were opened, as the shelf tells, and the ticks may begin. The engines hold the sinks, each of
--- which got its header as its one piece; they keep marks of where tracks begin exactly where cue files are wanted.
+-- The outputs of a job were opened on this shelf, and the ticks may begin: the engines hold the sinks, with their
+-- headers, and keep marks of tracks just if cue files are wanted. `order` has the clock of each output, and the lists
+-- of sinks in `groups` are empty. `told` says what a sink tells.
 pub record HaveOpened {O : Type 0} (told : O → SinkTold) (shelf : ShelfTold) (job : Job)
     (order : List ℕ) (groups : List (List (OutputSink O))) (engines : List (ClockEngine (OutputSink O))) : Type 0 where
   pub opened : AreOpened told shelf (setting_by job) job.ready.clocks job.ticks order engines groups

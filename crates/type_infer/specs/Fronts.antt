@@ -9,19 +9,20 @@ use Rattle.typing_rules.specs.NameFaults.{first_fault, name_fault_in}
 use Rattle.typing_rules.specs.Scoping.{Meaning, meanings_of}
 use Rattle.typing_rules.specs.Scripts.{first_of}
 
--- The first n statements have no fault of names, and `all` is what their names mean.
+-- The first n statements of the script xs have no fault of names, and `all` is what their names mean.
 pub record AreNamesOf (xs : List (Tree AStmt)) (n : ℕ) (all : List Meaning) : Type 0 where
   pub all_are : all ≡ meanings_of (first_of n (listed xs))
   pub faultless : first_fault 1 [] (first_of n (listed xs)) ≡ None
 
--- f is the first fault of names in the script, and stands in the statement behind the first n.
+-- f is the first fault of names in the script xs, and stands in the statement behind the first n.
 pub record IsNextFault (xs : List (Tree AStmt)) (n : ℕ) (f : TypeFault) : Type 0 where
   pub inside : NameFault
   pub first : first_fault 1 [] (listed xs) ≡ Some (n + 1, inside)
   pub told : f ≡ name_fault_in (n + 1) inside
 
--- What is known of the names of a script up to its first fault of names. The first n statements have none, and `all` is
--- what their names mean. The fault is that of the next statement; without one the n are all statements.
+-- What is known of the names of the script xs up to its first fault of names. The first n statements have none, and
+-- `all` is what their names mean. The `fault` is that of the next statement, or want of memory; without one the n are
+-- all statements.
 pub record IsFront (xs : List (Tree AStmt)) (n : ℕ) (all : List Meaning) (fault : Option TypeFault) : Type 0 where
   pub names_are : AreNamesOf xs n all
   pub short : n ≤ length xs

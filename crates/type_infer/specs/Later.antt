@@ -19,8 +19,9 @@ terms_since (n ∷ ns) types = terms_since ns (variable n ∷ types)
 abbrev pub AreValues : Table → List ℕ → Type 0
 AreValues s ns = All (λ n. n < length s.types) ns
 
--- The free variables of the values' types may be out of date. At an earlier substitution they were h; the values bound
--- since have the types `pending`, which were not looked through yet. The texts of the defs hold no others.
+-- What was known of the free variables of the values' types may be out of date. At an earlier substitution they were
+-- h; the values bound since have the type variables `pending`, which were not searched yet. The texts of the defs in
+-- `before` hold no other variables. s is the substitution now.
 pub record HoldsLater (s : Table) (before : List Known) (h : HeldVariables) (pending : List ℕ) : Type 0 where
   pub earlier : Table
   pub follows : Follows earlier s
@@ -31,13 +32,13 @@ pub record HoldsLater (s : Table) (before : List Known) (h : HeldVariables) (pen
   pub texts : (a b : Assignment) → Solves a s → Solves b s → SameTypes (terms_before before) a b
       → texts_under a before ≡ texts_under b before
 
--- Free variables were gathered of more values: where `old` is what some types hold, `new` is what they hold with the
--- type variables ns besides.
+-- Free variables of more values were gathered under the substitution s: where `old` is what some types hold, `new` is
+-- what they hold with the type variables ns besides.
 abbrev pub AddsValues : Table → List ℕ → HeldVariables → HeldVariables → Type 0
 AddsValues s ns old new = (types : List Term) → IsHeldBy s types old → IsHeldBy s (terms_since ns types) new
 
--- Free variables were brought up to date: where `old` is what some types held at an earlier substitution, `new` is what
--- they hold at `now`, with the type variables ns besides.
+-- Free variables of types were brought up to date: where `old` is what some types held at an earlier substitution,
+-- `new` is what they hold at the substitution `now`, with the type variables ns besides.
 abbrev pub IsRenewed : Table → List ℕ → HeldVariables → HeldVariables → Type 0
 IsRenewed now ns old new = (s : Table) (types : List Term) → Follows s now → IsHeldBy s types old
     → IsHeldBy now (terms_since ns types) new

@@ -11,7 +11,7 @@ use Rattle.type_steps.specs.Counts.{count_at, scheme_count}
 use Rattle.expression_types.specs.Seen.{def_seen}
 use Rattle.expression_types.specs.declared.environment.KnownDef.{KnownDef}
 
--- the name at a token with what it means by the targets
+-- the name at the token t, with what it means: a value, a def or a builtin, as `targets` says
 abbrev pub aimed : Targets → ℕ → Meaning
 aimed targets t = (t, targets t)
 
@@ -24,23 +24,24 @@ AreAimed targets (m ∷ ms) = (targets m.0 ≡ m.1) × AreAimed targets ms
 abbrev pub opens_of : KnownDef → ℕ
 opens_of d = scheme_count (scheme_of d.general)
 
--- a use of this target has n kinds: none for a value, and as many for a def or a builtin as its type leaves open
+-- A use of this target has n kinds. These are none for a value, and for a def or a builtin as many as its type leaves
+-- open to each use. ds are the defs so far.
 abbrev pub HasCountIn : List KnownDef → Target → ℕ → Type 0
 HasCountIn ds (target.Slot t) n = n ≡ 0
 HasCountIn ds (target.Def t) n = option_map opens_of (def_seen t ds) ≡ Some n
 HasCountIn ds (target.Builtin b) n = n ≡ (signature b).kinds
 
--- each use that was found has as many kinds as the type of its target leaves open
+-- each use that was found has as many kinds as the type of its target leaves open; ds are the defs so far
 abbrev pub HaveCountsIn : List KnownDef → List Found → Type 0
 HaveCountsIn ds [] = ⊤
 HaveCountsIn ds (f ∷ fs) = HasCountIn ds f.target (length f.kinds) × HaveCountsIn ds fs
 
--- each use in a def's text has as many kinds as the type of its target leaves open
+-- each use in a def's text has as many kinds as the type of its target leaves open; ds are the defs so far
 abbrev pub IsTextCountedIn : List KnownDef → List TextUse → Type 0
 IsTextCountedIn ds [] = ⊤
 IsTextCountedIn ds (u ∷ us) = HasCountIn ds u.target (length u.kinds) × IsTextCountedIn ds us
 
--- Each def that is found by its token has as many open kinds in its text as in its general type. Of defs by one token
--- the newest counts.
+-- Each def of ds that is found by its token has as many open kinds in its text, as `before` has it, as in its general
+-- type. Of defs by one token the newest counts.
 pub record AreNumberedDefs (ds : List KnownDef) (before : List Known) : Type 0 where
   pub each : (t : ℕ) (d : KnownDef) → def_seen t ds ≡ Some d → count_at t before ≡ Some (opens_of d)
