@@ -43,15 +43,15 @@ pub record Said (P : List ℕ → Type 0) (out out_new : SinkTold) : Type 0 wher
   pub said : TookPiece told out out_new
   pub is : P told
 
--- A write to standard output failed: it took only a beginning of some answer, `told`, and P holds of the whole answer.
--- `out` and `out_new` are what the sink of standard output tells before and after.
+-- A write to standard output failed: the sink took a beginning of some answer, `told`, maybe nothing of it, and P
+-- holds of the whole answer. `out` and `out_new` are what the sink tells before and after.
 pub record Broken (P : List ℕ → Type 0) (out out_new : SinkTold) : Type 0 where
   pub told : List ℕ
   pub part : TookPart told out out_new
   pub is : P told
 
--- The bytes `told` are the right answer to the question for each script that is longer than the limit. So they rest on
--- no byte of it; `shelf` has the script's audio files, none of which is read.
+-- The bytes `told` are the right answer to the question for each script that is longer than the limit, so they rest on
+-- no byte of it. The `shelf` of the script's audio files stays as it is.
 abbrev pub TellsEachLong : Question → (shelf : ShelfTold) → (told : List ℕ) → Type 0
 TellsEachLong question shelf told = (text : List ℕ) → MAX_SCRIPT_BYTES < length text → Tells question text shelf shelf told
 

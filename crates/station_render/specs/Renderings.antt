@@ -12,9 +12,9 @@ use Rattle.station_render.specs.declared.fault.RenderFault.{RenderFault}
 use Rattle.station_render.specs.declared.fault.RenderFault.TheVariants.{Write}
 use Rattle.station_render.specs.declared.rendered.Rendered.{Rendered}
 
--- A rendering of this station ended with this result. If it is done, all files were written, created and closed.
--- Otherwise some were, in the order of the station's names, and maybe a part of one. `Write` comes only if the count
--- of failed writes rose, and no count of failures fell.
+-- A rendering of this station ended with this result. If it is done, all files were written, created and closed. In
+-- any case a part of what it writes was written, and the first of its files' names were created and closed, in order.
+-- `Write` comes only if the count of failed writes rose, and no count of failures fell.
 pub record Renders (station : Station) (old new : ShelfTold) (result : Result Rendered RenderFault) : Type 0 where
   pub done : IfOk result (IsRendered station old new)
   pub part : ForSome old.files (λ files. WrotePart station (ended_by_device result) files old new)
