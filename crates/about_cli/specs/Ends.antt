@@ -119,7 +119,8 @@ IsScript file scripts scripts_new None = Rose scripts.reads scripts_new.reads
     ⊎ Holds scripts file (λ text. MAX_SCRIPT_BYTES < length text)
 
 -- All lines of the input were passed on to standard output, with the places in the script that they name. `file` is
--- the script's name, and `script` its bytes if they can be told. With `_new` are what the objects tell afterwards.
+-- the script's name, and `script` its bytes if they can be told. `scripts` is the shelf of scripts before and
+-- `scripts_new` after, and so are `out` and `out_new` standard output.
 pub record AllShown (file : List ℕ) (scripts scripts_new : ShelfTold) (input : Option (List ℕ))
     (out out_new : SinkTold) : Type 0 where
   pub script : Option (List ℕ)
@@ -127,8 +128,8 @@ pub record AllShown (file : List ℕ) (scripts scripts_new : ShelfTold) (input :
   pub passed : AllPassed file script input out out_new
 
 -- The passing on of input lines to standard output broke off for the reason `broke`: what was passed on until then.
--- `file` is the script's name, and `script` its bytes if they can be told. With `_new` are what the objects tell
--- afterwards.
+-- `file` is the script's name, and `script` its bytes if they can be told. `scripts` is the shelf of scripts before
+-- and `scripts_new` after, and so are `out` and `out_new` standard output.
 pub record ShownUntil (broke : Broke) (file : List ℕ) (scripts scripts_new : ShelfTold) (input : Option (List ℕ))
     (out out_new : SinkTold) : Type 0 where
   pub script : Option (List ℕ)
@@ -148,7 +149,8 @@ pub record Passed (file : List ℕ) (scripts scripts_new : ShelfTold) (input : O
   pub unwritten : status ≡ 4 → ShownUntil Output file scripts scripts_new input out out_new
   pub refused : status ≡ 5 → (out_new ≡ out) ⊎ ShownUntil Memory file scripts scripts_new input out out_new
 
--- what a verb leaves, by the status: `where` passes the input on, and a question is answered about the script
+-- What a call of a verb leaves, by status: `where` passes the input on, with places in the script `file`. Any other
+-- verb is a question that is answered about that script. `old` and `new` are all outside before and after.
 abbrev pub Answers : Verb → (file : List ℕ) → (input : Option (List ℕ)) → (old new : Outside) → (status : ℕ) → Type 0
 Answers Where file input old new status =
     Passed file old.scripts new.scripts input old.out new.out status × (new.shelf ≡ old.shelf)
@@ -176,8 +178,8 @@ pub record Ends (words : List (List ℕ)) (input : Option (List ℕ)) (old new :
 abbrev pub AsksForFiles : List (List ℕ) → Type 0
 AsksForFiles words = (file : List ℕ) × AsksFor words (Tell Files) file
 
--- Nothing failed in a call: the number of failed reads of scripts did not rise, nor did that of failed writes to
--- standard output or standard error.
+-- Nothing failed in a call, from `old` to `new`: the number of failed reads of scripts did not rise, nor did that of
+-- failed writes to standard output or standard error.
 pub record Calm (old new : Outside) : Type 0 where
   pub scripts : Rose old.scripts.reads new.scripts.reads → ⊥
   pub out : Rose old.out.faults new.out.faults → ⊥
@@ -199,8 +201,8 @@ abbrev pub CompletesFor : Question → Option (List ℕ) → (status : ℕ) → 
 CompletesFor question None status = Comes 3 status
 CompletesFor question (Some text) status = Completes question text status
 
--- Where no count rose, the status is the one that the words and the files come to, unless memory was refused. `where`
--- may also end with 3, as nothing is told of why an input fails.
+-- Where nothing failed from `old` to `new`, the status is the one that the words and the files come to, or 5 for want
+-- of memory. `where` may also end with 3, as nothing is told of why an input fails.
 pub record IsComplete (words : List (List ℕ)) (old new : Outside) (status : ℕ) : Type 0 where
   pub told : Calm old new → (question : Question) (file : List ℕ) → AsksFor words (Tell question) file
       → ForSome old.scripts.files (λ files. CompletesFor question (file_at files file) status)

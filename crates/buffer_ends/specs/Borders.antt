@@ -4,7 +4,7 @@ use Rattle.buffer_queue.specs.Window.{Window, Closes, is_chunk}
 use Rattle.buffer_ends.specs.Sides.{Side}
 use Rattle.buffer_ends.specs.Local.{Answers}
 
--- at this place of a clock's list of buffer ends stands this end
+-- at this place of `sides`, a clock's list of buffer ends, stands the end `side`
 pub record HasAt (sides : List Side) (place : ℕ) (side : Side) : Type 0 where
   pub within : place < length sides
   pub is : (d : Side) → slice_index_or sides place d ≡ side
@@ -34,8 +34,8 @@ pub record WasClosed (buffer : ℕ) (puts puts_after takes takes_after : List Si
   pub log_puts : log.puts ≡ map is_chunk put.answers
   pub log_takes : log.takes ≡ map is_chunk take.answers
 
--- both ends of a buffer are there, one in the list of ends that put and one in that of ends that take, and both hold
--- the same queue
+-- Both ends of this buffer are there and hold the same queue: one in `puts`, a clock's ends that put, and one in
+-- `takes`, a clock's ends that take.
 pub record HaveEnds (puts takes : List Side) (buffer : ℕ) : Type 0 where
   pub put : Window
   pub take : Window

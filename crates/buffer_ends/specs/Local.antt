@@ -67,8 +67,8 @@ with_put answer answers = record { puts = answers.puts ++ answer ∷ []; takes =
 abbrev pub with_take : Bool → Answers → Answers
 with_take answer answers = record { puts = answers.puts; takes = answers.takes ++ answer ∷ [] }
 
--- What one call does to a bounded queue. A take gets the front chunk, and finds nothing only where the queue is empty;
--- a put adds at the back, and is refused only where the queue is full.
+-- What one call does to a bounded queue, from `before` to `after`. A take gets the front chunk, and finds nothing only
+-- where the queue is empty. A put adds at the back, and is refused only where the queue is full.
 abbrev pub Step : Held → Call → Held → Type 0
 Step before (Took buffer None) after =
     (before.chunks ≡ []) × (after ≡ record before { answers = with_take false before.answers })

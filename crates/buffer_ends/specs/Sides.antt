@@ -33,8 +33,8 @@ PutsSide before chunk after gave = (after.buffer ≡ before.buffer) × Puts befo
 abbrev pub TakesSide : Side → Option (List Cell) → Side → Type 0
 TakesSide before answer after = (after.buffer ≡ before.buffer) × Takes before.window after.window answer
 
--- a clock's end of a buffer is still the same one: of the same buffer and queue, and in a window that opened with the
--- same chunks
+-- A clock's end of a buffer is still the same one, from `before` to `after`: of the same buffer and queue, and in a
+-- window that opened with the same chunks. Only the calls in the window may differ.
 pub record SameSide (before after : Side) : Type 0 where
   pub buffer : after.buffer ≡ before.buffer
   pub queue : after.window.queue ≡ before.window.queue

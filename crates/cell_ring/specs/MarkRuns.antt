@@ -25,8 +25,9 @@ abbrev pub passing : (begins : Bool) → (title : ℕ) → Option CellMark → B
 passing true title mark = has_name title mark
 passing false title mark = begins_none title mark
 
--- What a walk over marks from place `from` on found. It counts marks that pass, up to one that does not, to `most` of
--- them, or to the end of the list; then `skip` says how far the walk went past the end.
+-- What a walk over marks (a cell's title and beginning) from place `from` on found. It counts marks of this title, up
+-- to one that does not pass, to `most` of them, or to the end of the list. If `begins` is false, a mark that begins a
+-- track does not pass. At the end of the list, `skip` says how far the walk went past it.
 pub record Walked (begins : Bool) (title : ℕ) (marks : List CellMark) (from most : ℕ) (walk : Found) : Type 0 where
   pub pass : (j : ℕ) → j < walk.count → passing begins title (slice_get marks (from + j)) ≡ true
   pub within : walk.count ≤ most

@@ -34,7 +34,8 @@ samples_in millionths rate = unsigned_abs millionths * rate / 10 ^ 6
 abbrev pub two_digits : ℕ → List ℕ
 two_digits n = (48 + n / 10) ∷ (48 + n % 10) ∷ []
 
--- `D:HH:MM:SS` writes a second of the week: a day from 1, which is Monday, and the hour, minute and second of that day
+-- The text `D:HH:MM:SS` writes the second `at` of the week: a day from 1, which is Monday, and the hour, minute and
+-- second of that day.
 pub record IsStartText (text : List ℕ) (at : ℕ) : Type 0 where
   pub day : ℕ
   pub hour : ℕ

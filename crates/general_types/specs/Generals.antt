@@ -43,7 +43,7 @@ abbrev pub open_of : TextKind → List ℕ
 open_of (Outer k) = []
 open_of (Open j) = j ∷ []
 
--- a def's text numbers its open kinds from 0 in the order of first mention, and has as many as its scheme
+-- A def's text numbers its open kinds from 0 in the order of first mention, and has as many as its scheme g.
 abbrev pub IsNumberedText : Scheme → List TextKind → Type 0
 IsNumberedText g text = numbered_on 0 (flat_map open_of text) ≡ Some (length (open_numbers 0 g.kinds))
 

@@ -24,33 +24,33 @@ pub record HeldVariables : Type 0 where
 abbrev pub is_held : List ℕ → ℕ → Bool
 is_held ks k = list_any (nat_eq k) ks
 
--- both assignments give the held variables the same types and kinds
+-- The assignments a and b give the same types and kinds to the variables h, those that the types of outer names hold.
 pub record AgreeOn (h : HeldVariables) (a b : Assignment) : Type 0 where
   pub types : (k : ℕ) → is_held h.types k ≡ true → a.type_of k ≡ b.type_of k
   pub kinds : (k : ℕ) → is_held h.kinds k ≡ true → a.kind_of k ≡ b.kind_of k
 
--- Both assignments give the held kind variables h the same kinds. They give the same types to those held type
--- variables whose type under the first has fewer than n nodes. Proofs by induction on n use it.
+-- The assignments a and b give the held kind variables of h the same kinds. They give the same types to those held
+-- type variables whose type under a has fewer than n nodes. Proofs by induction on n use it.
 pub record AgreeBelow (h : HeldVariables) (n : ℕ) (a b : Assignment) : Type 0 where
   pub types : (k : ℕ) → is_held h.types k ≡ true → size (a.type_of k) < n → a.type_of k ≡ b.type_of k
   pub kinds : (k : ℕ) → is_held h.kinds k ≡ true → a.kind_of k ≡ b.kind_of k
 
--- Both assignments give the same types to those passed variables of h (bound ones that a search went through) whose
--- type under the first has fewer than n nodes.
+-- The assignments a and b give the same types to those passed variables of h (bound ones that a search went through)
+-- whose type under a has fewer than n nodes.
 abbrev pub AgreeOnPassed : HeldVariables → ℕ → Assignment → Assignment → Type 0
 AgreeOnPassed h n a b = (k : ℕ) → is_held h.passed k ≡ true → size (a.type_of k) < n → a.type_of k ≡ b.type_of k
 
--- the types of these names mean the same under both assignments
+-- the types of these names mean the same under both assignments, a and b
 abbrev pub SameTypes : List Term → Assignment → Assignment → Type 0
 SameTypes names a b = map (meaning a) names ≡ map (meaning b) names
 
--- each held variable is one of the substitution s
+-- each of the held variables h is one of the substitution s
 pub record AreThere (s : Table) (h : HeldVariables) : Type 0 where
   pub types : (k : ℕ) → is_held h.types k ≡ true → k < length s.types
   pub kinds : (k : ℕ) → is_held h.kinds k ≡ true → k < length s.kinds
 
--- The counts that are kept with the held variables fit the substitution s: it has at least as many variables, the held
--- ones are among those counted, and as many of these are free.
+-- The counts that are kept with the held variables h fit the substitution s. It has at least as many variables, the
+-- held ones are among those counted, and as many of these are free as is kept.
 pub record AreCounted (s : Table) (h : HeldVariables) : Type 0 where
   pub enough_types : h.type_count ≤ length s.types
   pub enough_kinds : h.kind_count ≤ length s.kinds

@@ -7,20 +7,21 @@ use Rattle.type_terms.specs.Table.{Table, Solves}
 use Rattle.type_terms.specs.Term.{Term}
 use Rattle.general_types.specs.Holding.{HeldVariables, AgreeBelow, AgreeOn, AgreeOnPassed, SameTypes, is_held}
 
--- The types of these names depend on just the variables h: two solutions give the names the same types where they agree
--- on h. Some of h may be bound by now.
+-- Under the substitution s the types of these names depend on just the variables h: two solutions give the names the
+-- same types where they agree on h. Some of h may be bound by now.
 pub record IsFixedBy (s : Table) (names : List Term) (h : HeldVariables) : Type 0 where
   pub fixed : (a b : Assignment) → Solves a s → Solves b s → SameTypes names a b → AgreeOn h a b
   pub enough : (a b : Assignment) → Solves a s → Solves b s → AgreeOn h a b → SameTypes names a b
   pub behind : (a b : Assignment) → Solves a s → Solves b s → (n : ℕ) → AgreeBelow h n a b → AgreeOnPassed h (suc n) a b
 
--- the types of these names hold exactly the variables h, all of them free; the counts kept in h may be anything
+-- Under the substitution s the types of these names hold exactly the variables h, all of them free. The counts kept in
+-- h may be anything.
 pub record AreHeldBy (s : Table) (names : List Term) (h : HeldVariables) : Type 0 where
   pub free_types : (k : ℕ) → is_held h.types k ≡ true → IsFreeType s k
   pub free_kinds : (k : ℕ) → is_held h.kinds k ≡ true → IsFreeKind s k
   pub fixed_by : IsFixedBy s names h
 
--- held variables with their counts set to those of the substitution s as it is now
+-- the held variables h with their counts set to those of the substitution s as it is now
 abbrev pub counted_in : Table → HeldVariables → HeldVariables
 counted_in s h = record {
   types = h.types;

@@ -53,15 +53,15 @@ pub record IsOpened (s : Table) (ts ks : List ℕ) (x u : Term) : Type 0 where
   pub inside : InTerm (λ n. n < length ts) (λ n. n < length ks) u
   pub same : instance ts ks u ≡ settled
 
--- The types us are xs in numbered form, where each variable is written by its place in the lists ts' and ks'. These
--- lists grew at their ends from ts and ks.
+-- The types us are xs in numbered form: variables bound by s are replaced by their types, and each other variable by
+-- its place in the lists ts' and ks'. These lists grew at their ends from ts (types) and ks (kinds).
 pub record OpenMore (s : Table) (ts ks ts' ks' : List ℕ) (xs us : List Term) : Type 0 where
   pub types : IsFront ts ts'
   pub kinds : IsFront ks ks'
   pub are : AreOpened s ts' ks' xs us
 
--- The type u is x in numbered form, where each variable is written by its place in the lists ts' and ks'. These lists
--- grew at their ends from ts and ks.
+-- The type u is x in numbered form: variables bound by s are replaced by their types, and each other variable by its
+-- place in the lists ts' and ks'. These lists grew at their ends from ts (types) and ks (kinds).
 pub record OpensOne (s : Table) (ts ks ts' ks' : List ℕ) (x u : Term) : Type 0 where
   pub types : IsFront ts ts'
   pub kinds : IsFront ks ks'

@@ -20,7 +20,7 @@ held types kinds passed = record {
   free_count = 0;
 }
 
--- the free variables that walks through types have reached, and the bound ones that they passed
+-- the free variables that walks through types have reached, and the bound ones that they passed, from what they keep
 abbrev pub held_of : Reached → HeldVariables
 held_of r = held r.types.keys r.kinds.keys r.passed.keys
 
@@ -29,12 +29,12 @@ abbrev pub Every : (Term → Type 0) → List Term → Type 0
 Every P [] = Unit {0}
 Every P (t ∷ ts) = P t × Every P ts
 
--- the term means the same under both assignments a and b
+-- the term t means the same under both assignments a and b
 abbrev pub IsSame : Assignment → Assignment → Term → Type 0
 IsSame a b t = meaning a t ≡ meaning b t
 
--- The term means the same under both assignments, if it has few nodes under the first: fewer than n, or at most n where
--- it is no variable.
+-- The term t means the same under the assignments a and b, if its meaning under a has few nodes: fewer than n, or at
+-- most n where t is no variable. Proofs by induction on n use it.
 abbrev pub IsSameBelow : Assignment → Assignment → ℕ → Term → Type 0
 IsSameBelow a b n t = size (meaning a t) < n + extra t → meaning a t ≡ meaning b t
 

@@ -97,7 +97,7 @@ pub record HoldsBody {O : Type 0} (told : O → SinkTold) (part : OutputPart) (o
 abbrev pub inner : {O : Type 0} → (told : O → SinkTold) → OutputSink O → SinkTold
 inner told output = told output.sink
 
--- a sink is as it was, or it took some bytes in one piece
+-- A sink is as it was, or it took some bytes in one piece. `old` and `new` are what it tells before and after.
 abbrev pub MayHaveTaken : (old new : SinkTold) → Type 0
 MayHaveTaken old new = (new ≡ old) ⊎ ((taken : List ℕ) × TookPiece taken old new)
 

@@ -71,8 +71,9 @@ front_file setting ticks made tried output = record {
 abbrev pub debt_of : (size : ℕ) → ℕ
 debt_of size = 2 * (size % 2)
 
--- the entry in the list of closed files for an output that ran whole: its name, its size as reserved and as written, a
--- piece for the header and for each tick and maybe for the last zero byte, and no fault
+-- What the shelf's list of closed files says of an output that was written whole, in so many ticks: its name, its size
+-- as reserved and as written, and no fault. There is a piece for the header and for each tick, and maybe one for the
+-- last zero byte.
 abbrev pub closing_of : Setting → (ticks : ℕ) → Written → Closing
 closing_of setting ticks output = record {
   name = output.name;
@@ -87,9 +88,9 @@ closing_of setting ticks output = record {
 abbrev pub whole_size : (body : ℕ) → ℕ
 whole_size body = 44 + body + body % 2
 
--- An output's sink is ready for the first tick: it holds the header, its one piece, and was created for just the bytes
--- of the file. So it has room for the samples, and for the zero byte that it owes. `told` says what a sink tells, and
--- the shelf whether it tells so much.
+-- A sink is ready for the first tick of this output: it holds the file's header as its one piece, and was created for
+-- just the bytes of the file. So it has room for the samples, and for the zero byte that it owes. `told` says what a
+-- sink tells, the shelf whether it tells so much, and `ticks` is how many ticks follow.
 pub record IsReady {O : Type 0} (told : O
     → SinkTold) (shelf : ShelfTold) (setting : Setting) (ticks : ℕ) (output : Written) (sink : OutputSink O) : Type 0
   where
@@ -102,8 +103,9 @@ pub record IsReady {O : Type 0} (told : O
     pub room : HasRoom (but_one_if sink.odd (told sink.sink).room) (body_size setting output.wide ticks output.node)
     pub owes : owed_by sink.odd (told sink.sink).room ≡ debt_of (body_size setting output.wide ticks output.node)
 
--- An output's sink has got all ticks: it holds all its bytes but for the zero byte that it owes, in a piece for the
--- header and one for each tick. `told` says what a sink tells, and the shelf whether it tells so much.
+-- The sink of this output has got all `ticks` ticks: it holds all its bytes but for the zero byte that it owes. They
+-- came in a piece for the header and one for each tick. `told` says what a sink tells, and the shelf whether it tells
+-- so much.
 pub record IsWhole {O : Type 0} (told : O
     → SinkTold) (shelf : ShelfTold) (setting : Setting) (ticks : ℕ) (output : Written) (sink : OutputSink O) : Type 0
   where
@@ -113,8 +115,9 @@ pub record IsWhole {O : Type 0} (told : O
         (told sink.sink))
     pub owes : owed_by sink.odd (told sink.sink).room ≡ debt_of (body_size setting output.wide ticks output.node)
 
--- An output's sink in the middle of a run holds the bytes of the ticks that its clock made, and maybe some of those
--- that it tried; or it failed with fewer. For clock m, `made m` and `tried m` count these ticks.
+-- The sink of this output in the middle of a run holds the bytes of the ticks that its clock made, and maybe some of
+-- those that it tried; or it failed with fewer. For clock m, `made m` and `tried m` count these ticks. `told` says
+-- what a sink tells, and the shelf whether it tells so much.
 pub record IsPart {O : Type 0} (told : O → SinkTold) (shelf : ShelfTold) (setting : Setting) (ticks : ℕ) (made tried : ℕ
     → ℕ) (output : Written) (sink : OutputSink O) : Type 0 where
   pub holds : TellsSinks shelf → HoldsFront (front_file setting ticks made tried output) (told sink.sink)
@@ -122,7 +125,8 @@ pub record IsPart {O : Type 0} (told : O → SinkTold) (shelf : ShelfTold) (sett
 
 -- A rendering made some ticks: outputs were `created`, and each one's sink holds at least the bytes of the ticks
 -- `made` and at most those `tried`, or failed. `order` has the clock of each output, and `groups` the sinks of each
--- clock. `answers` has those of the run before any `rest`, and `created_now` is the shelf's list of created names.
+-- clock. `answers` has those of the run before any `rest`, and `created_now` is the list of created names, which the
+-- `shelf` had before.
 pub record AreBegun {O : Type 0} (told : O → SinkTold) (shelf : ShelfTold) (setting : Setting) (answers : (ℕ
     → List Answer) → ℕ → List Answer) (ticks : ℕ) (made tried : ℕ → ℕ)
     (order : List ℕ) (groups : List (List (OutputSink O))) (created_now : Option (List (List ℕ))) : Type 0 where
@@ -151,9 +155,9 @@ pub record IsCutShort {O : Type 0} (told : O
   pub measured : ForSome shelf.closed (λ before. AreTold 1 (told sink.sink))
   pub failed : 0 < (told sink.sink).faults
 
--- A sink of this name was created for an output of this clock, and `Is` holds of it. `before` and `after` are the
--- shelf's lists of created names, `order` has the clock of each output, and `old` and `new` the sinks of each clock.
--- The sink comes last in all of them.
+-- A sink of this name was created for an output of this clock, and `Is` holds of it. From `before` to `after` the
+-- shelf's list of created names grew by the name, and from `order_old` to `order_new` the list of the outputs' clocks
+-- by the clock. `old` and `new` are the sinks of each clock, where it is the last.
 pub record WasCreated {O : Type 0} (Is : OutputSink O
     → Type 0) (clock : ℕ) (name : List ℕ) (before after : Option (List (List ℕ))) (order_old order_new : List ℕ)
     (old new : List (List (OutputSink O))) : Type 0 where

@@ -70,8 +70,8 @@ window_of InRounds = None
 window_of (InWindows window) = Some window
 window_of (Again trace) = None
 
--- The trace files that a run in this way leaves, of the buffers' logged answers. Only a run on threads leaves one, and
--- only where a name is given.
+-- The trace files that a run in this way leaves, of the buffers' answers, `logs`, in so many ticks. Only a run on
+-- threads leaves one, and only where a name is given.
 abbrev pub traces_by : Way → (name : Option (List ℕ)) → (ticks : ℕ) → List (List Answers) → List OutputFile
 traces_by InRounds name ticks logs = []
 traces_by (InWindows window) name ticks logs = traced name (record { ticks = ticks; window = window; buffers = logs })
@@ -92,8 +92,8 @@ pub record IsTold (station : Station) (run : Run) (rendered : Rendered) : Type 0
   pub logs_are : rendered.logs.items ≡ map (map told_of) run.buffers
   pub cues_are : cues_of rendered.cues.items ≡ marks_of station run
 
--- Some lawful run of the station wrote all its outputs: the shelf got their files, and no other, and lists them as
--- closed. `rendered` is what is told of this run.
+-- Some lawful run of the station wrote all its outputs: the shelf, from `old` to `new`, got their files, and no other,
+-- and lists them as closed. `rendered` is what is told of this run.
 pub record WroteOutputs (station : Station) (old new : ShelfTold) (rendered : Rendered) : Type 0 where
   pub run : Run
   pub lawful : IsLawful station run
@@ -102,8 +102,9 @@ pub record WroteOutputs (station : Station) (old new : ShelfTold) (rendered : Re
   pub listed : HaveListed (closings_in (setting_of_run station run) station.ticks station.plan.sinks) old.closed
       new.closed
 
--- Some lawful run of the station wrote all its files, with cue files and a trace where these are wanted: the shelf got
--- them, and no other, and lists them as created and closed. `rendered` is what is told of this run.
+-- Some lawful run of the station wrote all its files, with cue files and a trace where these are wanted. The shelf,
+-- from `old` to `new`, got them, and no other, and lists them as created and closed. `rendered` is what is told of
+-- this run.
 pub record IsRendered (station : Station) (old new : ShelfTold) (rendered : Rendered) : Type 0 where
   pub run : Run
   pub lawful : IsLawful station run

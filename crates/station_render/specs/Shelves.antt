@@ -6,7 +6,8 @@ use Rattle.liq_base.specs.Shelves.{ShelfTold}
 use Rattle.stations.specs.Creations.{CreatedFront, HaveClosed, HaveListed, after_making, closing_at_once}
 use Rattle.stations.specs.Outputs.{HoldsUpto, OutputFile, with_outputs}
 
--- a sink took these bytes in one piece; where there are no bytes, it is as it was
+-- A sink took these bytes in one piece; where there are no bytes, it is as it was. `old` and `new` are what it tells
+-- before and after.
 abbrev pub TookAtOnce : List ℕ → (old new : SinkTold) → Type 0
 TookAtOnce [] old new = new ≡ old
 TookAtOnce (byte ∷ bytes) old new = TookPiece (byte ∷ bytes) old new
@@ -31,15 +32,16 @@ pub record WroteUpto (old new : ShelfTold) (names : List (List ℕ)) (outputs : 
   pub reads_grew : old.reads ≤ new.reads
   pub writes_grew : old.writes ≤ new.writes
 
--- a call on the shelf created sinks at most: its files and its list of closed ones stay, and no count of failed reads
--- or writes fell
+-- A call on a shelf, from `old` to `new`, created sinks at most. The shelf's files and its list of closed ones stay,
+-- and no count of failed reads or writes fell.
 pub record OnlyCreates (old new : ShelfTold) : Type 0 where
   pub files_kept : new.files ≡ old.files
   pub closed_kept : new.closed ≡ old.closed
   pub reads_grew : old.reads ≤ new.reads
   pub writes_grew : old.writes ≤ new.writes
 
--- a call on the shelf created no sink: the list of created names stays, and no count of failed reads or writes fell
+-- A call on a shelf, from `old` to `new`, created no sink; it may have closed some. The list of created names stays,
+-- and no count of failed reads or writes fell.
 pub record OnlyCloses (old new : ShelfTold) : Type 0 where
   pub created_kept : new.created ≡ old.created
   pub reads_grew : old.reads ≤ new.reads

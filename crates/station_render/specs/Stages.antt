@@ -40,8 +40,8 @@ pub record HaveOpened {O : Type 0} (told : O → SinkTold) (shelf : ShelfTold) (
   pub ready : AreReady (output_told told) job engines
   pub keeping : AreKeeping job.cues engines
 
--- the outputs of a job were created on a shelf, and nothing else was done there: no file was changed and none was
--- closed
+-- The outputs of a job were created on a shelf, from `old` to `new`, and nothing else was done there: no file was
+-- changed and none was closed.
 pub record OnlyOpened (job : Job) (old new : ShelfTold) : Type 0 where
   pub files_kept : new.files ≡ old.files
   pub made : new.created ≡ after_making (names_in job.plan.sinks) old.created

@@ -43,8 +43,8 @@ pub record IsTypedDef (s s' : Table) (targets : Targets) (before : List Known) (
   pub typing : IsTypingOf s' targets before (view_def d) (scheme_of t.general) (text_of t)
   pub held : HoldsBefore s' (function (view_def d) (text_of t) ∷ before) h
 
--- A def's open kinds are numbered well: the numbers in its text go from 0 in the order of first mention, and there are
--- as many as the general type has. The substitution s has a solution.
+-- The open kinds of the def d are numbered well: the numbers in its text go from 0 in the order of first mention, and
+-- there are as many as its general type has. The substitution s has a solution.
 pub record IsNumberedDef (s : Table) (d : KnownDef) : Type 0 where
   pub some : (a : Assignment) × Solves a s
   pub numbered : text_count (text_of d) ≡ Some (scheme_count (scheme_of d.general))

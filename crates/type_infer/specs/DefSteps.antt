@@ -117,8 +117,8 @@ pub record IsGeneralType (s : Table) (h : HeldVariables) (p : TypedParts) (fs : 
   pub general : (names : List Term) → IsHeldBy s names h
       → IsGeneral s names (map variable p.params.items) (variable p.result) (kinds_in fs) g text
 
--- What is kept of a def d: the def, its token, its parameters' names, the general type that was made of it, and its
--- uses with the general kinds.
+-- What is kept of the def d is t: the def, its token, its parameters' names, the general type that was made of it, and
+-- its uses fs with the general kinds.
 pub record IsKnownDef (d : Def) (fs : List Found) (made : DefType) (t : KnownDef) : Type 0 where
   pub def : t.def.now ≡ d
   pub at : t.at ≡ def_token (view_def d)
@@ -127,7 +127,8 @@ pub record IsKnownDef (d : Def) (fs : List Found) (made : DefType) (t : KnownDef
   pub text : text_of t ≡ text_uses fs made.text.items
 
 -- A typed def d was made general in all variables that no value holds, and t is what is kept of it. p and fs are the
--- types of its parts and its uses. Values held h at an earlier substitution, and hold h' now.
+-- types of its parts and its uses. Values held the variables h at an earlier substitution, and hold h' under the
+-- substitution s now.
 pub record IsGeneralDef (s : Table) (h h' : HeldVariables) (d : Def) (p : TypedParts) (fs : List Found)
     (t : KnownDef) : Type 0 where
   pub made : DefType

@@ -21,7 +21,7 @@ abbrev pub AreVars : Table → List ℕ → Type 0
 AreVars s [] = ⊤
 AreVars s (n ∷ ns) = (n < length s.types) × AreVars s ns
 
--- the ground types that an assignment gives these type variables
+-- the ground types (those without variables) that the assignment a gives the type variables ns
 abbrev pub types_at : Assignment → List ℕ → List Ground
 types_at a ns = map a.type_of ns
 

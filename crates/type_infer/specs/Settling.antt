@@ -21,13 +21,13 @@ IsSettledKind s k r = (d : HasDefaults s) → r ≡ kind_meaning d.at k
 abbrev pub AreSettledKinds : Table → List KindTerm → List KindOf → Type 0
 AreSettledKinds s ks rs = (d : HasDefaults s) → rs ≡ map (λ k. Fixed (kind_meaning d.at k)) ks
 
--- r is the final form of a kind in a def's text: one that is open in the def stays open, and any other takes its
--- default where substitution s leaves it open
+-- r is the final form of the kind k in a def's text. A kind that is open in the def stays open, and any other takes
+-- its default where the substitution s leaves it open.
 abbrev pub IsSettledText : Table → Pending → KindOf → Type 0
 IsSettledText s k r = (d : HasDefaults s) → r ≡ settled d.at k
 
--- rs are the final forms of kinds in a def's text: those that are open in the def stay open, and others take their
--- default where substitution s leaves them open
+-- rs are the final forms of the kinds ks in a def's text. Those that are open in the def stay open, and others take
+-- their default where the substitution s leaves them open.
 abbrev pub AreSettledTexts : Table → List Pending → List KindOf → Type 0
 AreSettledTexts s ks rs = (d : HasDefaults s) → rs ≡ map (settled d.at) ks
 

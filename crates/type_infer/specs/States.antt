@@ -83,7 +83,7 @@ pub record IsAfter (targets : Targets) (script : Script) (t : Typing) : Type 0 w
   pub ready : IsReady targets t
   pub typed : IsTypedSo targets script t
 
--- the state of typing is the same in all that it holds; only the room of its lists may have grown
+-- From `old` to `new` the state of typing is the same in all that it holds; only the room of its lists may have grown.
 pub record IsSameTyping (old new : Typing) : Type 0 where
   pub subst : new.subst ≡ old.subst
   pub before : new.before ≡ old.before
@@ -98,27 +98,28 @@ pub record IsNext (targets : Targets) (script : Script) (s : Tree AStmt) : Type 
   pub aimed : AreAimed targets (map meant (names (scope_after [] script) s))
   pub placed : IsPlaced 0 (with_last script s)
 
--- Typing took one statement more: behind any script that `old` stands for, `new` is the state after this part of a
--- statement.
+-- Typing took one statement more: behind any script that the state `old` stands for, `new` is the state after this
+-- part of a statement. `targets` says what names mean.
 abbrev pub IsMore : Targets → Tree APart → Typing → Typing → Type 0
 IsMore targets part old new = (script : Script) (semicolon : Bool) → IsTypedSo targets script old
     → IsNext targets script (Stmt part semicolon) → IsAfter targets (with_last script (Stmt part semicolon)) new
 
--- Typing fails at one statement more: behind any script that `old` stands for, no typing has this part as the next
--- statement.
+-- Typing fails at one statement more: behind any script that the state `old` stands for, no typing has this part as
+-- the next statement. `targets` says what names mean.
 abbrev pub IsNoMore : Targets → Tree APart → Typing → Type 0
 IsNoMore targets part old = (script : Script) (semicolon : Bool) → IsTypedSo targets script old
     → HasNoTypings targets (with_last script (Stmt part semicolon))
 
--- What the answer on one statement more means: true, it was typed; false, no typing has it.
+-- What the answer on one statement more means: true, this part was typed, and `new` is the state behind it; false, no
+-- typing has it behind the state `old`. `targets` says what names mean.
 abbrev pub IsStepped : Targets → Tree APart → Typing → Typing → Bool → Type 0
 IsStepped targets part old new true = IsMore targets part old new
 IsStepped targets part old new false = IsNoMore targets part old
 
 -- ---- what is kept of a statement
 
--- The state of typing kept a binding of a name: the name's token `at`, and the type variable and uses of its value e.
--- The value is put with those whose types have yet to be searched for free variables (`pending`).
+-- From `old` to `new` the state of typing kept a binding of a name: the name's token `at`, and the type variable and
+-- uses of its value e. The value is put with those whose types have yet to be searched for free variables (`pending`).
 pub record IsValueKept (at : ℕ) (e : TypedExpr) (old new : Typing) : Type 0 where
   pub subst : new.subst ≡ old.subst
   pub before : new.before ≡ old.before ++ known.Value (record { at = at; var = e.var }) ∷ []
@@ -127,7 +128,8 @@ pub record IsValueKept (at : ℕ) (e : TypedExpr) (old new : Typing) : Type 0 wh
   pub held : new.held ≡ old.held
   pub pending : new.pending.items ≡ old.pending.items ++ e.var ∷ []
 
--- the state of typing kept the uses of a statement that only runs: a call or an `if`
+-- From `old` to `new` the state of typing kept the uses of names in a statement that only runs, a call or an `if`; e
+-- has these uses.
 pub record IsRunKept (e : TypedExpr) (old new : Typing) : Type 0 where
   pub subst : new.subst ≡ old.subst
   pub before : new.before ≡ old.before
@@ -136,7 +138,8 @@ pub record IsRunKept (e : TypedExpr) (old new : Typing) : Type 0 where
   pub held : new.held ≡ old.held
   pub pending : new.pending.items ≡ old.pending.items
 
--- the state of typing kept the def d behind the other defs, with a step that names it by its index
+-- From `old` to `new` the state of typing kept the def d behind the other defs, with a step that names it by its
+-- index.
 pub record IsDefKept (d : KnownDef) (old new : Typing) : Type 0 where
   pub subst : new.subst ≡ old.subst
   pub before : new.before ≡ old.before ++ known.Function (length old.defs) ∷ []

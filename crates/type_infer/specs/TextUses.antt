@@ -15,7 +15,7 @@ abbrev pub kinds_in : List Found → List KindTerm
 kinds_in [] = []
 kinds_in (f ∷ fs) = f.kinds ++ kinds_in fs
 
--- a use that was found in a def, with the given kinds in place of its own, as the general def keeps it
+-- a use f of a name that was found in a def, with the kinds of `text` in place of its own, as the general def keeps it
 abbrev pub use_of : Found → List TextKind → TextUse
 use_of f text = record { at = f.at; target = f.target; kinds = map pending_of text }
 
