@@ -19,7 +19,8 @@ use Rattle.where_lines.specs.Passes.{AllPassed}
 use Rattle.where_lines.specs.declared.passing.Broke.{Broke}
 use Rattle.where_lines.specs.declared.passing.Broke.TheVariants.{Input, Output, Memory}
 
--- what the two shelves, `out` and `err` tell at one moment
+-- All that is outside of a call at one time, as its objects tell it: the shelf of scripts, the shelf of audio files,
+-- standard output and standard error.
 pub record Outside : Type 0 where
   pub scripts : ShelfTold
   pub shelf : ShelfTold
@@ -201,8 +202,8 @@ abbrev pub CompletesFor : Question → Option (List ℕ) → (status : ℕ) → 
 CompletesFor question None status = Comes 3 status
 CompletesFor question (Some text) status = Completes question text status
 
--- Where nothing failed from `old` to `new`, the status is the one that the words and the files come to, or 5 for want
--- of memory. `where` may also end with 3, as nothing is told of why an input fails.
+-- Where nothing failed from `old` to `new`, the status is the one that the words and the files come to, unless memory
+-- was refused. `where` may also end with 3, as nothing is told of why an input fails.
 pub record IsComplete (words : List (List ℕ)) (old new : Outside) (status : ℕ) : Type 0 where
   pub told : Calm old new → (question : Question) (file : List ℕ) → AsksFor words (Tell question) file
       → ForSome old.scripts.files (λ files. CompletesFor question (file_at files file) status)

@@ -5,7 +5,7 @@ use Rattle.frame_core.specs.declared.cell.MarkRun.{MarkRun}
 use Rattle.cell_ring.specs.declared.mark_ring.Found.{Found}
 use Rattle.cell_ring.specs.Lanes.{begins_none, has_name}
 
--- each run of marks has at least one mark
+-- each of these runs (marks in a row with one title, kept as one item) has at least one mark
 abbrev pub AreSome : List MarkRun → Type 0
 AreSome [] = Unit {0}
 AreSome (run ∷ runs) = (0 < run.count) × AreSome runs

@@ -24,8 +24,8 @@ pub record IsLibrary (library : Sounds) : Type 0 where
 abbrev pub chosen_lists : (lists : List (List ℕ)) → (numbers : List ℕ) → List (List ℕ)
 chosen_lists lists numbers = map (λ number. slice_index_or lists number []) numbers
 
--- The list of files that each node plays. Where nodes share lists, `numbers` has the place of each node's list;
--- otherwise it stands at the node's own place.
+-- The list of files that each node plays. Where nodes share lists, `numbers` has for each node the place of its list
+-- in `lists`; otherwise the node's list stands at the node's own place.
 abbrev pub leaves_of : Option (Vec ℕ Global) → (lists : List (List ℕ)) → List (List ℕ)
 leaves_of None lists = lists
 leaves_of (Some numbers) lists = chosen_lists lists numbers.items
@@ -46,7 +46,7 @@ pub record IsKept (files : List Sound) (names : List (List ℕ)) (lists : List (
 abbrev pub no_sound : Sound
 no_sound = record { kind = Mono; samples = [] }
 
--- the numbers of the files that a leaf (a node that plays files) plays, in order
+-- the numbers in the library of the files that a leaf (a node that plays files) plays, in order
 abbrev pub tracks_of : Sounds → ℕ → List ℕ
 tracks_of library leaf = slice_index_or library.leaves leaf []
 

@@ -20,7 +20,8 @@ use Rattle.station_render.specs.Renders.{IsReady, order_of, written}
 use Rattle.station_render.specs.declared.job.Job.{Job}
 use Rattle.station_render.specs.declared.output_sink.OutputSink.{OutputSink}
 
--- all engines of a job have made the same number of ticks, under some setting with the job's plan and clocks
+-- All engines of a job have made the same number of ticks. The setting from which their streams are computed has the
+-- job's plan and clocks.
 abbrev pub HaveEnded : {S : Type 0} → Job → List (ClockEngine S) → Type 0
 HaveEnded job engines = (setting : Setting) × (world : Setting) × (ticks : ℕ) × (setting.plan ≡ job.plan)
     × (setting.clocks ≡ job.ready.clocks.of) × ArePast setting world ticks engines

@@ -124,9 +124,9 @@ pub record IsPart {O : Type 0} (told : O → SinkTold) (shelf : ShelfTold) (sett
   pub measured : ForSome shelf.closed (λ before. AreTold 1 (told sink.sink))
 
 -- A rendering made some ticks: outputs were `created`, and each one's sink holds at least the bytes of the ticks
--- `made` and at most those `tried`, or failed. `order` has the clock of each output, and `groups` the sinks of each
--- clock. `answers` has those of the run before any `rest`, and `created_now` is the list of created names, which the
--- `shelf` had before.
+-- `made` and at most those `tried`, or failed. `order` has the clock of each output, `groups` the sinks of each clock,
+-- and `answers` those of the run before any `rest`. `shelf` is as before, and `created_now` its list of created names
+-- afterwards.
 pub record AreBegun {O : Type 0} (told : O → SinkTold) (shelf : ShelfTold) (setting : Setting) (answers : (ℕ
     → List Answer) → ℕ → List Answer) (ticks : ℕ) (made tried : ℕ → ℕ)
     (order : List ℕ) (groups : List (List (OutputSink O))) (created_now : Option (List (List ℕ))) : Type 0 where
@@ -157,7 +157,7 @@ pub record IsCutShort {O : Type 0} (told : O
 
 -- A sink of this name was created for an output of this clock, and `Is` holds of it. From `before` to `after` the
 -- shelf's list of created names grew by the name, and from `order_old` to `order_new` the list of the outputs' clocks
--- by the clock. `old` and `new` are the sinks of each clock, where it is the last.
+-- by the clock. `old` and `new` are the sinks of each clock; the sink was put behind its clock's others.
 pub record WasCreated {O : Type 0} (Is : OutputSink O
     → Type 0) (clock : ℕ) (name : List ℕ) (before after : Option (List (List ℕ))) (order_old order_new : List ℕ)
     (old new : List (List (OutputSink O))) : Type 0 where

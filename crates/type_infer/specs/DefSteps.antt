@@ -108,7 +108,7 @@ ArePartsOf s s' targets before d new None = HasNoDef s (outside targets before) 
 ArePartsOf s s' targets before d new (Some p) = InfersDef s s' (outside targets before) d p.params.items p.result new
 
 -- g and its text are the general type of a def, whose parts p and uses fs were typed under the substitution s. It is
--- general in all variables that no value holds; h are those that values hold.
+-- general in all variables but h, those that the types of values hold.
 pub record IsGeneralType (s : Table) (h : HeldVariables) (p : TypedParts) (fs : List Found) (g : Scheme)
     (text : List TextKind) : Type 0 where
   pub numbered : IsNumberedText g text

@@ -9,7 +9,7 @@ use Rattle.expression_types.specs.declared.environment.Known.TheVariants as know
 use Rattle.expression_types.specs.declared.environment.KnownDef.{KnownDef}
 use Rattle.type_steps.specs.Defs.{outside}
 
--- each def that statements have bound is named by an index below n, the count of defs
+-- each def among these bound names is named by an index below n, the number of defs
 abbrev pub AreAmong : ℕ → List AKnown → Type 0
 AreAmong n [] = ⊤
 AreAmong n (known.Value v ∷ ks) = AreAmong n ks

@@ -31,18 +31,18 @@ IsSettledText s k r = (d : HasDefaults s) → r ≡ settled d.at k
 abbrev pub AreSettledTexts : Table → List Pending → List KindOf → Type 0
 AreSettledTexts s ks rs = (d : HasDefaults s) → rs ≡ map (settled d.at) ks
 
--- The uses fs found outside of defs were added to the list `old` in their final form, with all that substitution s
--- leaves open at its default.
+-- The uses fs of names, found outside of defs, were added to the list `old` in their final form, which gives `new`.
+-- All that the substitution s leaves open takes its default.
 abbrev pub AddsFounds : Table → List Found → List Use → List Use → Type 0
 AddsFounds s fs old new = (d : HasDefaults s) → new ≡ old ++ map (found_use d.at) fs
 
--- The uses us in a def's text were added to the list `old` in their final form, with all that substitution s leaves
--- open at its default.
+-- The uses us of names in a def's text were added to the list `old` in their final form, which gives `new`. All that
+-- the substitution s leaves open takes its default.
 abbrev pub AddsTexts : Table → List TextUse → List Use → List Use → Type 0
 AddsTexts s us old new = (d : HasDefaults s) → new ≡ old ++ map (settled_use d.at) us
 
--- The uses that the typed statements xs have left were added to the list `old` in their final form, with all that
--- substitution s leaves open at its default.
+-- The uses that the typed statements xs have left were added to the list `old` in their final form, which gives `new`.
+-- All that the substitution s leaves open takes its default.
 abbrev pub AddsDones : Table → List Done → List Use → List Use → Type 0
 AddsDones s xs old new = (d : HasDefaults s) → new ≡ old ++ uses_under d.at xs
 
@@ -51,18 +51,20 @@ AddsDones s xs old new = (d : HasDefaults s) → new ≡ old ++ uses_under d.at 
 abbrev pub AreDefaultOf : Table → List Done → List Use → Type 0
 AreDefaultOf s xs us = (d : HasDefaults s) → us ≡ uses_under d.at xs
 
--- the final kind of a kind whose bindings were all followed: a variable that nothing binds is stereo
+-- The final kind of a kind whose bindings were all followed: a fixed one stays, and a variable that nothing binds is
+-- stereo.
 abbrev pub free_kind : KindTerm → Kind
 free_kind (term.Fixed k) = k
 free_kind (term.Var n) = Stereo
 
--- the kinds of a typed statement's uses name only variables of the substitution s
+-- the kinds at the uses of names in what a typed statement has left name only variables of the substitution s
 abbrev pub IsDoneOver : Table → Done → Type 0
 IsDoneOver s (bound t u fs) = AreUsesOver s fs
 IsDoneOver s (defined d us) = IsTextOver s us
 IsDoneOver s (ran fs) = AreUsesOver s fs
 
--- the kinds of all typed statements' uses name only variables of the substitution s
+-- the kinds at the uses of names in what all these typed statements have left name only variables of the substitution
+-- s
 abbrev pub AreDonesOver : Table → List Done → Type 0
 AreDonesOver s [] = ⊤
 AreDonesOver s (x ∷ xs) = IsDoneOver s x × AreDonesOver s xs

@@ -10,18 +10,21 @@ use Rattle.type_infer.specs.Answers.{text_of}
 use Rattle.type_infer.specs.declared.steps.Step.{Step}
 use Rattle.type_infer.specs.declared.steps.Step.TheVariants as step
 
--- what a def's statement leaves, as a list of one: the def with the uses in its text; empty where no def is given
+-- what a def's statement leaves for the end of typing, as a list of one: the def with the uses of names in its text;
+-- empty where no def is given
 abbrev pub defined_as : Option KnownDef → List Done
 defined_as None = []
 defined_as (Some d) = defined (view_def d.def.now) (text_of d) ∷ []
 
--- what a typed statement (a step) has left for the end, where a def is named by its index in ds
+-- What a typed statement (a step) has left for the end of typing, when open kinds get their defaults: a bound name, a
+-- def or uses of names. A def is named by its index in ds.
 abbrev pub done_in : List KnownDef → Step → List Done
 done_in ds (step.Bound n us) = bound n.at (variable n.var) (founds us.items) ∷ []
 done_in ds (step.Defined i) = defined_as (slice_get ds i)
 done_in ds (step.Ran us) = ran (founds us.items) ∷ []
 
--- what all typed statements have left for the end, in order, where a def is named by its index in ds
+-- What all typed statements xs have left for the end of typing, in order: bound names, defs or uses of names. A def is
+-- named by its index in ds.
 abbrev pub dones_in : List KnownDef → List Step → List Done
 dones_in ds xs = flat_map (done_in ds) xs
 
