@@ -22,8 +22,8 @@ pub record IsStereo (plan : Plan) : Type 0 where
   pub well_formed : IsWellFormed plan
   pub stereo : (i : ℕ) (node : Node) → slice_get plan.nodes i ≡ Some node → node.kind ≡ Stereo
 
--- A stereo node of the operator `op` may have so many stereo children. It reads no buffer, and its numbers, such as
--- durations, are in range.
+-- A stereo node of the operator `op` may have `children` stereo children. It reads no buffer, and its numbers, such as
+-- the overlap of a crossfade, are in range.
 pub record IsSuited (op : Op) (children : ℕ) : Type 0 where
   pub count : HasChildren op children
   pub kind : HasKind op Stereo Stereo

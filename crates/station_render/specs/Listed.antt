@@ -46,8 +46,9 @@ pub record EndsAs (closing : Closing) (last : SinkTold) : Type 0 where
   pub pieces_are : last.appends ≡ Some closing.pieces
   pub sound : closing.faults ≡ 0
 
--- This entry is what the shelf will list when an output's sink is closed, after it got the zero byte that it owes, if
--- any. Where the shelf keeps no such list, nothing is said.
+-- This entry, `closing`, is what the shelf will list when an output's sink is closed, after it got the zero byte that
+-- it owes, if any. `told` says what a sink tells. Where the shelf keeps no such list (`closed` is None), nothing is
+-- said.
 abbrev pub WillList : {O : Type 0} → (told : O → SinkTold) → (closed : Option (List Closing)) → Closing → OutputSink O
     → Type 0
 WillList told closed closing output = ForSome closed (λ before. (last : SinkTold)

@@ -117,8 +117,8 @@ pub record IsGeneralType (s : Table) (h : HeldVariables) (p : TypedParts) (fs : 
   pub general : (names : List Term) → IsHeldBy s names h
       → IsGeneral s names (map variable p.params.items) (variable p.result) (kinds_in fs) g text
 
--- What is kept of the def d is t: the def, its token, its parameters' names, the general type that was made of it, and
--- its uses fs with the general kinds.
+-- What is kept of the def d is t: the def, its token, its parameters' names, its general type, and its uses fs with
+-- the general kinds. `made` has the general type and these kinds.
 pub record IsKnownDef (d : Def) (fs : List Found) (made : DefType) (t : KnownDef) : Type 0 where
   pub def : t.def.now ≡ d
   pub at : t.at ≡ def_token (view_def d)

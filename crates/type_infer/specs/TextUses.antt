@@ -19,8 +19,8 @@ kinds_in (f ∷ fs) = f.kinds ++ kinds_in fs
 abbrev pub use_of : Found → List TextKind → TextUse
 use_of f text = record { at = f.at; target = f.target; kinds = map pending_of text }
 
--- The uses in a def's text, with the kinds of the general text dealt out to them: each takes as many as it has, in
--- order.
+-- The uses of names in a def's text, with the kinds of the general text dealt out to them: each takes as many as it
+-- has, in order. The first list has the uses as they were found.
 abbrev pub text_uses : List Found → List TextKind → List TextUse
 text_uses [] text = []
 text_uses (f ∷ fs) text = use_of f (take (length f.kinds) text) ∷ text_uses fs (drop (length f.kinds) text)
