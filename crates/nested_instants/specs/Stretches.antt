@@ -24,8 +24,9 @@ pub record IsStretchOf (slots : ℕ → Slot) (many : ℕ) (first : Slot) (left 
   pub titled : is_some first ≡ true → AreTitled slots many (title_of first)
   pub silent : is_some first ≡ false → (j : ℕ) → j < many → slots j ≡ None
 
--- A clock has made `many` instants at once after its latest one, number n, without a call. No other clock that nests
--- as deep or less has made one. The nodes that the clock asks for have left their samples.
+-- A clock has made `many` instants at once after its latest one, number n, without a call on a buffer. No other clock
+-- that nests as deep (`rank`) or less has made one since `progress`. The nodes that the clock asks for (`own`) have
+-- left their samples. `sub` has the slots that each crossfade's sub-clock makes.
 pub record HasMadeOn (setting : Setting) (sub : ℕ → ℕ → List Slot) (rank : NodeClock → ℕ) (own : List Bool)
     (clock : NodeClock) (n many : ℕ) (progress : Progress) (all : ClockStates) : Type 0 where
   pub now : Progress
@@ -44,8 +45,9 @@ pub record HasMadeOn (setting : Setting) (sub : ℕ → ℕ → List Slot) (rank
       (offer (moment_after setting sub clock (first_instants setting sub clock n)) i)
       (samples_of all.room.left.items i many) (samples_of all.room.right.items i many)
 
--- A clock whose latest instant is number n can make `many` more as that one: the states stand for the instants up to
--- n, no deeper clock ran further than needed, and so many instants go on.
+-- A clock whose latest instant is number n can make `many` more as that one. The states stand for the instants up to n,
+-- no deeper clock ran further than needed, and so many instants go on. `rank` says how deep a clock nests, `own` which
+-- nodes their clock asks for, and `sub` has the slots that each crossfade's sub-clock makes.
 pub record CanGoOn (setting : Setting) (sub : ℕ → ℕ → List Slot) (rank : NodeClock → ℕ) (own : List Bool)
     (clock : NodeClock) (n many : ℕ) (progress : Progress) (all : ClockStates) : Type 0 where
   pub world : IsWorld setting sub rank own
@@ -110,8 +112,9 @@ pub record FilledOn (scene : Scene) (k : ℕ) (time : WeekTime) (old new : Clock
       → TimeStands setting.start n time
       → IsFilling setting sub rank k is_none progress more new
 
--- The sub-clocks of a clock's crossfades with numbers below `below`, but only where cells pass (`through`), made
--- `many` instants more, without a call. Their crossfades' children left samples for them.
+-- Since `progress`, sub-clocks of a clock's crossfades made `many` instants more, without a call on a buffer. These are
+-- the crossfades with numbers below `below` through which cells pass (`through`). Their children left samples for them.
+-- `rank` says how deep a clock nests, and `sub` has the slots that each crossfade's sub-clock makes.
 pub record SubsMade (setting : Setting) (sub : ℕ → ℕ → List Slot) (rank : NodeClock → ℕ) (clock : NodeClock) (many : ℕ)
     (through : ℕ → Bool) (below : ℕ) (progress : Progress) (all : ClockStates) : Type 0 where
   pub now : Progress
@@ -162,8 +165,8 @@ pub record SubClockMade (scene : Scene) (i many : ℕ) (old new : ClockStates) :
       → SubsMade setting sub rank (clock_at scene.clocks.now i) many through i progress old
       → SubsMade setting sub rank (clock_at scene.clocks.now i) many through (suc i) progress new
 
--- a step leaves these alone: in clocks that nest no deeper than `level`, nodes but for those `touched` keep the first
--- `many` samples that they left
+-- A step, from the states `old` to `new`, leaves samples alone. In clocks that nest no deeper than `level`, nodes but
+-- for those `touched` keep the first `many` samples that they left. `rank` says how deep a clock nests.
 pub record AreSamplesLeft (clocks : List NodeClock) (rank : NodeClock → ℕ) (level : ℕ) (touched : ℕ → Type 0) (many : ℕ)
     (old new : ClockStates) : Type 0 where
   pub left : (i : ℕ) → (touched i → ⊥) → rank (clock_at clocks i) ≤ level
@@ -171,8 +174,9 @@ pub record AreSamplesLeft (clocks : List NodeClock) (rank : NodeClock → ℕ) (
   pub right : (i : ℕ) → (touched i → ⊥) → rank (clock_at clocks i) ≤ level
       → samples_of new.room.right.items i many ≡ samples_of old.room.right.items i many
 
--- A step leaves these alone: in clocks that nest no deeper than `level`, nodes keep their states and what they gave;
--- but for those `touched`, their sub-clocks keep their times and counts. Each node keeps its lanes.
+-- A step, from the states `old` to `new`, leaves these alone: in clocks that nest no deeper than `level`, nodes keep
+-- their states and what they gave. But for nodes `touched`, their sub-clocks keep their times and the counts of
+-- instants that go on. Each node keeps its lanes. `rank` says how deep a clock nests.
 pub record AreAbove (clocks : List NodeClock) (rank : NodeClock → ℕ) (level : ℕ) (touched : ℕ → Type 0)
     (old new : ClockStates) : Type 0 where
   pub states : (i : ℕ) → rank (clock_at clocks i) ≤ level → slice_get new.states.items i ≡ slice_get old.states.items i
