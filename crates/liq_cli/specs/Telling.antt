@@ -16,8 +16,9 @@ Tells text wanted old new status = ((status ≡ wanted) × TookPiece text old ne
 abbrev pub MayTell : List ℕ → ℕ → (old new : SinkTold) → ℕ → Type 0
 MayTell text wanted old new status = ((status ≡ 5) × (new ≡ old)) ⊎ Tells text wanted old new status
 
--- how a call ends, by the end of its job: `out` got the report, or `err` the line of a refusal, or neither got
--- anything; with the status that says which
+-- How a call ends, by the end of its job, which is a report or a reason why there is none. `out` got the report, or
+-- `err` the line of a refusal, or neither got anything. The sinks came to `out_new` and `err_new`, and the last number
+-- is the status, which says which.
 abbrev pub Finishes : Result (String Global) CallEnd → (out out_new err err_new : SinkTold) → ℕ → Type 0
 Finishes (Ok report) out out_new err err_new status = Tells (string_bytes report) 0 out out_new status × (err_new ≡ err)
 Finishes (Err (refused_for fault)) out out_new err err_new status = MayTell (line_of fault) 1 err err_new status
