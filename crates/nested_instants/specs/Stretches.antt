@@ -57,8 +57,8 @@ pub record CanGoOn (setting : Setting) (sub : ℕ → ℕ → List Slot) (rank :
   pub goes : GoesOnFor setting sub clock (first_instants setting sub clock n) many progress.filled all.room.held.items
       all.states.items
 
--- A clock can make `many` instants at once, at most 2048 and a second's: the states fit the scene, a plan with its
--- files and clocks, and no count of further instants is kept of this clock.
+-- A clock can make `many` instants at once, where 2048 and the instants of a second are the most. Its states fit the
+-- scene, which is a plan with its files and clocks. No count of further instants that go on is kept of this clock.
 pub record CanRunClock (over : Scene) (clock : NodeClock) (many : ℕ) (all : ClockStates) : Type 0 where
   pub scene : IsScene over
   pub clocks : AreClockStates over all
@@ -67,8 +67,8 @@ pub record CanRunClock (over : Scene) (clock : NodeClock) (many : ℕ) (all : Cl
   pub short : many ≤ 2048
   pub later : many ≤ over.plan.now.rate
 
--- A clock made `many` instants that go on as its latest one: whatever instants the old states stood for, if so many
--- can go on, the new states stand for them too.
+-- A clock made `many` instants at once that go on as its latest one, and its states `old` came to `new`. Whatever
+-- instants the old states stood for, if so many can go on, the new states stand for them too.
 pub record ClockMade (scene : Scene) (clock : NodeClock) (many : ℕ) (old new : ClockStates) : Type 0 where
   pub run : (other : Setting) (sub : ℕ → ℕ → List Slot) (rank : NodeClock → ℕ) (progress : Progress)
       (own : List Bool) (n : ℕ) →
@@ -76,8 +76,8 @@ pub record ClockMade (scene : Scene) (clock : NodeClock) (many : ℕ) (old new :
       CanGoOn setting sub rank own clock n many progress old
       → HasMadeOn setting sub rank own clock n many progress new
 
--- `many` instants of a clock were made after its latest one, which was at this time: whatever instants the states stood
--- for
+-- A clock made `many` instants at once after its latest one, which was at this time, and its states `old` came to
+-- `new`. Whatever instants the old states stood for, the new ones stand for these too.
 pub record StretchMade (scene : Scene) (clock : NodeClock) (time : WeekTime) (many : ℕ) (old new : ClockStates)
     : Type 0 where
   pub run : (other : Setting) (sub : ℕ → ℕ → List Slot) (rank : NodeClock → ℕ) (progress : Progress)
@@ -98,8 +98,8 @@ pub record CanFillLane (scene : Scene) (k many : ℕ) (all : ClockStates) : Type
   pub within : k < length scene.plan.now.nodes
   pub room : many ≤ room_at all.states.items k
 
--- after an instant of its sub-clock at this time, crossfade k was given more slots without a call, whatever it was
--- given before
+-- Crossfade k may have been given more slots of its child, of instants that go on as the latest one of its sub-clock,
+-- which was at this time. No call on a buffer was made for them. This holds whatever it was given before.
 pub record FilledOn (scene : Scene) (k : ℕ) (time : WeekTime) (old new : ClockStates) : Type 0 where
   pub filled : (other : Setting) (sub : ℕ → ℕ → List Slot) (rank : NodeClock → ℕ) (progress : Progress)
       (more : List Call) (own : List Bool) (n : ℕ) →
@@ -144,8 +144,8 @@ pub record SubsMade (setting : Setting) (sub : ℕ → ℕ → List Slot) (rank 
   pub inside : (k : ℕ) → k < length setting.plan.nodes → clock_of setting k ≡ clock → k < below → through k ≡ true
       → clock_of setting (crossfaded setting.plan.nodes k) ≡ Sub k
 
--- of a clock's crossfades below node `below`, the sub-clocks of those through which cells pass at its latest instant
--- have made `many` instants more: whatever instants the states stood for
+-- The sub-clocks of some of a clock's crossfades made `many` instants more, whatever instants the old states stood for.
+-- These are the crossfades with numbers less than `below` through which cells pass at the clock's latest instant.
 pub record SubClocksMade (scene : Scene) (clock : NodeClock) (many below : ℕ) (old new : ClockStates) : Type 0 where
   pub run : (other : Setting) (sub : ℕ → ℕ → List Slot) (rank : NodeClock → ℕ) (progress : Progress)
       (own : List Bool) (n : ℕ) →
@@ -155,8 +155,8 @@ pub record SubClocksMade (scene : Scene) (clock : NodeClock) (many below : ℕ) 
       (goes_through (moment_after setting sub clock (first_instants setting sub clock n)) old.states.items) below
       progress new
 
--- if node i is a crossfade through which cells pass, its sub-clock has made `many` instants more, after those of the
--- crossfades of its clock below it
+-- If node i is a crossfade through which cells pass, its sub-clock made `many` instants more. The sub-clocks of the
+-- crossfades of its clock with smaller numbers had made theirs before.
 pub record SubClockMade (scene : Scene) (i many : ℕ) (old new : ClockStates) : Type 0 where
   pub step : (other : Setting) (sub : ℕ → ℕ → List Slot) (rank : NodeClock → ℕ) (progress : Progress)
       (own : List Bool) (through : ℕ → Bool) →
