@@ -18,12 +18,13 @@ idle = record { capacity = 0; puts = false; takes = false; opening = []; put = [
 abbrev pub newcomer : View
 newcomer = record { capacity = 0; puts = true; takes = true; opening = []; put = []; since = []; got = [] }
 
--- the chunks that a queue holds, as a pass that may both put and take knows them: those of the window's opening and
--- the puts, without the ones got
+-- The chunks that a queue holds, by what a pass `v` that may both put and take knows. They are those of the window's
+-- opening and the puts, without the ones got.
 abbrev pub contents_of : View → List Cells
 contents_of v = left_by v.opening v.put v.got
 
--- the pass that puts into a queue of at most n chunks in the next window, which opens with what the queue holds
+-- What a pass knows that puts into a queue of at most n chunks, when the next window opens. It opens with what the
+-- queue holds, by `v`, which the pass of both roles knew before.
 abbrev pub putter : ℕ → View → View
 putter n v = record {
   capacity = n;
@@ -35,7 +36,8 @@ putter n v = record {
   got = [];
 }
 
--- the pass that takes from a queue of at most n chunks in the next window, which opens with what the queue holds
+-- What a pass knows that takes from a queue of at most n chunks, when the next window opens. It opens with what the
+-- queue holds, by `v`, which the pass of both roles knew before.
 abbrev pub taker : ℕ → View → View
 taker n v = record { capacity = n; puts = false; takes = true; opening = []; put = []; since = contents_of v; got = [] }
 

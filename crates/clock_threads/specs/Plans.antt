@@ -9,7 +9,7 @@ use Rattle.clock_threads.specs.declared.wires.Wire.{Wire}
 use Rattle.clock_threads.specs.Wires.{wire_at}
 use Rattle.clock_threads.specs.Lawful.{IsWireOf}
 
--- the setting with this plan and these clocks, and all else as in another one
+-- the setting with this plan and these clocks, and with the files, start and answers of `other`
 abbrev pub over : Plan → List NodeClock → Setting → Setting
 over plan clocks other = record {
   plan = plan;

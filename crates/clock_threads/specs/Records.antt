@@ -21,8 +21,8 @@ use Rattle.clock_threads.specs.declared.wires.Wire.{Wire}
 use Rattle.clock_threads.specs.Wires.{wire_at, kept}
 use Rattle.clock_threads.specs.Ends.{puts_of as put_ends, takes_of as take_ends, JoinOpen}
 
--- what the puts and the takes of buffer b met in `count` ticks, from tick `from` on, by the calls of the two clocks
--- that its wire names
+-- What the puts and the takes of buffer b met in `count` ticks, from tick `from` on. `clock_calls` has the calls of
+-- each clock by tick, and the wire names the clock that puts and the one that takes.
 abbrev pub window_of : Wire → (ℕ → TickCalls) → (b from count : ℕ) → Window
 window_of wire clock_calls b from count = (
   puts_to b (joined_from (clock_calls wire.from).calls from count),

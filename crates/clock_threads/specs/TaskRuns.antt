@@ -10,12 +10,12 @@ use Rattle.clock_ticks.specs.Pieces.{AreKept, GotBetween, GotPieces, RoseAt}
 use Rattle.clock_threads.specs.declared.task.Task.{Task}
 use Rattle.clock_threads.specs.TickCalls.{TickCalls, joined_from, Agree, HasGone, HasGonePart}
 
--- an engine made t ticks without a fault, in which its readers took these answers of their buffers
+-- the engine `e` made t ticks without a fault, in which its readers took these answers of their buffers, by buffer
 abbrev pub stands_for : {S : Type 0} → ClockEngine S → ℕ → (ℕ → List Answer) → Type 0
 stands_for e t answers = EngineStands e.parts t answers
 
--- an engine stopped at a fault in tick t: before that tick its readers took these answers, and in it the calls `made`
--- were made
+-- The engine `e` stopped at a fault in tick t, in which the calls `made` were made. Before that tick its readers took
+-- these answers, by buffer.
 abbrev pub stopped_for : {S : Type 0} → ClockEngine S → ℕ → (ℕ → List Answer) → List Call → Type 0
 stopped_for e t answers made = EngineStopped e.parts t answers made
 

@@ -23,8 +23,9 @@ use Rattle.clock_ticks.specs.declared.cues.Cues.{Cues}
 use Rattle.clock_ticks.specs.Cues.{HasMarked, HasMarkedSome, marks_if}
 use Rattle.clock_ticks.specs.Standing.{ClockStateStands}
 
--- What is known of a setting, whatever its buffers answer: the slots `sub` and the calls of its sub-clocks, that no
--- buffer has two readers, and in `own` the nodes that their own clock asks for.
+-- What is known of a setting, whatever its buffers answer: `sub` has the slots that each crossfade's sub-clock makes,
+-- by what the setting means. The calls of instants follow one rule in all clocks, and no buffer has two readers. `own`
+-- says of each node whether its own clock asks for it.
 pub record IsMeant (setting : Setting) (sub : ℕ → ℕ → List Slot) (own : List Bool) : Type 0 where
   pub meaning : IsMeaning setting sub
   pub down : GoDown setting sub
@@ -45,7 +46,8 @@ calls_from setting sub clock n count = joined_upto
 abbrev pub feed_key : FeedPort → ℕ × ℕ
 feed_key feed = (feed.buffer, feed.node)
 
--- what some instants of a clock came to: the slots of each node, the calls on buffers, and the states after them
+-- what some instants of a clock came to: the slots of each node, by its number, the calls on buffers, and the states
+-- after them
 pub record Outcome : Type 0 where
   pub slots : ℕ → List Slot
   pub calls : List Call
@@ -142,8 +144,8 @@ pub record HeardSome {T : Type 0} (stands : T → List Call
       → ClockStateStands (setting_over scene other) sub clock n front before.state
       → IsBegin made (calls_from (setting_over scene other) sub clock n total)
 
--- the slots of node i in the latest segment: an instant, and `many` more that go on as it did, by the samples that
--- they left
+-- The slots of node i in the latest segment: an instant, and `many` more that go on as it did. The first slot is that
+-- of the latest instant, and the others are by the samples that the node left.
 abbrev pub segment_of : ClockStates → (many i : ℕ) → List Slot
 segment_of all many i =
     segment_slots (part_at all.latest.parts.items i).slot many (samples_of all.room.left.items i many)

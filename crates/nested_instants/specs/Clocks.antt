@@ -252,7 +252,8 @@ pub record IsReached (setting : Setting) (sub : ℕ → ℕ → List Slot) (rank
   pub items : (i : ℕ) (node : Node) → done i → slice_get setting.plan.nodes i ≡ Some node
       → HasItem setting sub now i node
 
--- the puts and takes on buffers that instant m of the sub-clock of crossfade k makes
+-- the puts and takes on buffers that instant m of the sub-clock of crossfade k makes; `sub` has the slots that each
+-- crossfade's sub-clock makes
 abbrev pub calls_below : Setting → (sub : ℕ → ℕ → List Slot) → (k m : ℕ) → List Call
 calls_below setting sub k m = calls_of setting sub (Sub k) (first_instants setting sub (Sub k) m)
 
@@ -265,8 +266,8 @@ pub record IsFilling (setting : Setting) (sub : ℕ → ℕ → List Slot) (rank
   pub low : progress.filled k ≤ reached.now.filled k
   pub calls : more ≡ joined_between (calls_below setting sub k) (progress.filled k) (reached.now.filled k)
 
--- the puts and takes that sub-clocks make for a clock's crossfades with numbers below n, at the clock's instant after
--- this past
+-- The puts and takes that sub-clocks make for a clock's crossfades with numbers below n, at the clock's instant after
+-- this past. `sub` has the slots that each crossfade's sub-clock makes.
 abbrev pub calls_upto : Setting → (sub : ℕ → ℕ → List Slot) → NodeClock → List Moment → (n : ℕ) → List Call
 calls_upto setting sub clock past n =
     joined_upto (λ k. fades_in setting sub (calls_below setting sub) (lies_in setting clock k) past k
@@ -290,8 +291,9 @@ pub record HasMadeInstant (setting : Setting) (sub : ℕ → ℕ → List Slot) 
       ≡ (moment_after setting sub clock (first_instants setting sub clock (progress.ran clock))).parts
   pub keeps : IsHeld setting sub clock (first_instants setting sub clock (progress.ran clock)) all.room.held.items
 
--- What is known of a setting, whatever its buffers answer: ranks of its clocks by how deep they nest, the slots `sub`
--- and the calls of its sub-clocks, that no buffer has two readers, and in `own` the nodes that their clock asks for.
+-- What is known of a setting, whatever its buffers answer: `rank` says how deep each clock nests, and `sub` has the
+-- slots that each crossfade's sub-clock makes. The calls of instants follow one rule in all clocks, and no buffer has
+-- two readers. `own` says of each node whether its own clock asks for it.
 pub record IsWorld (setting : Setting) (sub : ℕ → ℕ → List Slot) (rank : NodeClock → ℕ) (own : List Bool) : Type 0 where
   pub ranks : HasRanks setting.clocks rank
   pub meaning : IsMeaning setting sub
@@ -327,8 +329,8 @@ pub record InstantStopped {T : Type 0} (stands : T → List Call → Type 0) (sc
       → TimeStands setting.start (progress.ran clock) time
       → IsBegin made (calls_of setting sub clock (first_instants setting sub clock (progress.ran clock)))
 
--- how far a run came once the readers of a clock have begun one instant more: their counts rise, and their buffers'
--- answers grow by those of the calls `more`
+-- How far a run came once the readers of a clock have begun one instant more since `progress`. The counts of these
+-- readers rise by one, and the answers taken grow by those of the calls `more`.
 abbrev pub begun_progress : Setting → NodeClock → Progress → (more : List Call) → Progress
 begun_progress setting clock progress more = record {
   ran = progress.ran;
@@ -420,8 +422,9 @@ pub record AreFilled (setting : Setting) (sub : ℕ → ℕ → List Slot) (rank
       (is_upto setting.clocks clock below) progress more all
   pub calls : more ≡ calls_upto setting sub clock (first_instants setting sub clock (progress.ran clock)) below
 
--- A clock's next instant has begun, and its crossfades are still to be fed: each was given just the slots of its child
--- that the instants before took, and the readers have begun the instant.
+-- A clock's next instant has begun, and its crossfades are still to be fed. Each was given just the slots of its child
+-- that the instants before took, and the readers have begun the instant. `sub` has the slots that each crossfade's
+-- sub-clock makes.
 pub record AreReady (setting : Setting) (sub : ℕ → ℕ → List Slot) (clock : NodeClock) (progress : Progress)
     : Type 0 where
   pub each : (k overlap : ℕ) (node : Node) → slice_get setting.plan.nodes k ≡ Some node

@@ -91,8 +91,8 @@ pub record StretchMade (scene : Scene) (clock : NodeClock) (time : WeekTime) (ma
       → TimeStands setting.start n time
       → HasMadeOn setting sub rank own clock n many progress new
 
--- crossfade k can be given the slots of `many` instants of its sub-clock that are made at once: its clock can run so
--- many, and it has room for as many cells
+-- Crossfade k can be given the slots of `many` instants of its sub-clock that are made at once: it has room for as many
+-- cells. The clock in which it lies meets what so many instants at once need.
 pub record CanFillLane (scene : Scene) (k many : ℕ) (all : ClockStates) : Type 0 where
   pub ready : CanRunClock scene (clock_at scene.clocks.now k) many all
   pub within : k < length scene.plan.now.nodes

@@ -18,8 +18,8 @@ are_letters one other [] = false
 are_letters one other (b ∷ []) = b == 45 || is_letter one other b
 are_letters one other (b ∷ c ∷ bs) = list_all (is_letter one other) (b ∷ c ∷ bs)
 
--- the answers that the letters of a trace's line tell: true for the letter `one` and false for another; none for a
--- stroke alone
+-- The answers that the letters of a trace's line tell: true for the letter `one` and false for another. A stroke `-`
+-- alone, which is byte 45, tells no answer.
 abbrev pub told_by : ℕ → List ℕ → List Bool
 told_by one [] = []
 told_by one (b ∷ []) = if b == 45 then [] else (b == one) ∷ []
