@@ -105,9 +105,9 @@ pub record HasMadePart {S : Type 0} (told : S
       × (held_of told new sink ≡ grown bytes (held_of told old sink))
   pub pieces : GotBetween told made tried old.outs new.outs
 
--- A run was broken off since this sink, of this clock, refused bytes: the sink is that of an output of the clock, and
+-- A run was broken off because this sink, of this clock, refused bytes. The sink is that of an output of the clock, and
 -- its count of faults rose. Of the clocks that stopped, this one has the lowest number. The engines `old` came to
--- `new`.
+-- `new`; `told` is what a sink tells.
 pub record IsWriteEnd {S : Type 0} (told : S
     → SinkTold) (setting : Setting) (clock sink : ℕ) (old new : List (ClockEngine S)) : Type 0 where
   pub before : ClockEngine S

@@ -47,8 +47,8 @@ pub record HasGone {E : Type 0} (setting : Setting) (stands : E → ℕ → (ℕ
 
 -- The engine `e` of main clock m has made t ticks, with the calls of `tick_calls`, and stopped in the next one after
 -- the calls `made`. `halts e t answers made` says so of its state. `held e sink` are the bytes of an output, by its
--- number, and `first sink` those before tick 0. It grew by all bytes of the first t ticks and by a prefix of those of
--- the next one.
+-- number, and `first sink` those before tick 0. The output grew by all its bytes of the t ticks and by a prefix of
+-- those of the next one.
 pub record HasGonePart {E : Type 0} (setting : Setting) (halts : E → ℕ → (ℕ → List Answer) → List Call
     → Type 0) (held : E → ℕ → Option (List ℕ))
     (m t : ℕ) (tick_calls : TickCalls) (first : ℕ → Option (List ℕ)) (e : E) : Type 0 where

@@ -101,8 +101,8 @@ pub record CanHear (scene : Scene) (ports : List Port) (feeds : List FeedPort) (
   pub late : start + scene.plan.now.frame < 2 ^ 64
 
 -- `count` instants of a tick were made, and the outputs, feeds and marks got the slots of their nodes. Whatever
--- instants the states stood for, these are the next ones, and their calls on buffers went through the taps. `stands
--- taps calls` says that taps have made these calls, and `own` which nodes their clock asks for.
+-- instants the states stood for, these are the next ones, and their calls on buffers went through the taps.
+-- `stands taps calls` says that taps have made these calls, and `own` which nodes their clock asks for.
 pub record Heard {T : Type 0} (stands : T → List Call
     → Type 0) (scene : Scene) (clock : NodeClock) (own : List Bool) (count : ℕ)
     (before after : Hearing T) : Type 0 where

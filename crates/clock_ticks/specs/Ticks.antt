@@ -60,8 +60,8 @@ pub record IsWriteFault {S : Type 0} (told : S
   pub once : GotOnePiece told (place + 1) old new
 
 -- A tick that answers Ok made the calls `more` on buffers, and took the engine from `old` to `new`, its sinks from
--- `outs_old` to `outs_new`. Whatever ticks the old engine stood for, the new one stands for one more. `taps_stand taps
--- calls` says that taps have made these calls; `told` is what a sink tells.
+-- `outs_old` to `outs_new`. Whatever ticks the old engine stood for, the new one stands for one more.
+-- `taps_stand taps calls` says that taps have made these calls; `told` is what a sink tells.
 pub record HasMade {S T : Type 0} (told : S → SinkTold) (taps_stand : T → List Call
     → Type 0) (old new : EngineParts) (outs_old outs_new : List S)
     (taps_old taps_new : T) : Type 0 where

@@ -435,8 +435,8 @@ pub record AreReady (setting : Setting) (sub : ℕ → ℕ → List Slot) (clock
       → progress.filled i ≡ suc (progress.ran clock)
 
 -- The crossfades of a clock with numbers below `below` know their items, which is what they play next, and the calls
--- `more` were made for it. This holds whatever instants the old states stood for, and whatever answers follow. `stands
--- taps calls` says that taps have made these calls, and `own` which nodes their own clock asks for.
+-- `more` were made for it. This holds whatever instants the old states stood for, and whatever answers follow.
+-- `stands taps calls` says that taps have made these calls, and `own` which nodes their own clock asks for.
 pub record AllSettled {T : Type 0} (stands : T → List Call → Type 0) (scene : Scene) (own : List Bool)
     (clock : NodeClock) (below : ℕ) (old new : ClockStates) (taps_old taps_new : T) : Type 0 where
   pub more : List Call

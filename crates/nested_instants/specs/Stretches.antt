@@ -57,8 +57,8 @@ pub record CanGoOn (setting : Setting) (sub : ℕ → ℕ → List Slot) (rank :
   pub goes : GoesOnFor setting sub clock (first_instants setting sub clock n) many progress.filled all.room.held.items
       all.states.items
 
--- A clock can make `many` instants at once, where 2048 and the instants of a second are the most. Its states fit the
--- scene, which is a plan with its files and clocks. No count of further instants that go on is kept of this clock.
+-- A clock can make `many` instants at once: at least one, at most 2048, and at most those of a second. Its states fit
+-- the scene, which is a plan with its files and clocks. No count of further instants that go on is kept of this clock.
 pub record CanRunClock (over : Scene) (clock : NodeClock) (many : ℕ) (all : ClockStates) : Type 0 where
   pub scene : IsScene over
   pub clocks : AreClockStates over all
