@@ -38,15 +38,16 @@ pub record TasksClosed {S R : Type 0} (buffer : ℕ) (giver taker next_giver nex
   pub taker_puts : puts_of next_taker ≡ puts_of taker
   pub closed : WasClosed buffer (puts_of giver) (puts_of next_giver) (takes_of taker) (takes_of next_taker) log
 
--- the ends at which a task takes were moved out of it, as `takes`, so that both ends of a buffer are at hand when its
--- window is closed
+-- The task `old` came to `new`: the ends at which it takes from buffers were moved out of it, as `takes`. This is so
+-- that both ends of a buffer are at hand when its window is closed.
 pub record WasLent {S R : Type 0} (old new : Task S (ThreadTaps R)) (takes : List Side) : Type 0 where
   pub lent : takes ≡ takes_of old
   pub falling : Falling takes
   pub puts : puts_of new ≡ puts_of old
   pub same : SameButEnds old new
 
--- the ends `takes`, moved out of a task while a buffer's window was closed, are the task's again, and it kept all else
+-- The task `old` came to `new`: the ends `takes`, which were moved out of it while the window of a buffer was closed,
+-- are its own again. It kept all else.
 pub record WasPutBack {S R : Type 0} (old new : Task S (ThreadTaps R)) (takes : List Side) : Type 0 where
   pub back : takes_of new ≡ takes
   pub puts : puts_of new ≡ puts_of old

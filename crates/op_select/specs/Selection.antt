@@ -39,7 +39,8 @@ first_ready (slot ∷ slots) [] from = None
 first_ready (slot ∷ slots) (mark ∷ eligible) from =
     if mark && is_some slot then Some from else first_ready slots eligible (suc from)
 
--- the least child that offers, where the first of these slots is that of child `from`
+-- the first child that offers a cell, where the first of these slots is that of child `from`; none where no child
+-- offers
 abbrev pub first_offering : List Slot → ℕ → Option ℕ
 first_offering [] from = None
 first_offering (slot ∷ slots) from = if is_some slot then Some from else first_offering slots (suc from)
@@ -78,8 +79,8 @@ abbrev pub picked_cell : Option ℕ → ℕ → Cell → Cell
 picked_cell last child cell =
     record { left = cell.left; right = cell.right; first = cell.first || not (is_last last child); title = cell.title }
 
--- what a selection offers with this child, where `last` is the one used last; nothing without a child, or where that
--- offers nothing
+-- What a selection offers if it uses this child, where `last` is the child used last: the child with its cell. It
+-- offers nothing without a child, or where the child offers nothing.
 abbrev pub picked : List Slot → Option ℕ → Option ℕ → Option Picked
 picked slots last None = None
 picked slots last (Some child) = with_cell (slot_at slots child)
