@@ -68,17 +68,21 @@ pub record IsEmpty (window : Window) : Type 0 where
   pub left : window.left ≡ 0
   pub taken : length window.opening ≤ length (somes window.answers)
 
--- what a put of this chunk answers, with the window before and after it
+-- what a put of this chunk answers, with the window of its end before and after it: accepted, and the chunk was moved,
+-- or full, and the chunk comes back
 abbrev pub Puts : Window → List Cell → Window → Gave → Type 0
 Puts before chunk after Accepted = Moves before chunk after
 Puts before chunk after (Full back) = (back ≡ chunk) × IsFull before × Stays before after
 
--- what a take answers, with the window before and after it
+-- what a take answers, with the window of its end before and after it: a chunk, which was moved, or nothing, where the
+-- queue was empty
 abbrev pub Takes : Window → Window → Option (List Cell) → Type 0
 Takes before after None = IsEmpty before × Stays before after
 Takes before after (Some chunk) = Moves before chunk after
 
--- both ends' answers are one legal window of the queue, and both ends open the next one with what it left
+-- The windows of a queue's two ends, `put` and `take`, were closed: their answers are one legal window of the queue.
+-- Both ends open the next window, `next_put` and `next_take`, with the chunks that are left; `queue` is of the same
+-- capacity.
 pub record Closes (put take : Window) (queue : TableId) (next_put next_take : Window) : Type 0 where
   pub rest : List (List Cell)
   pub legal : Legal (capacity_of put.queue) rest put.opening put.answers take.answers

@@ -27,8 +27,9 @@ pub record SameButEnds {S R : Type 0} (old new : Task S (ThreadTaps R)) : Type 0
   pub engine : new.engine ≡ old.engine
   pub local : new.taps.local ≡ old.taps.local
 
--- Between two windows of ticks, one buffer that joins two clocks was closed: the end of the task that gives and that
--- of the task that takes changed, with the answers `log`, and nothing else did.
+-- Between two windows of ticks, one buffer that joins two clocks was closed. The end of the task that puts, `giver`,
+-- and that of the task that takes, `taker`, changed, and nothing else did. `next_giver` and `next_taker` are the tasks
+-- after it, and `log` has the window's answers.
 pub record TasksClosed {S R : Type 0} (buffer : ℕ) (giver taker next_giver next_taker : Task S (ThreadTaps R))
     (log : Answers) : Type 0 where
   pub giver_same : SameButEnds giver next_giver
@@ -37,21 +38,23 @@ pub record TasksClosed {S R : Type 0} (buffer : ℕ) (giver taker next_giver nex
   pub taker_puts : puts_of next_taker ≡ puts_of taker
   pub closed : WasClosed buffer (puts_of giver) (puts_of next_giver) (takes_of taker) (takes_of next_taker) log
 
--- the ends at which a task takes were moved out of it, as `takes`, so that both ends of a buffer are at hand when its
--- window is closed
+-- The task `old` came to `new`: the ends at which it takes from buffers were moved out of it, as `takes`. This is so
+-- that both ends of a buffer are at hand when its window is closed.
 pub record WasLent {S R : Type 0} (old new : Task S (ThreadTaps R)) (takes : List Side) : Type 0 where
   pub lent : takes ≡ takes_of old
   pub falling : Falling takes
   pub puts : puts_of new ≡ puts_of old
   pub same : SameButEnds old new
 
--- the ends `takes`, moved out of a task while a buffer's window was closed, are the task's again, and it kept all else
+-- The task `old` came to `new`: the ends `takes`, which were moved out of it while the window of a buffer was closed,
+-- are its own again. It kept all else.
 pub record WasPutBack {S R : Type 0} (old new : Task S (ThreadTaps R)) (takes : List Side) : Type 0 where
   pub back : takes_of new ≡ takes
   pub puts : puts_of new ≡ puts_of old
   pub same : SameButEnds old new
 
--- the window of a buffer was closed at the task that puts and at the ends `takes`, which came to `after`
+-- The window of a buffer was closed: the task that puts into it, `old`, came to `new`. The ends that take, `takes`,
+-- moved out of their task, came to `after`. `log` has the answers of the window.
 pub record GiverClosed {S R : Type 0} (buffer : ℕ) (old new : Task S (ThreadTaps R)) (takes after : List Side)
     (log : Answers) : Type 0 where
   pub takes_kept : takes_of new ≡ takes_of old
@@ -59,7 +62,8 @@ pub record GiverClosed {S R : Type 0} (buffer : ℕ) (old new : Task S (ThreadTa
   pub closed : WasClosed buffer (puts_of old) (puts_of new) takes after log
   pub falling : Falling after
 
--- the window of a buffer was closed between two tasks of a list, number `from` and number `to`
+-- The window of a buffer that joins two clocks was closed, in a list of tasks. Task number `from` puts into it and task
+-- number `to` takes from it. `log` has the answers of the window.
 pub record JoinClosed {S R : Type 0} (from to buffer : ℕ) (old new : List (Task S (ThreadTaps R)))
     (log : Answers) : Type 0 where
   pub giver : Task S (ThreadTaps R)
@@ -71,7 +75,8 @@ pub record JoinClosed {S R : Type 0} (from to buffer : ℕ) (old new : List (Tas
   pub are : new ≡ slice_set (slice_set old from next_giver) to next_taker
   pub tasks : TasksClosed buffer giver taker next_giver next_taker log
 
--- both ends of buffer b have a window that opened with these chunks, and made no call in it
+-- Both ends of buffer b, in the tasks of the two clocks that its wire names, are at the beginning of a window. The
+-- buffer holds these chunks then, and neither end made a call in the window yet.
 pub record JoinOpen {S R : Type 0} (wire : Wire) (b : ℕ) (chunks : List (List Cell))
     (tasks : List (Task S (ThreadTaps R))) : Type 0 where
   pub queue : TableId
@@ -114,22 +119,24 @@ pub record SameTasks {S R : Type 0} (old new : List (Task S (ThreadTaps R))) : T
       → (slice_index_or (takes_of (slice_index_or new k d)) p e).buffer
       ≡ (slice_index_or (takes_of (slice_index_or old k d)) p e).buffer
 
--- The window of buffer b was closed and the next one opened: what its ends put and took in it is legal for a queue of
--- its capacity, and the next window opens with the chunks that it left.
+-- The window of buffer b was closed, and the next one opened, in the tasks. What its ends put and took in it (`put`,
+-- `take`) is legal for a queue of the wire's capacity. The next window opens with the chunks that it left.
 pub record JoinTurned {S R : Type 0} (wire : Wire) (b : ℕ) (put take : Window)
     (tasks : List (Task S (ThreadTaps R))) : Type 0 where
   pub rest : List (List Cell)
   pub legal : Legal wire.capacity rest put.opening put.answers take.answers
   pub opens : JoinOpen wire b rest tasks
 
--- the windows of all buffers that join two clocks were closed
+-- The tasks `old` came to `new` when the windows of all buffers that join two clocks were closed, and the next ones
+-- opened. A wire names the two clocks of a buffer.
 pub record AllShut {S R : Type 0} (wires : List Wire) (old new : List (Task S (ThreadTaps R))) : Type 0 where
   pub tasks : SameTasks old new
   pub each : (b : ℕ) (put take : Window) → b < length wires → (wire_at wires b).from ≢ (wire_at wires b).to
       → JoinRan (wire_at wires b) b put take old
       → JoinTurned (wire_at wires b) b put take new
 
--- the windows of all buffers that join two clocks were closed, and their answers added to the logs
+-- The tasks `old` came to `new` when the windows of all buffers that join two clocks were closed. The answers of each
+-- window were added to the buffer's list in `logs`, which came to `after`.
 pub record AllClosed {S R : Type 0} (wires : List Wire) (old new : List (Task S (ThreadTaps R)))
     (logs after : List (List Answers)) : Type 0 where
   pub shut : AllShut wires old new

@@ -39,17 +39,18 @@ got_by tick_calls t b = takes_of b (joined_upto tick_calls.calls t)
 abbrev pub answers_of : (ℕ → List Window) → Answers
 answers_of windows b = flat_map (λ (w : Window). w.1) (windows b)
 
--- for each clock, the calls that a meaning gives its ticks, if the takes get what these windows got and the puts of
--- its ticks are accepted as `accepted` says
+-- The calls of each clock, tick by tick, as the meaning `meant` gives them. The takes get what these windows of each
+-- buffer got, and `accepted m t b` says whether buffer b accepts the put of clock m in its tick t.
 abbrev pub clock_calls_of : Meaning → (ℕ → List Window) → (accepted : ℕ → ℕ → ℕ → Bool) → ℕ → TickCalls
 clock_calls_of meant windows accepted m = record {
   calls = λ t. meant (answers_of windows) (accepted m t) m t;
   accepted = accepted m;
 }
 
--- A lawful record of N ticks of each clock, in so many windows of W ticks, by the wires of the buffers: `windows b` are
--- the windows of buffer b, which hold the puts and the takes of these ticks; each buffer's windows are one history; and
--- those of a buffer with both ends in one clock are in the order in which this clock makes its calls.
+-- A lawful record of N ticks of each clock, in `count` windows of W ticks, by the wires, each of which names the two
+-- clocks of a buffer. `windows b` has what the puts and takes of buffer b met, by window, as `meant` gives the calls.
+-- Each buffer's windows are one history, and those of a buffer with both ends in one clock are in the order in which it
+-- makes its calls.
 pub record IsWiredHistory (meant : Meaning) (wires : List Wire) (W N count : ℕ) (windows : ℕ
     → List Window) : Type 0 where
   pub accepted : (m t b : ℕ) → Bool
@@ -65,7 +66,8 @@ pub record IsWiredHistory (meant : Meaning) (wires : List Wire) (W N count : ℕ
       (on b (joined_upto (clock_calls_of meant windows accepted (wire_at wires b).from).calls N)) rest
   pub others : (b : ℕ) → length wires ≤ b → answers_of windows b ≡ []
 
--- a running clock takes only of the buffers whose taking ends it has
+-- Each clock, of `clocks` running ones, takes only from buffers whose taking end it has by the wires. `meant` gives the
+-- calls that a clock makes in a tick.
 pub record TakeOwn (meant : Meaning) (wires : List Wire) (clocks : ℕ) : Type 0 where
   pub takes : (answers : Answers) (accepted : ℕ → Bool) (m t b : ℕ) → m < clocks → (wire_at wires b).to ≢ m
       → takes_of b (meant answers accepted m t) ≡ []
@@ -77,15 +79,15 @@ pub record TakeOwn (meant : Meaning) (wires : List Wire) (clocks : ℕ) : Type 0
 abbrev pub taker : Setting → (clocks b : ℕ) → ℕ
 taker setting clocks b = if nat_lt (reader setting b) clocks then reader setting b else feeder setting b
 
--- this is the wire of buffer b: it leads from the clock of its feed to the clock that takes, of `clocks` running ones,
--- with the buffer's capacity
+-- This is the wire of buffer b in a setting, if `clocks` clocks run. It leads from the clock of the buffer's feed to
+-- the clock that takes from it, and has the buffer's capacity.
 pub record IsWireOf (setting : Setting) (clocks b : ℕ) (wire : Wire) : Type 0 where
   pub from_is : wire.from ≡ feeder setting b
   pub to_is : wire.to ≡ taker setting clocks b
   pub capacity_is : wire.capacity ≡ capacity_of setting b
 
--- these are the wires of all buffers of a setting, by their numbers: each says from which clock to which a buffer
--- leads, and its capacity
+-- These are the wires of all buffers of a setting, by the buffers' numbers, if `clocks` clocks run. Each says from
+-- which clock to which a buffer leads, and its capacity.
 pub record AreWires (setting : Setting) (clocks : ℕ) (wires : List Wire) : Type 0 where
   pub many : length wires ≡ length setting.plan.buffers
   pub each : (b : ℕ) → b < length wires → IsWireOf setting clocks b (wire_at wires b)

@@ -30,7 +30,9 @@ pub record AreNoLogs (many : ℕ) (logs : List (List Answers)) : Type 0 where
   pub are_many : length logs ≡ many
   pub each : (b : ℕ) (d : List Answers) → b < length logs → slice_index_or logs b d ≡ []
 
--- the logs of the buffers with both ends in this clock are those of its lists, and the others are as they were
+-- The logs, which have each buffer's answers window by window, came to `after`. For the buffers with both ends in this
+-- clock they are now those in its `lists`, and for the others they are as they were. Wire b names the two clocks of
+-- buffer b.
 pub record TookLogs (wires : List Wire) (clock : ℕ) (lists logs after : List (List Answers)) : Type 0 where
   pub many : length after ≡ length logs
   pub here : (b : ℕ) (d : List Answers) → b < length wires → b < length lists → b < length logs
@@ -41,7 +43,9 @@ pub record TookLogs (wires : List Wire) (clock : ℕ) (lists logs after : List (
   pub others : (b : ℕ) (d : List Answers) → (wire_at wires b).from ≢ clock
       → slice_index_or after b d ≡ slice_index_or logs b d
 
--- the logs of the buffers with both ends in one clock are those of that clock's lists, and the others are as they were
+-- The logs, which have each buffer's answers window by window, came to `after`. For a buffer with both ends in one
+-- clock they are now those in the list of that clock's task, and for the others they are as they were. Wire b names the
+-- two clocks of buffer b.
 pub record AreCollected {S R : Type 0} (wires : List Wire) (tasks : List (Task S (ThreadTaps R)))
     (logs after : List (List Answers)) : Type 0 where
   pub many : length after ≡ length logs

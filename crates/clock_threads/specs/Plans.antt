@@ -9,7 +9,7 @@ use Rattle.clock_threads.specs.declared.wires.Wire.{Wire}
 use Rattle.clock_threads.specs.Wires.{wire_at}
 use Rattle.clock_threads.specs.Lawful.{IsWireOf}
 
--- the setting with this plan and these clocks, and all else as in another one
+-- the setting with this plan and these clocks, and with the files, start and answers of `other`
 abbrev pub over : Plan → List NodeClock → Setting → Setting
 over plan clocks other = record {
   plan = plan;
@@ -26,8 +26,8 @@ pub record IsWireAt (setting : Setting) (clocks feed reads capacity : ℕ) (wire
   pub to_is : wire.to ≡ (if nat_lt (main_of setting reads) clocks then main_of setting reads else main_of setting feed)
   pub capacity_is : wire.capacity ≡ capacity
 
--- these are the wires of the first n buffers of a plan, whatever its files and answers are: each says from which clock
--- to which a buffer leads
+-- These are the wires of the first n buffers of a plan with these clocks, whatever its files and answers are. Each says
+-- from which clock to which a buffer leads, and its capacity.
 pub record AreFirstWires (plan : Plan) (clocks : ClockMap) (n : ℕ) (wires : List Wire) : Type 0 where
   pub many : length wires ≡ n
   pub each : (other : Setting) (b : ℕ) → b < n → IsWireOf (over plan clocks.of other) clocks.running b (wire_at wires b)

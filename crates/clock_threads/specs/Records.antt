@@ -21,8 +21,8 @@ use Rattle.clock_threads.specs.declared.wires.Wire.{Wire}
 use Rattle.clock_threads.specs.Wires.{wire_at, kept}
 use Rattle.clock_threads.specs.Ends.{puts_of as put_ends, takes_of as take_ends, JoinOpen}
 
--- what the puts and the takes of buffer b met in `count` ticks, from tick `from` on, by the calls of the two clocks
--- that its wire names
+-- What the puts and the takes of buffer b met in `count` ticks, from tick `from` on. `clock_calls` has the calls of
+-- each clock by tick, and the wire names the clock that puts and the one that takes.
 abbrev pub window_of : Wire → (ℕ → TickCalls) → (b from count : ℕ) → Window
 window_of wire clock_calls b from count = (
   puts_to b (joined_from (clock_calls wire.from).calls from count),
@@ -31,23 +31,24 @@ window_of wire clock_calls b from count = (
 )
 
 -- the first `count` windows of buffer b, each with what its puts and takes met, in a run of N ticks that is cut into
--- windows of W ticks
+-- windows of W ticks; the wire names the two clocks of the buffer, and `clock_calls` has each clock's calls
 abbrev pub windows_upto : Wire → (ℕ → TickCalls) → (b W N count : ℕ) → List Window
 windows_upto wire clock_calls b W N zero = []
 windows_upto wire clock_calls b W N (suc j) =
     windows_upto wire clock_calls b W N j
     ++ window_of wire clock_calls b (start W N j) (start W N (suc j) - start W N j) ∷ []
 
--- each end of a buffer that the task of clock k has belongs to a buffer that joins clock k to another one: it puts
--- where the wire begins, and takes where it ends
+-- The task of clock k has ends only of buffers that join clock k to another one. It puts where the buffer's wire
+-- begins, and takes where it ends; wire b names the two clocks of buffer b.
 pub record IsWired {S R : Type 0} (wires : List Wire) (k : ℕ) (task : Task S (ThreadTaps R)) : Type 0 where
   pub puts : (p : ℕ) (d : Side) → p < length (put_ends task) → let b = (slice_index_or (put_ends task) p d).buffer in
       (b < length wires) × ((wire_at wires b).from ≡ k) × ((wire_at wires b).to ≢ k)
   pub takes : (p : ℕ) (d : Side) → p < length (take_ends task) → let b = (slice_index_or (take_ends task) p d).buffer in
       (b < length wires) × ((wire_at wires b).to ≡ k) × ((wire_at wires b).from ≢ k)
 
--- clock k has made t of N ticks, each of its sinks got a piece for each of them, and its taps stand for the calls on
--- the buffers that are its own alone
+-- The task of clock k, `first` before the run, has come to `now`: it made t of N ticks with the calls of `tick_calls`.
+-- Each of its sinks got a piece of bytes for each tick, and its taps stand for the calls on buffers that are its
+-- clock's own. `told` is what a sink tells of its bytes.
 pub record ClockGoing {S R : Type 0} (told : S → SinkTold) (wires : List Wire) (N t k : ℕ) (tick_calls : TickCalls)
     (first now : Task S (ThreadTaps R)) : Type 0 where
   pub gone : EngineGone told t tick_calls (held_of told first.engine) now.engine
@@ -60,8 +61,8 @@ pub record ClockGoing {S R : Type 0} (told : S → SinkTold) (wires : List Wire)
   pub capacities : (b : ℕ) (d : LocalBuffer) → b < length wires
       → (slice_index_or now.taps.local b d).capacity ≡ (wire_at wires b).capacity
 
--- buffer b, which joins two clocks, after these windows: they are one history of a queue of its capacity, and both its
--- ends open the next window with the chunks left
+-- Buffer b, whose wire joins two clocks, has gone through these windows. They are one history of a queue of the wire's
+-- capacity, which began empty. Both its ends, in the tasks, open the next window with the chunks that are left.
 pub record JoinGoing {S R : Type 0} (wire : Wire) (b : ℕ) (windows : List Window)
     (tasks : List (Task S (ThreadTaps R))) : Type 0 where
   pub chunks : List (List Cell)
@@ -74,8 +75,9 @@ pub record IsLogged (windows : List Window) (list : LocalBuffer) : Type 0 where
   pub closed_are : list.closed ≡ map told_of windows
   pub opens : list.current ≡ no_answers
 
--- The answers of these windows are logged: of a buffer that joins two clocks, in `logs`; of a buffer with both ends in
--- one clock, in that clock's list. `d` stands where there is no task.
+-- The answers of the windows of each buffer, `windows b`, are logged. Those of a buffer that joins two clocks are in
+-- `logs`. Those of a buffer with both ends in one clock are in the list of that clock's task in `now`. `d` stands where
+-- there is no task.
 pub record LogsGoing {S R : Type 0} (wires : List Wire) (windows : ℕ
     → List Window) (now : List (Task S (ThreadTaps R))) (logs : List (List Answers)) (d : Task S (ThreadTaps R)) : Type
     0 where
@@ -85,8 +87,9 @@ pub record LogsGoing {S R : Type 0} (wires : List Wire) (windows : ℕ
   pub local : (b : ℕ) (e : LocalBuffer) → b < length wires → (wire_at wires b).from ≡ (wire_at wires b).to
       → IsLogged (windows b) (slice_index_or (slice_index_or now (wire_at wires b).from d).taps.local b e)
 
--- A run of N ticks after j closed windows of W ticks: all clocks made the ticks of these windows, the buffers' windows
--- are lawful, and their answers are logged. `d` stands where a list has no task.
+-- A run of N ticks has closed j windows of W ticks: the tasks `first` came to `now`. All clocks made the ticks of these
+-- windows, the buffers' windows are lawful, and `logs` or the tasks have their answers. `told` is what a sink tells of
+-- its bytes; `d` stands where a list has no task.
 pub record Going {S R : Type 0} (told : S → SinkTold) (wires : List Wire) (W N j : ℕ)
     (first now : List (Task S (ThreadTaps R))) (logs : List (List Answers)) (d : Task S (ThreadTaps R)) : Type 0 where
   pub clock_calls : ℕ → TickCalls
@@ -97,8 +100,8 @@ pub record Going {S R : Type 0} (told : S → SinkTold) (wires : List Wire) (W N
       → JoinGoing (wire_at wires b) b (windows_upto (wire_at wires b) clock_calls b W N j) now
   pub logged : LogsGoing wires (λ b. windows_upto (wire_at wires b) clock_calls b W N j) now logs d
 
--- the window of buffer b, with both ends in one clock, was closed: in the list of that clock's task, which kept all
--- else
+-- The task `old` came to `new` when the window of buffer b, with both its ends in the task's clock, was closed. Only
+-- the list of that buffer's answers changed, in which the answers of the open window were closed.
 pub record ListClosed {S R : Type 0} (b : ℕ) (old new : Task S (ThreadTaps R)) : Type 0 where
   pub engine : new.engine ≡ old.engine
   pub puts : put_ends new ≡ put_ends old
@@ -112,8 +115,8 @@ pub record ListClosed {S R : Type 0} (b : ℕ) (old new : Task S (ThreadTaps R))
 abbrev pub IsOwn : (wires : List Wire) → (k b : ℕ) → Type 0
 IsOwn wires k b = ((wire_at wires b).from ≡ k) × ((wire_at wires b).to ≡ k)
 
--- in the task of clock k the windows of its own buffers, which have both ends in it, with numbers below `below` were
--- closed, and of no others
+-- The task of clock k, `old`, came to `new`: the open windows of its own buffers, which have both ends in clock k, were
+-- closed. This was done for those with numbers less than `below`, and for no others.
 pub record EndedTask {S R : Type 0} (wires : List Wire) (below k : ℕ) (old new : Task S (ThreadTaps R)) : Type 0 where
   pub engine : new.engine ≡ old.engine
   pub puts : put_ends new ≡ put_ends old
@@ -126,7 +129,8 @@ pub record EndedTask {S R : Type 0} (wires : List Wire) (below k : ℕ) (old new
   pub lists : (calls : List Call) → ListsStand (λ n. Has (put_ends old) n ⊎ Has (take_ends old) n) old.taps.local calls
       → ListsStand (λ n. Has (put_ends old) n ⊎ Has (take_ends old) n) new.taps.local calls
 
--- the window of each buffer with both ends in one clock was closed
+-- the tasks `old` came to `new`: the window of each buffer with both ends in one clock was closed, in the task of that
+-- clock
 pub record AllEndedTasks {S R : Type 0} (wires : List Wire) (old new : List (Task S (ThreadTaps R))) : Type 0 where
   pub many : length new ≡ length old
   pub each : (k : ℕ) (d : Task S (ThreadTaps R)) → k < length old

@@ -9,8 +9,8 @@ use Rattle.clock_threads.specs.declared.wires.Wire.{Wire}
 use Rattle.clock_threads.specs.Wires.{wire_at}
 use Rattle.clock_threads.specs.Ends.{puts_of as put_ends, takes_of as take_ends, SameButEnds, JoinOpen}
 
--- each of the first `many` buffers has a queue of its wire's capacity, and both its ends (`passes`), whose window
--- opens with no chunk
+-- Each of the first `many` buffers has a queue, of the capacity that its wire says. `passes` has both its ends, the one
+-- that puts and the one that takes, and their window opens with no chunk.
 pub record AreQueues (wires : List Wire) (many : ℕ) (queues : List TableId) (passes : List (Window
     × Window)) : Type 0 where
   pub queues_many : length queues ≡ many
@@ -46,8 +46,9 @@ pub record BothAdded {S R : Type 0} (from to : ℕ) (put take : Side) (old new :
     pub put_added : (d : Task S (ThreadTaps R)) → PutAdded (slice_index_or old from d) giver put
     pub take_added : (d : Task S (ThreadTaps R)) → TakeAdded (slice_index_or old to d) taker take
 
--- of the buffers with numbers from `from` on, both ends of each that joins two clocks were handed to the tasks of
--- these clocks, and no other ends; their windows have no answer yet
+-- The tasks `old` came to `new` when the buffers with numbers from `from` on got their ends. Both ends of each buffer
+-- that joins two clocks were handed to the tasks of these clocks, and no other ends; their windows have no answer yet.
+-- Wire b names the two clocks of buffer b.
 pub record AreJoined {S R : Type 0} (wires : List Wire) (from : ℕ) (old new : List (Task S (ThreadTaps R))) : Type 0
   where
     pub many : length new ≡ length old

@@ -22,7 +22,8 @@ use Rattle.clock_threads.specs.WindowRuns.{StandsOrStopped}
 use Rattle.buffer_sides.specs.Logs.{told as told_of}
 use Rattle.clock_threads.specs.Logs.{counts_in}
 
--- the engine of clock k, which has made no tick, and whose sinks have room for N ticks
+-- The engine is that of clock k and plays this setting. It has made no tick, and its sinks have room for N ticks;
+-- `told` is what a sink tells of its bytes.
 pub record IsFresh {S : Type 0} (told : S
     → SinkTold) (setting : Setting) (N k : ℕ) (engine : ClockEngine S) : Type 0 where
   pub over : setting_of engine.parts ≡ setting
@@ -30,7 +31,8 @@ pub record IsFresh {S : Type 0} (told : S
   pub stands : EngineStands engine.parts 0 (λ buffer. [])
   pub rooms : HaveTicksRoom told engine.parts engine.outs N
 
--- the engines of all running clocks, in their order, over one setting of this plan
+-- These are the engines of all running clocks of a plan, in the order of the clocks. They play one setting, have made
+-- no tick, and their sinks have room for N ticks. `told` is what a sink tells of its bytes.
 pub record AreEngines {S : Type 0} (told : S
     → SinkTold) (plan : Plan) (clocks : ClockMap) (N : ℕ) (setting : Setting) (engines : List (ClockEngine S)) : Type 0
   where
@@ -39,14 +41,16 @@ pub record AreEngines {S : Type 0} (told : S
     pub all : length engines ≡ clocks.running
     pub each : (k : ℕ) (d : ClockEngine S) → k < length engines → IsFresh told setting N k (slice_index_or engines k d)
 
--- the engines of all running clocks, in their order, over some setting of this plan
+-- These are the engines of all running clocks of a plan, in the order of the clocks. There is one setting of this plan
+-- that all of them play; none has made a tick, and their sinks have room for N.
 pub record AreAlike {S : Type 0} (told : S
     → SinkTold) (plan : Plan) (clocks : ClockMap) (N : ℕ) (engines : List (ClockEngine S)) : Type 0 where
   pub setting : Setting
   pub are : AreEngines told plan clocks N setting engines
 
--- An engine has made all its ticks of a run: it stands for them, and for what its takes got in the run; each output has
--- grown by what its node means then, and its sink got a piece for each tick.
+-- The engine of clock k, `old`, has made all N ticks of a run and came to `new`. It stands for them, and for what its
+-- takes got in the run. Each output has grown by what its node means then, and its sink got a piece for each tick.
+-- `told` is what a sink tells of its bytes.
 pub record HasMadeAll {S : Type 0} (told : S
     → SinkTold) (setting : Setting) (run : Run) (N k : ℕ) (old new : ClockEngine S) : Type 0 where
   pub same : IsSameClock told old new
@@ -58,7 +62,8 @@ pub record HasMadeAll {S : Type 0} (told : S
       → held_of told new sink ≡ grown (ticks_bytes (setting_in setting run) output.wide node N) (held_of told old sink)
   pub pieces : GotPieces told N old.outs new.outs
 
--- All engines have made their ticks, in windows of W, and this is the record of their calls: it is lawful.
+-- All engines, `old`, have made their N ticks, in windows of W ticks, and came to `new`. `run` is the record of what
+-- the buffers answered them, and it is lawful. `told` is what a sink tells of its bytes.
 pub record HasRun {S : Type 0} (told : S
     → SinkTold) (setting : Setting) (clocks : ClockMap) (W N : ℕ) (run : Run) (old new : List (ClockEngine S)) : Type 0
   where
@@ -67,12 +72,14 @@ pub record HasRun {S : Type 0} (told : S
     pub engines : (k : ℕ) (d : ClockEngine S) → k < length old
         → HasMadeAll told setting run N k (slice_index_or old k d) (slice_index_or new k d)
 
--- each buffer's log has the answers of its windows, and its counts are the numbers of these
+-- The answers of a run's windows are told: each buffer's list in `logs` has those of its windows, and its counts are
+-- the numbers of these
 pub record AreTold (run : Run) (counts : List Counts) (logs : List (List Answers)) : Type 0 where
   pub logs_are : logs ≡ map (map told_of) run.buffers
   pub counts_are : counts ≡ map counts_in logs
 
--- a run in which all ticks were made, with its counts and logs
+-- All engines, `old`, have made their N ticks, in windows of W ticks, and came to `new`. `logs` has the answers of each
+-- buffer, window by window, and `counts` how many they are. `told` is what a sink tells of its bytes.
 pub record HasRunAll {S : Type 0} (told : S
     → SinkTold) (setting : Setting) (clocks : ClockMap) (W N : ℕ) (old new : List (ClockEngine S))
     (counts : List Counts) (logs : List (List Answers)) : Type 0 where
@@ -80,10 +87,10 @@ pub record HasRunAll {S : Type 0} (told : S
   pub has_run : HasRun told setting clocks W N run old new
   pub tells : AreTold run counts logs
 
--- How far an engine came in a run that was broken off: it stands for the ticks that it made, or stopped in the next
--- one; with the answers that its takes got in the run. Each output has grown by its bytes of the ticks that were made,
--- and then by a front of those that were tried, whatever answers follow; and its sink got a piece for each tick that
--- was made, and at most one for each that was tried.
+-- How far the engine of clock k came in a run that was broken off: `made` ticks, and one more that it tried if `tried`
+-- is more. Its takes got the answers of the run. Each output has grown by its bytes of the ticks made, and by a prefix
+-- of those tried, whatever answers follow. Its sink got a piece for each tick made, and at most one for each that was
+-- tried.
 pub record HasMadePart {S : Type 0} (told : S
     → SinkTold) (setting : Setting) (run : Run) (made tried k : ℕ) (old new : ClockEngine S) : Type 0 where
   pub same : IsSameClock told old new
@@ -98,7 +105,9 @@ pub record HasMadePart {S : Type 0} (told : S
       × (held_of told new sink ≡ grown bytes (held_of told old sink))
   pub pieces : GotBetween told made tried old.outs new.outs
 
--- The end names an output of this clock, the lowest that stopped, and the count of faults of its sink rose.
+-- A run was broken off because this sink, of this clock, refused bytes. The sink is that of an output of the clock, and
+-- its count of faults rose. Of the clocks that stopped, this one has the lowest number. The engines `old` came to
+-- `new`; `told` is what a sink tells.
 pub record IsWriteEnd {S : Type 0} (told : S
     → SinkTold) (setting : Setting) (clock sink : ℕ) (old new : List (ClockEngine S)) : Type 0 where
   pub before : ClockEngine S
@@ -113,9 +122,9 @@ pub record IsWriteEnd {S : Type 0} (told : S
   pub there : slice_get (outputs_of setting clock) place ≡ Some (sink, node)
   pub rose : RoseAt told place before.outs after.outs
 
--- The engines have come as far as this record of a run says, which may have been broken off: each clock has made the
--- ticks of the windows that were closed, and tried none behind the next window. A write that ended the run is one of
--- the lowest clock that stopped.
+-- The engines `old` have come to `new` in a run of N ticks, in windows of W ticks, that may have been broken off. There
+-- is a record of it, by which each clock made the ticks of the windows that were closed, and tried none behind the next
+-- window. If `end` is a write that failed, it is one of the lowest clock that stopped.
 pub record HasRunSome {S : Type 0} (told : S
     → SinkTold) (setting : Setting) (clocks : ClockMap) (W N : ℕ) (old new : List (ClockEngine S)) (end : End) : Type 0
   where

@@ -26,13 +26,16 @@ pub record Agree (t : ℕ) (old new : TickCalls) : Type 0 where
   pub calls : (i : ℕ) → i < t → new.calls i ≡ old.calls i
   pub accepted : (i : ℕ) → i < t → new.accepted i ≡ old.accepted i
 
--- the calls of each tick are those that the meaning gives it, by the answers up to its end, whatever answers follow
+-- In each of its first t ticks, main clock m made the calls that the meaning gives that tick. The meaning goes by the
+-- answers that its takes got up to the tick's end, whatever answers follow.
 abbrev pub AreTicks : Setting → (m t : ℕ) → TickCalls → Type 0
 AreTicks setting m t tick_calls =
     (i : ℕ) → i < t → (rest : ℕ → List Answer) → tick_calls.calls i
     ≡ calls_of_tick (with_rest setting (answers_by tick_calls (suc i)) rest) (tick_calls.accepted i) m i
 
--- a clock has made t ticks with these calls, and each output has grown by its bytes of them
+-- The engine `e` of main clock m has made t ticks, with the calls of `tick_calls`, and its outputs have grown by their
+-- bytes. `stands e t answers` says that it is as after t ticks in which its takes got these answers. `held e sink` are
+-- the bytes of an output, by its number, and `first sink` those that it had before tick 0.
 pub record HasGone {E : Type 0} (setting : Setting) (stands : E → ℕ → (ℕ → List Answer) → Type 0) (held : E → ℕ
     → Option (List ℕ))
     (m t : ℕ) (tick_calls : TickCalls) (first : ℕ → Option (List ℕ)) (e : E) : Type 0 where
@@ -42,8 +45,10 @@ pub record HasGone {E : Type 0} (setting : Setting) (stands : E → ℕ → (ℕ
       → held e sink ≡ grown (ticks_bytes (with_rest setting (answers_by tick_calls t) rest) output.wide node t)
       (first sink)
 
--- a clock has made t ticks, and stopped in the next one after the calls `made`: each output has grown by its bytes of
--- these ticks, and by a front of those of the next one
+-- The engine `e` of main clock m has made t ticks, with the calls of `tick_calls`, and stopped in the next one after
+-- the calls `made`. `halts e t answers made` says so of its state. `held e sink` are the bytes of an output, by its
+-- number, and `first sink` those before tick 0. The output grew by all its bytes of the t ticks and by a prefix of
+-- those of the next one.
 pub record HasGonePart {E : Type 0} (setting : Setting) (halts : E → ℕ → (ℕ → List Answer) → List Call
     → Type 0) (held : E → ℕ → Option (List ℕ))
     (m t : ℕ) (tick_calls : TickCalls) (first : ℕ → Option (List ℕ)) (e : E) : Type 0 where

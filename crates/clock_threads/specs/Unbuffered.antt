@@ -7,8 +7,8 @@ use Rattle.stream_meaning.specs.Instants.{Setting}
 use Rattle.clock_ticks.specs.declared.engine.ClockEngine.{ClockEngine}
 use Rattle.clock_threads.specs.ThreadRuns.{AreEngines}
 
--- these are the engines of all running clocks, for N ticks, of some plan that has no buffers, so that clocks share
--- nothing
+-- These are the engines of all running clocks, before N ticks, of some plan that has no buffers, so that clocks share
+-- nothing. `told` is what a sink tells of its bytes.
 pub record AreUnbuffered {S : Type 0} (told : S → SinkTold) (N : ℕ) (engines : List (ClockEngine S)) : Type 0 where
   pub plan : Plan
   pub setting : Setting

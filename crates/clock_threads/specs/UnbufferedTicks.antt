@@ -22,11 +22,13 @@ any_calls taps calls = ⊤
 abbrev pub any_taps : ⊤ → ⊤ → Type 0
 any_taps old new = ⊤
 
--- an engine of a plan without buffers may make `count` ticks more
+-- an engine of a plan without buffers may make `count` ticks more: it has no fault, and its sinks have room; `told` is
+-- what a sink tells of its bytes
 abbrev pub CanRunUnbuffered : {S : Type 0} → (told : S → SinkTold) → (count : ℕ) → ClockEngine S → Type 0
 CanRunUnbuffered told count engine = CanRun told no_buffers count (with_taps tt engine)
 
--- what is known of an engine of a plan without buffers that was run for `count` ticks
+-- what is known of an engine of a plan without buffers, `old`, that was run for `count` ticks and came to `new`: it
+-- made them all or stopped in one; `told` is what a sink tells of its bytes
 abbrev pub WasRunUnbuffered : {S : Type 0} → (told : S → SinkTold) → (count : ℕ) → (old new : ClockEngine S) → Type 0
 WasRunUnbuffered told count old new = WasRun told any_calls no_buffers any_taps count (with_taps tt old)
     (with_taps tt new)

@@ -22,8 +22,9 @@ use Rattle.clock_threads.specs.Wires.{wire_at}
 use Rattle.run_records.specs.Records.{Follows, start}
 use Rattle.clock_threads.specs.Records.{windows_upto, Going}
 
--- The tasks of all clocks are ready for a run of N ticks in windows of W: each wire joins two of them or one to
--- itself, each plan has as many buffers as there are wires, and no tick was made.
+-- The tasks of all clocks are ready for a run of N ticks in windows of W ticks, and none was made. Wire b names the
+-- clocks at the two ends of buffer b, which are among the tasks. Each plan has as many buffers as there are wires.
+-- `told` is what a sink tells of its bytes, and `logs` has each buffer's answers so far.
 pub record IsReady {S R : Type 0} (told : S
     → SinkTold) (wires : List Wire) (W N : ℕ) (tasks : List (Task S (ThreadTaps R))) (logs : List (List Answers)) : Type
     0 where
@@ -35,7 +36,8 @@ pub record IsReady {S R : Type 0} (told : S
       → length (slice_index_or tasks k d).engine.parts.scene.plan.now.buffers ≡ length wires
   pub begun : (d : Task S (ThreadTaps R)) → Going told wires W N 0 tasks tasks logs d
 
--- all N ticks of each clock were made, in windows of W; `d` stands where a list has no task
+-- All N ticks of each clock were made, in windows of W ticks: the tasks `first` came to `now`. `told` is what a sink
+-- tells of its bytes, and `logs` has the answers of each buffer. `d` stands where a list has no task.
 pub record DoneAt {S R : Type 0} (told : S
     → SinkTold) (wires : List Wire) (W N : ℕ) (first now : List (Task S (ThreadTaps R))) (logs : List (List Answers))
     (d : Task S (ThreadTaps R)) : Type 0 where
@@ -44,15 +46,16 @@ pub record DoneAt {S R : Type 0} (told : S
   pub tight : (i : ℕ) → i < windows → start W N i < N
   pub going : Going told wires W N windows first now logs d
 
--- all N ticks of each clock were made, in windows of W ticks: the tasks `first` came to `now`, and `logs` has the
--- answers
+-- All N ticks of each clock were made, in windows of W ticks: the tasks `first` came to `now`. `told` is what a sink
+-- tells of its bytes, a wire names the two clocks of a buffer, and `logs` has each buffer's answers.
 abbrev pub RunDone : {S R : Type 0} → (told : S → SinkTold) → List Wire → (W N : ℕ)
     → (first now : List (Task S (ThreadTaps R))) → (logs : List (List Answers)) → Type 0
 RunDone {S} {R} told wires W N first now logs = (d : Task S (ThreadTaps R)) → DoneAt told wires W N first now logs d
 
--- How far a clock came in the window after the first `closed` ones: it has made so many ticks, and maybe stopped in the
--- next one, which is still of that window; since the window began it made these calls; and each of its sinks got a
--- piece for each of the ticks, and at most one more where it stopped.
+-- How far a clock came in the window after the first `closed` ones of W ticks: its task `first` came to `now`. It made
+-- so many `ticks`, with the calls of `tick_calls`, and maybe stopped in the next one, which is still of that window.
+-- Since the window began it made the calls `since`. Each sink got a piece for each tick, and at most one more where it
+-- stopped.
 pub record CameTo {S R : Type 0} (told : S
     → SinkTold) (W N closed : ℕ) (tick_calls : TickCalls) (since : List Call) (first now : Task S (ThreadTaps R)) : Type
     0 where
@@ -67,15 +70,16 @@ pub record CameTo {S R : Type 0} (told : S
       × (part : EngineGonePart told ticks tick_calls (held_of told first.engine) now.engine)
       × (since ≡ joined_from tick_calls.calls (start W N closed) (ticks - start W N closed) ++ part.made))
 
--- an engine that has made so many ticks and tried no other, or stopped in the next one; with these answers before it
+-- An engine has made `made` ticks, in which its takes got these answers. Either it tried no other (`tried` is `made`),
+-- or it stopped at a fault in the next one (`tried` is one more).
 abbrev pub StandsOrStopped : {S : Type 0} → ClockEngine S → (made tried : ℕ) → (answers : ℕ → List Answer) → Type 0
 StandsOrStopped engine made tried answers =
     ((tried ≡ made) × EngineStands engine.parts made answers)
     ⊎ ((tried ≡ suc made) × (calls : List Call) × EngineStopped engine.parts made answers calls)
 
--- How far a run came: no clock is past the window that follows those that were closed, and all ended the window before
--- it, or those that did not stop ended it. The windows of each buffer, the open one too, are one history, and a clock's
--- calls on a buffer of its own are in order.
+-- How far a run of N ticks in windows of W came, in the tasks `now`: no clock is past the window that follows those
+-- that were closed. Either no clock stopped and all are at that window's beginning, or all that did not stop are at its
+-- end. The windows of each buffer, with the open one, are one history. `d` stands where a list has no task.
 pub record PartAt {S R : Type 0} (told : S
     → SinkTold) (wires : List Wire) (W N : ℕ) (first now : List (Task S (ThreadTaps R)))
     (d : Task S (ThreadTaps R)) : Type 0 where
@@ -98,7 +102,8 @@ pub record PartAt {S R : Type 0} (told : S
       (on b (joined_upto (clock_calls (wire_at wires b).from).calls (start W N closed)
       ++ since (wire_at wires b).from)) chunks
 
--- how far a run of N ticks in windows of W came that a fault broke off: the tasks `first` came to `now`
+-- How far a run of N ticks in windows of W ticks came that a fault broke off: the tasks `first` came to `now`. `told`
+-- is what a sink tells of its bytes, and a wire names the two clocks of a buffer.
 abbrev pub RunPart : {S R : Type 0} → (told : S → SinkTold) → List Wire → (W N : ℕ)
     → (first now : List (Task S (ThreadTaps R))) → Type 0
 RunPart {S} {R} told wires W N first now = (d : Task S (ThreadTaps R)) → PartAt told wires W N first now d
@@ -108,7 +113,8 @@ abbrev pub end_by : (clock : ℕ) → TickFault → End
 end_by clock (Refused sink) = Write clock sink
 end_by clock OutOfMemory = NoMemory
 
--- a run that faults stopped ends by one of them: that of the first task in the list whose engine stopped
+-- A run that faults of some tasks stopped ends, with `end`, by one of these faults: that of the first task in the list
+-- whose engine stopped.
 pub record IsToldByLowest {S R : Type 0} (tasks : List (Task S (ThreadTaps R))) (end : End) : Type 0 where
   pub place : ℕ
   pub within : place < length tasks
@@ -117,7 +123,8 @@ pub record IsToldByLowest {S R : Type 0} (tasks : List (Task S (ThreadTaps R))) 
   pub lowest : (k : ℕ) (d : Task S (ThreadTaps R)) → k < place → (slice_index_or tasks k d).engine.parts.stopped ≡ None
   pub end_is : (d : Task S (ThreadTaps R)) → end ≡ end_by (slice_index_or tasks place d).engine.parts.clock fault
 
--- this sink of this clock, the lowest that stopped, refused bytes
+-- Of all tasks whose engine stopped, the first in the list is of this clock, and its fault is that this sink refused
+-- bytes. The tasks `first` came to `now`; `told` is what a sink tells of its bytes.
 pub record IsWriteAt {S R : Type 0} (told : S
     → SinkTold) (clock sink : ℕ) (first now : List (Task S (ThreadTaps R))) : Type 0 where
   pub place : ℕ

@@ -18,8 +18,8 @@ use Rattle.clock_threads.specs.Listed.{listed}
 use Rattle.clock_threads.specs.ThreadRuns.{AreEngines, HasRun}
 use Rattle.clock_threads.specs.EngineTasks.{engine_of}
 
--- the wires are those of a plan's buffers: one for each, of its capacity, which is not 0, and between two of `clocks`
--- clocks
+-- The wires are those of a plan's buffers: one for each, with its capacity, which is not 0. Each leads from one of
+-- `clocks` clocks to one of them.
 pub record AreLaid (plan : Plan) (clocks : ℕ) (wires : List Wire) : Type 0 where
   pub many : length wires ≡ length plan.buffers
   pub few : length wires < 4294967296
@@ -28,22 +28,25 @@ pub record AreLaid (plan : Plan) (clocks : ℕ) (wires : List Wire) : Type 0 whe
       → (slice_index_or plan.buffers b d).capacity ≡ (wire_at wires b).capacity
   pub places : (b : ℕ) → b < length wires → (wire_at wires b).from < clocks × ((wire_at wires b).to < clocks)
 
--- before a run of N ticks: these are the engines of all clocks of a setting of this plan, and the wires of its buffers
+-- Before a run of N ticks: these are the engines of all clocks of a setting of this plan, and the wires of its buffers.
+-- A wire names the two clocks of a buffer; `told` is what a sink tells of its bytes.
 pub record AreFresh {S : Type 0} (told : S
     → SinkTold) (plan : Plan) (wires : List Wire) (N : ℕ) (setting : Setting) (clocks : ClockMap)
     (engines : List (ClockEngine S)) : Type 0 where
   pub engines_are : AreEngines told plan clocks N setting engines
   pub wires_are : AreWires setting clocks.running wires
 
--- the engines of all clocks of some setting of this plan, and the wires of its buffers
+-- Before a run of N ticks: there is a setting of this plan of which these are the engines of all clocks, and the wires
+-- of its buffers. A wire names the two clocks of a buffer; `told` is what a sink tells of its bytes.
 pub record AreSomeFresh {S : Type 0} (told : S
     → SinkTold) (plan : Plan) (wires : List Wire) (N : ℕ) (engines : List (ClockEngine S)) : Type 0 where
   pub setting : Setting
   pub clocks : ClockMap
   pub are : AreFresh told plan wires N setting clocks engines
 
--- all N ticks of each clock were made, in windows of W: `logs` has the answers of buffers between clocks, and the
--- tasks' lists those of the others
+-- The engines `old` made all N ticks of each clock, in windows of W ticks, and came to those of `tasks`. `logs` has the
+-- answers of buffers between clocks, and the tasks' lists those of the others. A wire names the two clocks of a buffer;
+-- `told` is what a sink tells of its bytes.
 pub record HasRunTasks {S R : Type 0} (told : S
     → SinkTold) (wires : List Wire) (setting : Setting) (clocks : ClockMap) (W N : ℕ)
     (old : List (ClockEngine S)) (tasks : List (Task S (ThreadTaps R))) (logs : List (List Answers)) : Type 0 where

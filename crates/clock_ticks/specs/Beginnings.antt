@@ -36,6 +36,6 @@ pub record IsNewPort (setting : Setting) (port : Port) : Type 0 where
   pub room : setting.plan.frame * block_length port.wide port.kind ≤ port.piece.room
   pub gaps : port.gaps ≡ 0
 
--- a feed before the first tick: it has room for the cells of a tick
+-- a feed before the first tick: it has room for the cells of a tick, which are `frame` many
 pub record IsNewFeed (frame : ℕ) (feed : FeedPort) : Type 0 where
   pub room : frame ≤ feed.frame.room

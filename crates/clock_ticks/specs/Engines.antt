@@ -46,7 +46,8 @@ outputs_from setting m i (Feed buffer node ∷ sinks) = outputs_from setting m (
 abbrev pub outputs_of : Setting → ℕ → List (ℕ × ℕ)
 outputs_of setting m = outputs_from setting m 0 setting.plan.sinks
 
--- the key of an output: its number among the sinks of the plan, and the node that it plays
+-- the key of an output, by its port, which is the engine's part for it: its number among the sinks of the plan, and the
+-- node that it plays
 abbrev pub output_of : Port → ℕ × ℕ
 output_of port = (port.sink, port.node)
 
@@ -88,8 +89,9 @@ pub record AreClocksOf (plan : Plan) (clocks : List NodeClock) : Type 0 where
   pub assigned : IsClockMap plan map
   pub are : clocks ≡ map.of
 
--- The parts of an engine fit together: its plan is well formed, there is a state and a clock for each node, its
--- outputs and feeds are those of its clock, with room for a tick, and each output has a list of marks.
+-- The parts of an engine fit together. Its plan is well formed, and there is a state and a clock for each node. Its
+-- outputs and feeds are those of its clock in the plan, with room for a tick, and each output has a list of marks
+-- (where tracks begin).
 pub record AreParts (parts : EngineParts) : Type 0 where
   pub plan : IsWellFormed parts.scene.plan.now
   pub nodes : AreNodes parts.scene.plan.now.nodes
@@ -119,9 +121,9 @@ pub record IsWhole {S : Type 0} (engine : Engine S) : Type 0 where
   pub parts : AreParts engine.parts
   pub sinks : length engine.outs ≡ length engine.parts.ports.items
 
--- an engine stands for so many ticks and these answers: no tick of it had a fault; whatever answers follow, its readers
--- have taken exactly these, and its state is the one that the instants imply. Buffers that its clock does not read have
--- no answers. If it keeps its marks, or made no tick, it has the marks of the ticks
+-- An engine has made so many ticks without a fault, in which its readers took exactly these answers, by buffer. Its
+-- state is what the ticks imply, whatever answers follow. Buffers that its clock does not read have no answers. If it
+-- keeps its marks (where tracks begin), or made no tick, it has those of the ticks.
 pub record EngineStands (parts : EngineParts) (ticks : ℕ) (answers : ℕ → List Answer) : Type 0 where
   pub made : parts.ticks ≡ ticks
   pub runs : parts.stopped ≡ None
@@ -137,8 +139,9 @@ pub record EngineStands (parts : EngineParts) (ticks : ℕ) (answers : ℕ → L
       → slice_get parts.cues.lists.items k ≡ Some list
       → list.marks.items ≡ map mark_of (cues (with_rest (setting_of parts) answers rest) port.node ticks)
 
--- an engine stopped in tick t after the calls `made`, before which it stood for these answers: the calls are the first
--- ones of the tick's, whatever answers follow theirs; its ticks and gaps are those of the t ticks before
+-- An engine stopped in tick t after the calls `made`, and before that tick its readers had taken these answers, by
+-- buffer. The calls are the first ones of the tick's, whatever answers follow. The ticks, gaps and marks that it had
+-- before tick t are still known.
 pub record EngineStopped (parts : EngineParts) (t : ℕ) (answers : ℕ → List Answer) (made : List Call) : Type 0 where
   pub ticks_are : parts.ticks ≡ t
   pub fault : TickFault
@@ -154,15 +157,16 @@ pub record EngineStopped (parts : EngineParts) (t : ℕ) (answers : ℕ → List
       → slice_get parts.cues.lists.items k ≡ Some list
       → take list.before list.marks.items ≡ map mark_of (cues (with_rest (setting_of parts) answers rest) port.node t)
 
--- the bytes that the sink of this number holds, if it tells them, where `outs` are the sinks of these outputs (number
--- and node) in the same order
+-- The bytes that the sink with number `sink` holds, if it tells them (`told`). `outputs` has the number and the node of
+-- each output, and `outs` the sink of each, in the same order. None stands where there is no such output.
 abbrev pub held_in : {S : Type 0} → (S → SinkTold) → (outputs : List (ℕ × ℕ)) → List S → ℕ → Option (List ℕ)
 held_in told [] outs sink = None
 held_in told (output ∷ outputs) [] sink = None
 held_in told (output ∷ outputs) (out ∷ outs) sink = if nat_eq output.0 sink then (told out).held
     else held_in told outputs outs sink
 
--- what the outputs of an engine hold, by their numbers
+-- the bytes that each output of an engine holds, by its number among the sinks of the plan; `told` is what a sink tells
+-- of its bytes
 abbrev pub held_of : {S : Type 0} → (S → SinkTold) → Engine S → ℕ → Option (List ℕ)
 held_of told engine = held_in told (outputs_of (setting_of engine.parts) engine.parts.clock) engine.outs
 

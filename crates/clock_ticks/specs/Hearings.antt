@@ -23,8 +23,9 @@ use Rattle.clock_ticks.specs.declared.cues.Cues.{Cues}
 use Rattle.clock_ticks.specs.Cues.{HasMarked, HasMarkedSome, marks_if}
 use Rattle.clock_ticks.specs.Standing.{ClockStateStands}
 
--- What is known of a setting, whatever its buffers answer: the slots `sub` and the calls of its sub-clocks, that no
--- buffer has two readers, and in `own` the nodes that their own clock asks for.
+-- What is known of a setting, whatever its buffers answer: `sub` has the slots that each crossfade's sub-clock makes,
+-- by what the setting means. The calls of instants follow one rule in all clocks, and no buffer has two readers. `own`
+-- says of each node whether its own clock asks for it.
 pub record IsMeant (setting : Setting) (sub : ℕ → ℕ → List Slot) (own : List Bool) : Type 0 where
   pub meaning : IsMeaning setting sub
   pub down : GoDown setting sub
@@ -45,7 +46,8 @@ calls_from setting sub clock n count = joined_upto
 abbrev pub feed_key : FeedPort → ℕ × ℕ
 feed_key feed = (feed.buffer, feed.node)
 
--- what some instants of a clock came to: the slots of each node, the calls on buffers, and the states after them
+-- what some instants of a clock came to: the slots of each node, by its number, the calls on buffers, and the states
+-- after them
 pub record Outcome : Type 0 where
   pub slots : ℕ → List Slot
   pub calls : List Call
@@ -55,8 +57,9 @@ pub record Outcome : Type 0 where
 abbrev pub outcome : (ℕ → List Slot) → List Call → ClockState → Outcome
 outcome slots calls state = record { slots = slots; calls = calls; state = state }
 
--- a clock that had made n instants made `count` more, with this outcome: the states stand for them too, and the slots
--- of the nodes that the clock demands of themselves, and the calls, are theirs
+-- A clock that had made n instants made `count` more, with this outcome (`made`): its states stand for them too. The
+-- slots of the nodes that the clock asks for (`own`) and the calls are theirs. `front` has the answers taken before, by
+-- buffer, and `sub` the slots that each crossfade's sub-clock makes.
 pub record HasMadeInstants (setting : Setting) (sub : ℕ → ℕ
     → List Slot) (own : List Bool) (clock : NodeClock) (n count : ℕ) (front : ℕ → List Answer)
     (made : Outcome) : Type 0 where
@@ -87,8 +90,8 @@ hearing_by state ports feeds cues start taps = record {
   taps = taps;
 }
 
--- the outputs and feeds of a clock have room for a tick that begins at this instant, are of nodes of the plan, and each
--- output has its marks
+-- The outputs (`ports`) and feeds of a clock are ready for a tick that begins at instant `start`. They have room for
+-- it, they are of nodes of the plan, and each output has a list of marks, which says where tracks begin.
 pub record CanHear (scene : Scene) (ports : List Port) (feeds : List FeedPort) (cues : Cues) (start : ℕ) : Type 0 where
   pub heard : All (λ port. port.node < length scene.plan.now.nodes) ports
   pub fed : All (λ feed. feed.node < length scene.plan.now.nodes) feeds
@@ -97,8 +100,9 @@ pub record CanHear (scene : Scene) (ports : List Port) (feeds : List FeedPort) (
   pub marks : length cues.lists.items ≡ length ports
   pub late : start + scene.plan.now.frame < 2 ^ 64
 
--- `count` instants of a tick were made, with calls that the taps got, and the outputs, feeds and marks have heard the
--- slots of their nodes; whatever instants the states stood for, these are the next ones
+-- `count` instants of a tick were made, and the outputs, feeds and marks got the slots of their nodes. Whatever
+-- instants the states stood for, these are the next ones, and their calls on buffers went through the taps.
+-- `stands taps calls` says that taps have made these calls, and `own` which nodes their clock asks for.
 pub record Heard {T : Type 0} (stands : T → List Call
     → Type 0) (scene : Scene) (clock : NodeClock) (own : List Bool) (count : ℕ)
     (before after : Hearing T) : Type 0 where
@@ -120,7 +124,9 @@ pub record Heard {T : Type 0} (stands : T → List Call
       → ClockStateStands (setting_over scene other) sub clock n front before.state
       → HasMadeInstants (setting_over scene other) sub own clock n count front (outcome slots more after.state)
 
--- memory was refused in a tick of `total` instants, after its first calls: whatever instants the states stood for
+-- Memory was refused in a tick of `total` instants of a clock. The calls `made` are the first of the tick's, whatever
+-- instants the states stood for; of outputs and marks less is known than after a whole tick. `stands taps calls` says
+-- that taps have made these calls, and `own` which nodes their clock asks for.
 pub record HeardSome {T : Type 0} (stands : T → List Call
     → Type 0) (scene : Scene) (clock : NodeClock) (own : List Bool) (total : ℕ)
     (before after : Hearing T) : Type 0 where
@@ -138,8 +144,8 @@ pub record HeardSome {T : Type 0} (stands : T → List Call
       → ClockStateStands (setting_over scene other) sub clock n front before.state
       → IsBegin made (calls_from (setting_over scene other) sub clock n total)
 
--- the slots of node i in the latest segment: an instant, and `many` more that go on as it did, by the samples that
--- they left
+-- The slots of node i in the latest segment: an instant, and `many` more that go on as it did. The first slot is that
+-- of the latest instant, and the others are by the samples that the node left.
 abbrev pub segment_of : ClockStates → (many i : ℕ) → List Slot
 segment_of all many i =
     segment_slots (part_at all.latest.parts.items i).slot many (samples_of all.room.left.items i many)
@@ -155,7 +161,8 @@ abbrev pub tapped : {T : Type 0} → ClockState → T → Tapped T
 tapped state taps = record { state = state; taps = taps }
 
 -- A segment was made: an instant of a clock, and `many` more that go on as it did. Whatever instants the states before
--- stood for, those after stand for these too, and the taps got their calls.
+-- stood for, those after stand for these too, and the taps got their calls. `stands taps calls` says that taps have
+-- made these calls, and `own` which nodes their clock asks for.
 pub record SegmentMade {T : Type 0} (stands : T → List Call
     → Type 0) (scene : Scene) (clock : NodeClock) (own : List Bool) (many : ℕ)
     (before after : Tapped T) : Type 0 where
@@ -168,7 +175,9 @@ pub record SegmentMade {T : Type 0} (stands : T → List Call
       → HasMadeInstants (setting_over scene other) sub own clock n (suc many) front
       (outcome (segment_of after.state.clocks many) more after.state)
 
--- memory was refused in the first instant of a segment, after its first calls: whatever instants the states stood for
+-- Memory was refused in the first instant of a segment, after the calls `made`. These are the first of the instant's
+-- calls on buffers, whatever instants the states stood for. `stands taps calls` says that taps have made these calls,
+-- and `own` which nodes their clock asks for.
 pub record SegmentBroken {T : Type 0} (stands : T → List Call
     → Type 0) (scene : Scene) (clock : NodeClock) (own : List Bool)
     (old : ClockState) (taps_old taps_new : T) : Type 0 where

@@ -11,7 +11,8 @@ pub record GotOnePiece {S : Type 0} (told : S → SinkTold) (below : ℕ) (old n
       → (taken : List ℕ) × TookPiece taken (told before) (told after)
   pub others : (k : ℕ) → below ≤ k → slice_get new k ≡ slice_get old k
 
--- some sinks, from the first one on, took a piece each, or a part of one, and the others are as they were
+-- Some of the sinks `old`, from the first one on, took a piece of bytes each, or a part of one, and came to `new`. The
+-- other sinks are as they were; `told` is what a sink tells of itself.
 pub record GotSomePieces {S : Type 0} (told : S → SinkTold) (old new : List S) : Type 0 where
   pub count : ℕ
   pub got : GotOnePiece told count old new
@@ -24,7 +25,7 @@ pub record RoseAt {S : Type 0} (told : S → SinkTold) (place : ℕ) (old new : 
   pub is : slice_get new place ≡ Some after
   pub rose : Rose (told before).faults (told after).faults
 
--- each sink has the name that it had, and no smaller count of faults
+-- each of the sinks `new` has the name that it had in `old`, and no smaller count of faults, by what it tells (`told`)
 pub record AreKept {S : Type 0} (told : S → SinkTold) (old new : List S) : Type 0 where
   pub each : (k : ℕ) (before after : S) → slice_get old k ≡ Some before → slice_get new k ≡ Some after
       → ((told after).name ≡ (told before).name) × ((told before).faults ≤ (told after).faults)

@@ -22,8 +22,9 @@ pub record IsClockState (scene : Scene) (state : ClockState) : Type 0 where
   pub rate : state.time.rate ≡ scene.plan.now.rate
   pub frame : state.time.frame ≡ scene.plan.now.frame
 
--- A main clock can make instants: its states fit the scene, a plan with its files and clocks; sub-clocks nest no
--- deeper than there are nodes; `own`, the nodes that their clock asks for, has an entry for each node.
+-- A main clock can make instants: its states fit the scene, which is a plan with its files and clocks. Sub-clocks nest
+-- no deeper than there are nodes. `own`, which says of each node whether its own clock asks for it, has an entry for
+-- each node.
 pub record CanMake (scene : Scene) (clock : NodeClock) (own : List Bool) (state : ClockState) : Type 0 where
   pub scene_is : IsScene scene
   pub in_own : length own ≡ length scene.plan.now.nodes
@@ -31,8 +32,9 @@ pub record CanMake (scene : Scene) (clock : NodeClock) (own : List Bool) (state 
   pub levels : HasLevels scene.clocks.now clock (length scene.plan.now.nodes)
   pub state_is : IsClockState scene state
 
--- the states stand for the first n instants of a clock, and for as many of the sub-clocks below it as its crossfades
--- asked for; in them all readers have taken the answers `front`
+-- The states stand for the first n instants of a clock, and for as many of the sub-clocks below it as its crossfades
+-- asked for. In them all readers have taken the answers `front`, by buffer. `sub` has the slots that each crossfade's
+-- sub-clock makes.
 pub record ClockStateStands (setting : Setting) (sub : ℕ → ℕ → List Slot) (clock : NodeClock) (n : ℕ) (front : ℕ
     → List Answer) (state : ClockState) : Type 0 where
   pub rank : NodeClock → ℕ

@@ -13,8 +13,9 @@ use Rattle.station_jobs.specs.Words.{Replay}
 abbrev pub again : Station → TraceValue → Station
 again station trace = record station { way = Again trace; trace = None; cues = false }
 
--- Over these files the verdict on a replay by the trace in the file of this name is a station, and whatever record it
--- has, its outputs and its report are those of the run.
+-- The call that replays this script (`file`) by the trace in the file `name` has a verdict over these files: a station,
+-- rendered again by this trace. Whatever lawful record that has, it is that of the run. Its outputs and its report are
+-- those of the run, too.
 pub record IsRenderedAgain (files : Files) (file name : List ℕ) (station : Station) (trace : TraceValue)
     (run : Run) : Type 0 where
   pub verdict : IsStation (Replay file station.start station.ticks name) files (again station trace)

@@ -29,7 +29,8 @@ sure_of files shelf = record shelf { files = Some files; reads = 0; writes = 0 }
 abbrev pub over : Files → Outside → Outside
 over files outside = record { shelf = sure_of files outside.shelf; out = outside.out; err = outside.err }
 
--- if the shelf tells its files, words have one verdict over them, for which P holds
+-- if the shelf tells its files, these words of a call have a verdict over them, and P holds of the files and the
+-- verdict
 abbrev pub ForFiles : (words : List (List ℕ)) → ShelfTold → (Files → Verdict → Type 0) → Type 0
 ForFiles words shelf P = ForSome shelf.files (λ files. ForVerdict words files (P files))
 
@@ -96,14 +97,16 @@ abbrev pub WriteFailed : (words : List (List ℕ)) → (old new : Outside) → T
 WriteFailed words old new = UsageBroke words old new ⊎ LineBroke words old new ⊎ ReportBroke words old new
     ⊎ RenderingBroke words old new
 
--- what holds at status 5; no field ties this status to a cause, so refused memory is not told here
+-- Status 5: `out` and `err` got nothing. If the shelf tells its files, the words have a form, and the shelf was only
+-- read or a rendering broke off. No field says that memory was refused indeed, so nothing ties this status to a cause.
 pub record NoMemory (words : List (List ℕ)) (old new : Outside) : Type 0 where
   pub starved : ForSome old.shelf.files
       (λ files. ForEachVerdict words files (λ verdict. IsStarved verdict files old.shelf new.shelf))
   pub out_kept : new.out ≡ old.out
   pub err_kept : new.err ≡ old.err
 
--- what a call leaves, by its status, from 0 to 5
+-- What a call with these words leaves, by its status, from 0 to 5: how what is outside of it, its files and its sinks
+-- `out` and `err`, came from `old` to `new`.
 pub record Ends (words : List (List ℕ)) (old new : Outside) (status : ℕ) : Type 0 where
   pub is_status : status ≤ 5
   pub done : status ≡ 0 → ReportSaid words old new
@@ -134,14 +137,14 @@ Completes Usage status = status ≡ 2
 abbrev pub HasVerdict : List (List ℕ) → Files → Type 0
 HasVerdict words files = (verdict : Verdict) × IsVerdict words files verdict
 
--- Where no count of failures rose, the status is 5 or there is a verdict on the words; and each verdict is the status,
--- unless that is 5. Status 5 has no cause here: a body that always ends with it meets this.
+-- If no count of failed reads or writes rose, the status is 5 or there is a verdict on the words, and each verdict asks
+-- for this status, unless that is 5. Status 5 has no cause here: a body that always ends with it meets this.
 abbrev pub IsComplete : List (List ℕ) → Outside → Outside → ℕ → Type 0
 IsComplete words old new status = Calm old new → ForSome old.shelf.files (λ files.
     ((status ≡ 5) ⊎ HasVerdict words files) × ForEachVerdict words files (λ verdict. Completes verdict status))
 
--- A call that rests on no file and no device of the shelf: it ends as over any files and a shelf that never fails. So
--- it never ends with 3, and with 4 only where `out` or `err` failed.
+-- A call rests on no file and no device of the shelf: it ends with this status as it would over any files, and with a
+-- shelf that never fails. So it never ends with 3, and with 4 only where `out` or `err` failed.
 pub record EndsApart (words : List (List ℕ)) (old new : Outside) (status : ℕ) : Type 0 where
   pub ends : (files : Files) → Ends words (over files old) (over files new) status
   pub complete : (files : Files) → IsComplete words (over files old) (over files new) status

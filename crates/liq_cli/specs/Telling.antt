@@ -6,18 +6,19 @@ use Rattle.refusal_lines.specs.Lines.{line_of}
 use Rattle.station_jobs.specs.declared.halt.CallEnd.{CallEnd}
 use Rattle.station_jobs.specs.declared.halt.CallEnd.TheVariants.{Read, Write, Memory, Refused as refused_for}
 
--- how writing a call's one text to a sink ends: all of it was written and the status is the one `wanted`, or it broke
--- off and the status is 4
+-- How writing the one text of a call to a sink ends, which came from `old` to `new`. All of it was written and the
+-- status is the one `wanted`, or it broke off and the status is 4.
 abbrev pub Tells : List ℕ → ℕ → (old new : SinkTold) → ℕ → Type 0
 Tells text wanted old new status = ((status ≡ wanted) × TookPiece text old new) ⊎ ((status ≡ 4) × TookPart text old new)
 
--- how making and writing a call's one text to a sink ends: written with the status `wanted`, broken off with status 4,
--- or with status 5 and nothing written, if memory was refused
+-- How making and writing the one text of a call to a sink ends, which came from `old` to `new`. It was written with the
+-- status `wanted`, or broke off with 4. Or the status is 5 and nothing was written, as when memory is refused.
 abbrev pub MayTell : List ℕ → ℕ → (old new : SinkTold) → ℕ → Type 0
 MayTell text wanted old new status = ((status ≡ 5) × (new ≡ old)) ⊎ Tells text wanted old new status
 
--- how a call ends, by the end of its job: `out` got the report, or `err` the line of a refusal, or neither got
--- anything; with the status that says which
+-- How a call ends, by the end of its job, which is a report or a reason why there is none. `out` got the report, or
+-- `err` the line of a refusal, or neither got anything. The sinks came to `out_new` and `err_new`, and the last number
+-- is the status, which says which.
 abbrev pub Finishes : Result (String Global) CallEnd → (out out_new err err_new : SinkTold) → ℕ → Type 0
 Finishes (Ok report) out out_new err err_new status = Tells (string_bytes report) 0 out out_new status × (err_new ≡ err)
 Finishes (Err (refused_for fault)) out out_new err err_new status = MayTell (line_of fault) 1 err err_new status

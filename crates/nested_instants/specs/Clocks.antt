@@ -28,8 +28,9 @@ use Rattle.clock_nodes.specs.States.{AllFit, HasRoomFor}
 use Rattle.clock_instants.specs.Takes.{HasOwnReaders, ReadersAreIn, begun_in}
 use Rattle.nested_instants.specs.declared.clock_states.ClockStates.{ClockStates}
 
--- How far a run came: `ran` has the instants that each clock made; `filled`, by node, the slots that a crossfade was
--- given or the instants that a buffer's reader began; `front`, by buffer, the answers that its reader has taken.
+-- How far a run came. `ran` has the number of instants that each clock made. `filled` has, by node, how many slots of
+-- its child a crossfade was given, or how many instants a buffer's reader began. `front` has, by buffer, the answers
+-- that its reader has taken so far.
 pub record Progress : Type 0 where
   pub ran : NodeClock → ℕ
   pub filled : ℕ → ℕ
@@ -44,8 +45,8 @@ clock_at clocks i = slice_index_or clocks i (Main 0)
 pub record HasRanks (clocks : List NodeClock) (rank : NodeClock → ℕ) : Type 0 where
   pub deeper : (k : ℕ) → k < length clocks → rank (Sub k) ≡ suc (rank (clock_at clocks k))
 
--- sub-clocks, each the clock of a crossfade's child, nest no deeper below this clock than `levels`: by ranks, which
--- say how deep a clock nests
+-- Below this clock, sub-clocks nest at most `levels` deep; each is the clock of a crossfade's child. `rank` says how
+-- deep each clock nests.
 pub record HasLevels (clocks : List NodeClock) (clock : NodeClock) (levels : ℕ) : Type 0 where
   pub rank : NodeClock → ℕ
   pub ranks : HasRanks clocks rank
@@ -55,13 +56,14 @@ pub record HasLevels (clocks : List NodeClock) (clock : NodeClock) (levels : ℕ
 abbrev pub laned_at : ClockStates → ℕ → Type 0
 laned_at all i = HasLanes all.room.left.items all.room.right.items i
 
--- how many instants of the sub-clock of crossfade k are known to go on as its latest one did, so that they can be made
--- at once
+-- how many further instants of the sub-clock of crossfade k are known to go on as its latest one did, so that they can
+-- be made at once; 0 where none is known
 abbrev pub rest_at : ClockStates → ℕ → ℕ
 rest_at all k = slice_index_or all.room.rests.items k 0
 
--- The counts of instants that are kept of sub-clocks hold good: for so many instants all nodes of the sub-clock can go
--- on as at its latest one, and so can the sub-clocks of its crossfades through which cells pass.
+-- What is kept of sub-clocks, how many further instants go on as the latest one did, is true. For so many instants all
+-- nodes of the sub-clock can go on as at its latest one. So can the sub-clocks of its crossfades through which cells
+-- pass.
 pub record AreResting (scene : Scene) (all : ClockStates) : Type 0 where
   pub ahead : (k : ℕ) → 0 < rest_at all k
       → AllLieAhead scene (Sub k) all.room.held.items all.states.items (rest_at all k)
@@ -94,8 +96,9 @@ pub record AreStatesAt (over : Scene) (time : WeekTime) (all : ClockStates) : Ty
   pub rate : time.rate ≡ over.plan.now.rate
   pub frame : time.frame ≡ over.plan.now.frame
 
--- A clock and the sub-clocks below it can make instants: their states fit the scene, `own` has an entry for each node,
--- sub-clocks nest at most `most` deep, and readers read some of `buffers` buffers.
+-- A clock and the sub-clocks below it can make instants: their states fit the scene, which is a plan with its files and
+-- clocks. `own` says of each node whether its own clock asks for it. Sub-clocks nest at most `most` deep below the
+-- clock, and readers read buffers with numbers below `buffers`.
 pub record CanMakeInstants (over : Scene) (own : List Bool) (clock : NodeClock) (most buffers : ℕ) (all : ClockStates)
     : Type 0 where
   pub scene : IsScene over
@@ -139,8 +142,9 @@ is_in clocks clock i = clock_at clocks i ≡ clock
 abbrev pub is_upto : List NodeClock → NodeClock → (below : ℕ) → ℕ → Type 0
 is_upto clocks clock below i = (i < below) × (clock_at clocks i ≡ clock)
 
--- What a step leaves alone: in clocks that nest no deeper than `level`, nodes but for those `touched` keep their
--- states and what they gave, and their sub-clocks keep their times and counts. All nodes keep their lanes.
+-- What a step, from the states `old` to `new`, leaves alone in clocks that nest no deeper than `level`. But for the
+-- nodes `touched`, nodes keep their states and what they gave, and their sub-clocks keep their times and the counts of
+-- instants that go on. `rank` says how deep a clock nests. All nodes keep their lanes.
 pub record AreLeft (clocks : List NodeClock) (rank : NodeClock → ℕ) (level : ℕ) (touched : ℕ → Type 0)
     (old new : ClockStates) : Type 0 where
   pub states : (i : ℕ) → (touched i → ⊥) → rank (clock_at clocks i) ≤ level
@@ -170,8 +174,9 @@ fade_in setting k (Some node) = is_fade (work_at setting k node)
 abbrev pub fade_at : Setting → ℕ → Bool
 fade_at setting k = fade_in setting k (slice_get setting.plan.nodes k)
 
--- No clock ran further than needed: in clocks that nest at least `level` deep, a crossfade's sub-clock made just the
--- instants that settle what it plays at its latest instant, and a reader began just the instants of its clock.
+-- No clock ran further than needed, among clocks that nest at least `level` deep; `rank` says how deep a clock nests. A
+-- crossfade's sub-clock made just the instants that settle what it plays at its latest instant. A reader began just the
+-- instants of its clock. `sub` has the slots that each crossfade's sub-clock makes.
 pub record RanAsNeeded (setting : Setting) (sub : ℕ → ℕ → List Slot) (rank : NodeClock → ℕ) (level : ℕ)
     (progress : Progress) : Type 0 where
   pub each : (k overlap : ℕ) (node : Node) → slice_get setting.plan.nodes k ≡ Some node → node.op ≡ Crossfade overlap
@@ -180,16 +185,17 @@ pub record RanAsNeeded (setting : Setting) (sub : ℕ → ℕ → List Slot) (ra
   pub begun : (i : ℕ) → reads_at setting i ≡ true → level ≤ rank (clock_of setting i)
       → progress.filled i ≡ progress.ran (clock_of setting i)
 
--- `rest` instants go on as the one after this past did, at which `held` was given; in each of them a crossfade of the
--- clock that gave asks for one slot where cells pass, and otherwise for none
+-- `rest` instants of a clock go on as the one after this past did, at which its nodes gave `held`. In each of them a
+-- crossfade of the clock that gave asks for one slot where cells pass, and otherwise for none. `filled` has how many
+-- slots each was given; `sub` has the slots that each crossfade's sub-clock makes.
 pub record GoesOnFor (setting : Setting) (sub : ℕ → ℕ → List Slot) (clock : NodeClock) (past : List Moment) (rest : ℕ)
     (filled : ℕ → ℕ) (held : List Part) (states : List NodeState) : Type 0 where
   pub stretch : IsStretch setting sub clock past (suc rest)
   pub held_is : IsHeld setting sub clock past held
   pub asks : AllAsk setting sub clock past filled states (length setting.clocks) rest
 
--- `rest` instants of the sub-clock of crossfade k go on as its latest one, number n, did, at which the crossfade's
--- child offered a cell
+-- `rest` further instants of the sub-clock of crossfade k go on as its latest one, number n, did. At that one the
+-- crossfade's child offered a cell. `sub` has the slots that each crossfade's sub-clock makes.
 pub record IsOpen (setting : Setting) (sub : ℕ → ℕ → List Slot) (k rest : ℕ) (progress : Progress) (all : ClockStates)
     : Type 0 where
   pub n : ℕ
@@ -199,10 +205,10 @@ pub record IsOpen (setting : Setting) (sub : ℕ → ℕ → List Slot) (k rest 
   pub goes : GoesOnFor setting sub (Sub k) (first_instants setting sub (Sub k) n) rest progress.filled
       all.room.held.items all.states.items
 
--- the readers have taken the answers `front`. In clocks of rank `level` or a deeper one the states stand for the
--- instants that the clocks have made, the nodes have lanes, each crossfade was given the slots that its sub-clock made,
--- and the sub-clock's time is that of its next instant; deeper clocks ran as needed. Of states in lower clocks nothing
--- is said: they may be idle
+-- In clocks that nest at least `level` deep, the states `all` stand for the instants that the clocks made, by
+-- `progress`. There each crossfade was given just the slots that its sub-clock made, and deeper clocks ran as needed.
+-- Readers in all clocks have taken the answers `front` of `progress`. Of states in clocks that nest less deep nothing
+-- is said.
 pub record Stand (setting : Setting) (sub : ℕ → ℕ → List Slot) (rank : NodeClock → ℕ) (level : ℕ) (progress : Progress)
     (all : ClockStates) : Type 0 where
   pub stand : (i : ℕ) (node : Node) (state : NodeState) → slice_get setting.plan.nodes i ≡ Some node
@@ -223,16 +229,17 @@ pub record Stand (setting : Setting) (sub : ℕ → ℕ → List Slot) (rank : N
       → IsOpen setting sub k (rest_at all k) progress all
   pub laned : (i : ℕ) → i < length setting.plan.nodes → level ≤ rank (clock_of setting i) → laned_at all i
 
--- node k can make its next instant: if it is a crossfade, it knows its item, which is what it plays next, and was
--- given no more slots of its child than that takes
+-- Node k can make its next instant. If it is a crossfade, it knows its item, which is what it plays next, and was given
+-- no more slots of its child than that takes. `sub` has the slots that each crossfade's sub-clock makes.
 pub record HasItem (setting : Setting) (sub : ℕ → ℕ → List Slot) (progress : Progress) (k : ℕ) (node : Node)
     : Type 0 where
   pub settled : IsSettled sub (past_of setting sub progress.ran k) (progress.filled k) k (work_at setting k node)
   pub run : (overlap : ℕ) → work_at setting k node ≡ Fades overlap
       → run_of overlap (sub k) (position (past_of setting sub progress.ran k) k) ≡ progress.filled k
 
--- Some crossfades that nest `level` deep, among the nodes `touched`, were fed by the calls `more`, and those `done`
--- can make their next instant. No clock that nests so deep or less made an instant.
+-- Some nodes `touched`, crossfades in clocks that nest `level` deep, were given slots since `progress`, with the calls
+-- `more` on buffers. Those in `done` can make their next instant. No clock that nests so deep or less made an instant.
+-- `rank` says how deep a clock nests, and `sub` has the slots that each crossfade's sub-clock makes.
 pub record IsReached (setting : Setting) (sub : ℕ → ℕ → List Slot) (rank : NodeClock → ℕ) (level : ℕ)
     (touched done : ℕ → Type 0) (progress : Progress) (more : List Call) (all : ClockStates) : Type 0 where
   pub now : Progress
@@ -245,27 +252,30 @@ pub record IsReached (setting : Setting) (sub : ℕ → ℕ → List Slot) (rank
   pub items : (i : ℕ) (node : Node) → done i → slice_get setting.plan.nodes i ≡ Some node
       → HasItem setting sub now i node
 
--- the puts and takes on buffers that instant m of the sub-clock of crossfade k makes
+-- the puts and takes on buffers that instant m of the sub-clock of crossfade k makes; `sub` has the slots that each
+-- crossfade's sub-clock makes
 abbrev pub calls_below : Setting → (sub : ℕ → ℕ → List Slot) → (k m : ℕ) → List Call
 calls_below setting sub k m = calls_of setting sub (Sub k) (first_instants setting sub (Sub k) m)
 
--- Crossfade k was given further slots of its child since this `progress`, for which its sub-clock made instants, with
--- the calls `more`. If it is in `done`, it can make its next instant.
+-- Crossfade k was given further slots of its child since `progress`. Its sub-clock made instants for them, with the
+-- calls `more` on buffers. If k is in the set `done`, it can make its next instant. `rank` says how deep a clock nests,
+-- and `sub` has the slots that each crossfade's sub-clock makes.
 pub record IsFilling (setting : Setting) (sub : ℕ → ℕ → List Slot) (rank : NodeClock → ℕ) (k : ℕ) (done : ℕ → Type 0)
     (progress : Progress) (more : List Call) (all : ClockStates) : Type 0 where
   pub reached : IsReached setting sub rank (rank (clock_of setting k)) (is_node k) done progress more all
   pub low : progress.filled k ≤ reached.now.filled k
   pub calls : more ≡ joined_between (calls_below setting sub k) (progress.filled k) (reached.now.filled k)
 
--- the puts and takes that sub-clocks make for a clock's crossfades with numbers below n, at the clock's instant after
--- this past
+-- The puts and takes that sub-clocks make for a clock's crossfades with numbers below n, at the clock's instant after
+-- this past. `sub` has the slots that each crossfade's sub-clock makes.
 abbrev pub calls_upto : Setting → (sub : ℕ → ℕ → List Slot) → NodeClock → List Moment → (n : ℕ) → List Call
 calls_upto setting sub clock past n =
     joined_upto (λ k. fades_in setting sub (calls_below setting sub) (lies_in setting clock k) past k
     (slice_get setting.plan.nodes k)) n
 
--- A clock has made one instant more, with the calls `more`, and no other clock that nests as deep or less has. Below
--- it, no clock has made more instants than its crossfade asks for.
+-- Since `progress` a clock has made one instant more, with the calls `more` on buffers, and no other clock that nests
+-- as deep or less has. Below it, no clock has made more instants than its crossfade asks for. `rank` says how deep a
+-- clock nests, and `sub` has the slots that each crossfade's sub-clock makes.
 pub record HasMadeInstant (setting : Setting) (sub : ℕ → ℕ → List Slot) (rank : NodeClock → ℕ) (clock : NodeClock)
     (progress : Progress) (more : List Call) (all : ClockStates) : Type 0 where
   pub now : Progress
@@ -281,8 +291,9 @@ pub record HasMadeInstant (setting : Setting) (sub : ℕ → ℕ → List Slot) 
       ≡ (moment_after setting sub clock (first_instants setting sub clock (progress.ran clock))).parts
   pub keeps : IsHeld setting sub clock (first_instants setting sub clock (progress.ran clock)) all.room.held.items
 
--- What is known of a setting, whatever its buffers answer: ranks of its clocks by how deep they nest, the slots `sub`
--- and the calls of its sub-clocks, that no buffer has two readers, and in `own` the nodes that their clock asks for.
+-- What is known of a setting, whatever its buffers answer: `rank` says how deep each clock nests, and `sub` has the
+-- slots that each crossfade's sub-clock makes. The calls of instants follow one rule in all clocks, and no buffer has
+-- two readers. `own` says of each node whether its own clock asks for it.
 pub record IsWorld (setting : Setting) (sub : ℕ → ℕ → List Slot) (rank : NodeClock → ℕ) (own : List Bool) : Type 0 where
   pub ranks : HasRanks setting.clocks rank
   pub meaning : IsMeaning setting sub
@@ -290,7 +301,9 @@ pub record IsWorld (setting : Setting) (sub : ℕ → ℕ → List Slot) (rank :
   pub readers : HasOwnReaders setting
   pub roots : AreOwnRoots setting own
 
--- a clock's instant was made, by these calls: whatever instants the states stood for, and whatever answers follow
+-- A clock's instant at this time was made, and its calls on buffers went through the taps. Whatever instants the old
+-- states stood for, and whatever answers follow, the new ones stand for one more. `stands taps calls` says that taps
+-- have made these calls, and `own` which nodes their own clock asks for.
 pub record InstantMade {T : Type 0} (stands : T → List Call → Type 0) (scene : Scene) (own : List Bool)
     (clock : NodeClock) (time : WeekTime) (old new : ClockStates) (taps_old taps_new : T) : Type 0 where
   pub more : List Call
@@ -302,7 +315,9 @@ pub record InstantMade {T : Type 0} (stands : T → List Call → Type 0) (scene
       → TimeStands setting.start (progress.ran clock) time
       → HasMadeInstant setting sub rank clock progress more new
 
--- memory was refused in an instant of a clock, after its first calls: whatever instants the states stood for
+-- Memory was refused in a clock's instant at this time: the calls `made` are the first of those that the meaning gives
+-- it, whatever instants the states stood for. `stands taps calls` says that taps have made these calls, and `own` which
+-- nodes their own clock asks for.
 pub record InstantStopped {T : Type 0} (stands : T → List Call → Type 0) (scene : Scene) (own : List Bool)
     (clock : NodeClock) (time : WeekTime) (old : ClockStates) (taps_old taps_new : T) : Type 0 where
   pub made : List Call
@@ -314,8 +329,8 @@ pub record InstantStopped {T : Type 0} (stands : T → List Call → Type 0) (sc
       → TimeStands setting.start (progress.ran clock) time
       → IsBegin made (calls_of setting sub clock (first_instants setting sub clock (progress.ran clock)))
 
--- how far a run came once the readers of a clock have begun one instant more: their counts rise, and their buffers'
--- answers grow by those of the calls `more`
+-- How far a run came once the readers of a clock have begun one instant more since `progress`. The counts of these
+-- readers rise by one, and the answers taken grow by those of the calls `more`.
 abbrev pub begun_progress : Setting → NodeClock → Progress → (more : List Call) → Progress
 begun_progress setting clock progress more = record {
   ran = progress.ran;
@@ -323,14 +338,17 @@ begun_progress setting clock progress more = record {
   front = after_calls progress.front more;
 }
 
--- the readers of a clock have begun its next instant, with the calls `more`: takes, if that instant begins a tick
+-- The readers of a clock have begun its next instant after `progress`, with the calls `more`: takes, if that instant
+-- begins a tick, and otherwise none. The states `all` stand for that. `rank` says how deep a clock nests, and `sub` has
+-- the slots that each crossfade's sub-clock makes.
 pub record Opened (setting : Setting) (sub : ℕ → ℕ → List Slot) (rank : NodeClock → ℕ) (clock : NodeClock)
     (progress : Progress) (more : List Call) (all : ClockStates) : Type 0 where
   pub stand : Stand setting sub rank (rank clock) (begun_progress setting clock progress more) all
   pub calls : more ≡ takes_at setting clock (first_instants setting sub clock (progress.ran clock))
 
--- The readers of a clock began its instant at this time and made these calls, which are takes if it begins a tick.
--- This holds whatever instants the old states stood for, and whatever answers follow.
+-- The readers of a clock began its instant at this time, and made calls, which are takes if it begins a tick. This
+-- holds whatever instants the old states stood for, and whatever answers follow. `stands taps calls` says that taps
+-- have made these calls.
 pub record ClockOpened {T : Type 0} (stands : T → List Call → Type 0) (scene : Scene) (clock : NodeClock)
     (time : WeekTime) (old new : ClockStates) (taps_old taps_new : T) : Type 0 where
   pub more : List Call
@@ -342,8 +360,9 @@ pub record ClockOpened {T : Type 0} (stands : T → List Call → Type 0) (scene
       → TimeStands setting.start (progress.ran clock) time
       → Opened setting sub rank clock progress more new
 
--- Memory was refused while the readers of a clock began its instant at this time: the calls `made` are the first of
--- the takes that the instant's meaning has, whatever instants the states stood for.
+-- Memory was refused while the readers of a clock began its instant at this time. The calls `made` are the first of the
+-- takes that the meaning gives that instant, whatever instants the states stood for. `stands taps calls` says that taps
+-- have made these calls.
 pub record OpeningStopped {T : Type 0} (stands : T → List Call → Type 0) (scene : Scene) (clock : NodeClock)
     (time : WeekTime) (old : ClockStates) (taps_old taps_new : T) : Type 0 where
   pub made : List Call
@@ -355,8 +374,9 @@ pub record OpeningStopped {T : Type 0} (stands : T → List Call → Type 0) (sc
       → TimeStands setting.start (progress.ran clock) time
       → IsBegin made (takes_at setting clock (first_instants setting sub clock (progress.ran clock)))
 
--- Node k, if it is a crossfade, knows its item, which is what it plays next, and its sub-clock made these calls for
--- it. This holds whatever instants the old states stood for, and whatever answers follow.
+-- Node k, if it is a crossfade, knows its item, which is what it plays next. Its sub-clock made the calls `more` on
+-- buffers for it, whatever instants the old states stood for, and whatever answers follow. `stands taps calls` says
+-- that taps have made these calls, and `own` which nodes their own clock asks for.
 pub record NodeSettled {T : Type 0} (stands : T → List Call → Type 0) (scene : Scene) (own : List Bool) (k : ℕ)
     (old new : ClockStates) (taps_old taps_new : T) : Type 0 where
   pub more : List Call
@@ -368,8 +388,8 @@ pub record NodeSettled {T : Type 0} (stands : T → List Call → Type 0) (scene
       → (reads_at setting k ≡ true → progress.filled k ≡ suc (progress.ran (clock_at scene.clocks.now k)))
       → IsFilling setting sub rank k (is_node k) progress more new
 
--- memory was refused while crossfade k was fed: the calls `made` are the first of those that its sub-clock makes for
--- its item, which is what it plays next
+-- Memory was refused while crossfade k was given slots of its child. The calls `made` are the first of those that its
+-- sub-clock makes for its item, which is what it plays next. `sub` has the slots that each crossfade's sub-clock makes.
 pub record IsFillingStopped (setting : Setting) (sub : ℕ → ℕ → List Slot) (progress : Progress) (k : ℕ)
     (made : List Call) : Type 0 where
   pub overlap : ℕ
@@ -380,8 +400,9 @@ pub record IsFillingStopped (setting : Setting) (sub : ℕ → ℕ → List Slot
       (joined_between (calls_below setting sub k) (progress.filled k)
       (run_of overlap (sub k) (position (past_of setting sub progress.ran k) k)))
 
--- memory was refused while crossfade k was fed: the calls `made` are the first of those for its item, which is what it
--- plays next, whatever instants the states stood for
+-- Memory was refused while crossfade k was given slots of its child. The calls `made` are the first of those for its
+-- item, which is what it plays next, whatever instants the states stood for. `stands taps calls` says that taps have
+-- made these calls, and `own` which nodes their own clock asks for.
 pub record NodeStopped {T : Type 0} (stands : T → List Call → Type 0) (scene : Scene) (own : List Bool) (k : ℕ)
     (old : ClockStates) (taps_old taps_new : T) : Type 0 where
   pub made : List Call
@@ -392,16 +413,18 @@ pub record NodeStopped {T : Type 0} (stands : T → List Call → Type 0) (scene
       → Stand setting sub rank (rank (clock_at scene.clocks.now k)) progress old
       → IsFillingStopped setting sub progress k made
 
--- The crossfades of a clock with numbers below `below` know their items, which is what they play next. The calls
--- `more` are those of the instants that their sub-clocks made for it.
+-- Since `progress`, the crossfades of a clock with numbers below `below` came to know their items, which is what they
+-- play next. The calls `more` are those of the instants that their sub-clocks made for it. `rank` says how deep a clock
+-- nests, and `sub` has the slots that each crossfade's sub-clock makes.
 pub record AreFilled (setting : Setting) (sub : ℕ → ℕ → List Slot) (rank : NodeClock → ℕ) (clock : NodeClock)
     (below : ℕ) (progress : Progress) (more : List Call) (all : ClockStates) : Type 0 where
   pub reached : IsReached setting sub rank (rank clock) (is_upto setting.clocks clock below)
       (is_upto setting.clocks clock below) progress more all
   pub calls : more ≡ calls_upto setting sub clock (first_instants setting sub clock (progress.ran clock)) below
 
--- A clock's next instant has begun, and its crossfades are still to be fed: each was given just the slots of its child
--- that the instants before took, and the readers have begun the instant.
+-- A clock's next instant has begun, and its crossfades are still to be fed. Each was given just the slots of its child
+-- that the instants before took, and the readers have begun the instant. `sub` has the slots that each crossfade's
+-- sub-clock makes.
 pub record AreReady (setting : Setting) (sub : ℕ → ℕ → List Slot) (clock : NodeClock) (progress : Progress)
     : Type 0 where
   pub each : (k overlap : ℕ) (node : Node) → slice_get setting.plan.nodes k ≡ Some node
@@ -411,8 +434,9 @@ pub record AreReady (setting : Setting) (sub : ℕ → ℕ → List Slot) (clock
   pub begun : (i : ℕ) → reads_at setting i ≡ true → clock_of setting i ≡ clock
       → progress.filled i ≡ suc (progress.ran clock)
 
--- The crossfades of a clock with numbers below `below` know their items, which is what they play next, and these calls
--- were made for it. This holds whatever instants the old states stood for, and whatever answers follow.
+-- The crossfades of a clock with numbers below `below` know their items, which is what they play next, and the calls
+-- `more` were made for it. This holds whatever instants the old states stood for, and whatever answers follow.
+-- `stands taps calls` says that taps have made these calls, and `own` which nodes their own clock asks for.
 pub record AllSettled {T : Type 0} (stands : T → List Call → Type 0) (scene : Scene) (own : List Bool)
     (clock : NodeClock) (below : ℕ) (old new : ClockStates) (taps_old taps_new : T) : Type 0 where
   pub more : List Call
@@ -423,8 +447,9 @@ pub record AllSettled {T : Type 0} (stands : T → List Call → Type 0) (scene 
       → Stand setting sub rank (rank clock) progress old → AreReady setting sub clock progress
       → AreFilled setting sub rank clock below progress more new
 
--- Memory was refused while a clock's crossfades were fed: the calls `made` are the first of those for their items,
--- which is what they play next. This holds whatever instants the states stood for.
+-- Memory was refused while a clock's crossfades were given slots of their children. The calls `made` are the first of
+-- those for their items, which is what they play next, whatever instants the states stood for. `stands taps calls` says
+-- that taps have made these calls, and `own` which nodes their own clock asks for.
 pub record SettlingStopped {T : Type 0} (stands : T → List Call → Type 0) (scene : Scene) (own : List Bool)
     (clock : NodeClock) (old : ClockStates) (taps_old taps_new : T) : Type 0 where
   pub made : List Call

@@ -24,8 +24,9 @@ pub record IsStretchOf (slots : ℕ → Slot) (many : ℕ) (first : Slot) (left 
   pub titled : is_some first ≡ true → AreTitled slots many (title_of first)
   pub silent : is_some first ≡ false → (j : ℕ) → j < many → slots j ≡ None
 
--- A clock has made `many` instants at once after its latest one, number n, without a call. No other clock that nests
--- as deep or less has made one. The nodes that the clock asks for have left their samples.
+-- A clock has made `many` instants at once after its latest one, number n, without a call on a buffer. No other clock
+-- that nests as deep (`rank`) or less has made one since `progress`. The nodes that the clock asks for (`own`) have
+-- left their samples. `sub` has the slots that each crossfade's sub-clock makes.
 pub record HasMadeOn (setting : Setting) (sub : ℕ → ℕ → List Slot) (rank : NodeClock → ℕ) (own : List Bool)
     (clock : NodeClock) (n many : ℕ) (progress : Progress) (all : ClockStates) : Type 0 where
   pub now : Progress
@@ -44,8 +45,9 @@ pub record HasMadeOn (setting : Setting) (sub : ℕ → ℕ → List Slot) (rank
       (offer (moment_after setting sub clock (first_instants setting sub clock n)) i)
       (samples_of all.room.left.items i many) (samples_of all.room.right.items i many)
 
--- A clock whose latest instant is number n can make `many` more as that one: the states stand for the instants up to
--- n, no deeper clock ran further than needed, and so many instants go on.
+-- A clock whose latest instant is number n can make `many` more as that one. The states stand for the instants up to n,
+-- no deeper clock ran further than needed, and so many instants go on. `rank` says how deep a clock nests, `own` which
+-- nodes their clock asks for, and `sub` has the slots that each crossfade's sub-clock makes.
 pub record CanGoOn (setting : Setting) (sub : ℕ → ℕ → List Slot) (rank : NodeClock → ℕ) (own : List Bool)
     (clock : NodeClock) (n many : ℕ) (progress : Progress) (all : ClockStates) : Type 0 where
   pub world : IsWorld setting sub rank own
@@ -55,8 +57,8 @@ pub record CanGoOn (setting : Setting) (sub : ℕ → ℕ → List Slot) (rank :
   pub goes : GoesOnFor setting sub clock (first_instants setting sub clock n) many progress.filled all.room.held.items
       all.states.items
 
--- A clock can make `many` instants at once, at most 2048 and a second's: the states fit the scene, a plan with its
--- files and clocks, and no count of further instants is kept of this clock.
+-- A clock can make `many` instants at once: at least one, at most 2048, and at most those of a second. Its states fit
+-- the scene, which is a plan with its files and clocks. No count of further instants that go on is kept of this clock.
 pub record CanRunClock (over : Scene) (clock : NodeClock) (many : ℕ) (all : ClockStates) : Type 0 where
   pub scene : IsScene over
   pub clocks : AreClockStates over all
@@ -65,8 +67,8 @@ pub record CanRunClock (over : Scene) (clock : NodeClock) (many : ℕ) (all : Cl
   pub short : many ≤ 2048
   pub later : many ≤ over.plan.now.rate
 
--- A clock made `many` instants that go on as its latest one: whatever instants the old states stood for, if so many
--- can go on, the new states stand for them too.
+-- A clock made `many` instants at once that go on as its latest one, and its states `old` came to `new`. Whatever
+-- instants the old states stood for, if so many can go on, the new states stand for them too.
 pub record ClockMade (scene : Scene) (clock : NodeClock) (many : ℕ) (old new : ClockStates) : Type 0 where
   pub run : (other : Setting) (sub : ℕ → ℕ → List Slot) (rank : NodeClock → ℕ) (progress : Progress)
       (own : List Bool) (n : ℕ) →
@@ -74,8 +76,8 @@ pub record ClockMade (scene : Scene) (clock : NodeClock) (many : ℕ) (old new :
       CanGoOn setting sub rank own clock n many progress old
       → HasMadeOn setting sub rank own clock n many progress new
 
--- `many` instants of a clock were made after its latest one, which was at this time: whatever instants the states stood
--- for
+-- A clock made `many` instants at once after its latest one, which was at this time, and its states `old` came to
+-- `new`. Whatever instants the old states stood for, the new ones stand for these too.
 pub record StretchMade (scene : Scene) (clock : NodeClock) (time : WeekTime) (many : ℕ) (old new : ClockStates)
     : Type 0 where
   pub run : (other : Setting) (sub : ℕ → ℕ → List Slot) (rank : NodeClock → ℕ) (progress : Progress)
@@ -89,15 +91,15 @@ pub record StretchMade (scene : Scene) (clock : NodeClock) (time : WeekTime) (ma
       → TimeStands setting.start n time
       → HasMadeOn setting sub rank own clock n many progress new
 
--- crossfade k can be given the slots of `many` instants of its sub-clock that are made at once: its clock can run so
--- many, and it has room for as many cells
+-- Crossfade k can be given the slots of `many` instants of its sub-clock that are made at once: it has room for as many
+-- cells. The clock in which it lies meets what so many instants at once need.
 pub record CanFillLane (scene : Scene) (k many : ℕ) (all : ClockStates) : Type 0 where
   pub ready : CanRunClock scene (clock_at scene.clocks.now k) many all
   pub within : k < length scene.plan.now.nodes
   pub room : many ≤ room_at all.states.items k
 
--- after an instant of its sub-clock at this time, crossfade k was given more slots without a call, whatever it was
--- given before
+-- Crossfade k may have been given more slots of its child, of instants that go on as the latest one of its sub-clock,
+-- which was at this time. No call on a buffer was made for them. This holds whatever it was given before.
 pub record FilledOn (scene : Scene) (k : ℕ) (time : WeekTime) (old new : ClockStates) : Type 0 where
   pub filled : (other : Setting) (sub : ℕ → ℕ → List Slot) (rank : NodeClock → ℕ) (progress : Progress)
       (more : List Call) (own : List Bool) (n : ℕ) →
@@ -110,8 +112,9 @@ pub record FilledOn (scene : Scene) (k : ℕ) (time : WeekTime) (old new : Clock
       → TimeStands setting.start n time
       → IsFilling setting sub rank k is_none progress more new
 
--- The sub-clocks of a clock's crossfades with numbers below `below`, but only where cells pass (`through`), made
--- `many` instants more, without a call. Their crossfades' children left samples for them.
+-- Since `progress`, sub-clocks of a clock's crossfades made `many` instants more, without a call on a buffer. These are
+-- the crossfades with numbers below `below` through which cells pass (`through`). Their children left samples for them.
+-- `rank` says how deep a clock nests, and `sub` has the slots that each crossfade's sub-clock makes.
 pub record SubsMade (setting : Setting) (sub : ℕ → ℕ → List Slot) (rank : NodeClock → ℕ) (clock : NodeClock) (many : ℕ)
     (through : ℕ → Bool) (below : ℕ) (progress : Progress) (all : ClockStates) : Type 0 where
   pub now : Progress
@@ -141,8 +144,8 @@ pub record SubsMade (setting : Setting) (sub : ℕ → ℕ → List Slot) (rank 
   pub inside : (k : ℕ) → k < length setting.plan.nodes → clock_of setting k ≡ clock → k < below → through k ≡ true
       → clock_of setting (crossfaded setting.plan.nodes k) ≡ Sub k
 
--- of a clock's crossfades below node `below`, the sub-clocks of those through which cells pass at its latest instant
--- have made `many` instants more: whatever instants the states stood for
+-- The sub-clocks of some of a clock's crossfades made `many` instants more, whatever instants the old states stood for.
+-- These are the crossfades with numbers less than `below` through which cells pass at the clock's latest instant.
 pub record SubClocksMade (scene : Scene) (clock : NodeClock) (many below : ℕ) (old new : ClockStates) : Type 0 where
   pub run : (other : Setting) (sub : ℕ → ℕ → List Slot) (rank : NodeClock → ℕ) (progress : Progress)
       (own : List Bool) (n : ℕ) →
@@ -152,8 +155,8 @@ pub record SubClocksMade (scene : Scene) (clock : NodeClock) (many below : ℕ) 
       (goes_through (moment_after setting sub clock (first_instants setting sub clock n)) old.states.items) below
       progress new
 
--- if node i is a crossfade through which cells pass, its sub-clock has made `many` instants more, after those of the
--- crossfades of its clock below it
+-- If node i is a crossfade through which cells pass, its sub-clock made `many` instants more. The sub-clocks of the
+-- crossfades of its clock with smaller numbers had made theirs before.
 pub record SubClockMade (scene : Scene) (i many : ℕ) (old new : ClockStates) : Type 0 where
   pub step : (other : Setting) (sub : ℕ → ℕ → List Slot) (rank : NodeClock → ℕ) (progress : Progress)
       (own : List Bool) (through : ℕ → Bool) →
@@ -162,8 +165,8 @@ pub record SubClockMade (scene : Scene) (i many : ℕ) (old new : ClockStates) :
       → SubsMade setting sub rank (clock_at scene.clocks.now i) many through i progress old
       → SubsMade setting sub rank (clock_at scene.clocks.now i) many through (suc i) progress new
 
--- a step leaves these alone: in clocks that nest no deeper than `level`, nodes but for those `touched` keep the first
--- `many` samples that they left
+-- A step, from the states `old` to `new`, leaves samples alone. In clocks that nest no deeper than `level`, nodes but
+-- for those `touched` keep the first `many` samples that they left. `rank` says how deep a clock nests.
 pub record AreSamplesLeft (clocks : List NodeClock) (rank : NodeClock → ℕ) (level : ℕ) (touched : ℕ → Type 0) (many : ℕ)
     (old new : ClockStates) : Type 0 where
   pub left : (i : ℕ) → (touched i → ⊥) → rank (clock_at clocks i) ≤ level
@@ -171,8 +174,9 @@ pub record AreSamplesLeft (clocks : List NodeClock) (rank : NodeClock → ℕ) (
   pub right : (i : ℕ) → (touched i → ⊥) → rank (clock_at clocks i) ≤ level
       → samples_of new.room.right.items i many ≡ samples_of old.room.right.items i many
 
--- A step leaves these alone: in clocks that nest no deeper than `level`, nodes keep their states and what they gave;
--- but for those `touched`, their sub-clocks keep their times and counts. Each node keeps its lanes.
+-- A step, from the states `old` to `new`, leaves these alone: in clocks that nest no deeper than `level`, nodes keep
+-- their states and what they gave. But for nodes `touched`, their sub-clocks keep their times and the counts of
+-- instants that go on. Each node keeps its lanes. `rank` says how deep a clock nests.
 pub record AreAbove (clocks : List NodeClock) (rank : NodeClock → ℕ) (level : ℕ) (touched : ℕ → Type 0)
     (old new : ClockStates) : Type 0 where
   pub states : (i : ℕ) → rank (clock_at clocks i) ≤ level → slice_get new.states.items i ≡ slice_get old.states.items i

@@ -13,7 +13,7 @@ pub record Selection : Type 0 where
   pub children : ℕ
   pub last : Option ℕ
 
--- the child used last, by the children used at the instants so far, the latest first; none where there was none
+-- the child that a selection used last, by the children that it used so far, the latest first; none where it used none
 abbrev pub last_used : List ℕ → Option ℕ
 last_used [] = None
 last_used (child ∷ used) = Some child
@@ -31,27 +31,30 @@ abbrev pub plays_on : List Slot → (last : Option ℕ) → Bool
 plays_on slots None = false
 plays_on slots (Some last) = goes_on slots last
 
--- the least eligible child that offers, where the first of these slots is that of child `from`
+-- the first child that offers a cell and is eligible, as a case of a switch that holds; the first of these slots is
+-- that of child `from`
 abbrev pub first_ready : List Slot → List Bool → ℕ → Option ℕ
 first_ready [] eligible from = None
 first_ready (slot ∷ slots) [] from = None
 first_ready (slot ∷ slots) (mark ∷ eligible) from =
     if mark && is_some slot then Some from else first_ready slots eligible (suc from)
 
--- the least child that offers, where the first of these slots is that of child `from`
+-- the first child that offers a cell, where the first of these slots is that of child `from`; none where no child
+-- offers
 abbrev pub first_offering : List Slot → ℕ → Option ℕ
 first_offering [] from = None
 first_offering (slot ∷ slots) from = if is_some slot then Some from else first_offering slots (suc from)
 
--- the child of a fallback or a switch: the one used last, where it is track-sensitive and that child goes on with its
--- track; otherwise the first eligible child that offers
+-- The child that a fallback or a switch uses. If it is track-sensitive (true) and the child used last goes on with its
+-- track, it is that one. Otherwise it is the first that offers a cell and is eligible: of a switch, its case holds.
 abbrev pub first_pick : Bool → List Slot → List Bool → Option ℕ → Option ℕ
 first_pick true slots eligible (Some last) = if goes_on slots last then Some last else first_ready slots eligible 0
 first_pick true slots eligible None = first_ready slots eligible 0
 first_pick false slots eligible last = first_ready slots eligible 0
 
--- the child of a sequence: the first that offers, where none was used; the last of all once it was used, if it offers;
--- the one used last while it goes on with its track; otherwise the first after it that offers
+-- The child that a sequence uses. While the one used last goes on with its track, it is that one, and then the first
+-- after it that offers. The last of all stays once it was used, if it offers. If none was used, it is the first that
+-- offers.
 abbrev pub turn_pick : List Slot → Option ℕ → Option ℕ
 turn_pick slots None = first_offering slots 0
 turn_pick slots (Some last) =
@@ -59,7 +62,8 @@ turn_pick slots (Some last) =
     else if goes_on slots last then Some last
     else first_offering (drop (suc last) slots) (suc last)
 
--- the child that a selection of this rule uses, by its children's slots, which are eligible, and the one used last
+-- the child that a selection of this rule uses, by its children's slots, which of them are eligible (of a switch, its
+-- case holds), and the one used last
 abbrev pub pick_of : Rule → List Slot → List Bool → Option ℕ → Option ℕ
 pick_of (First sensitive) slots eligible last = first_pick sensitive slots eligible last
 pick_of Turns slots eligible last = turn_pick slots last
@@ -69,13 +73,14 @@ abbrev pub is_last : Option ℕ → ℕ → Bool
 is_last None child = false
 is_last (Some last) child = nat_eq last child
 
--- the child's cell, which is marked also where another child was used last, or none
+-- The cell of the child that a selection uses, as the selection offers it. It is marked as the beginning of a track
+-- also if the child used last was another one, or none.
 abbrev pub picked_cell : Option ℕ → ℕ → Cell → Cell
 picked_cell last child cell =
     record { left = cell.left; right = cell.right; first = cell.first || not (is_last last child); title = cell.title }
 
--- what a selection offers with this child, where `last` is the one used last; nothing without a child, or where that
--- offers nothing
+-- What a selection offers if it uses this child, where `last` is the child used last: the child with its cell. It
+-- offers nothing without a child, or where the child offers nothing.
 abbrev pub picked : List Slot → Option ℕ → Option ℕ → Option Picked
 picked slots last None = None
 picked slots last (Some child) = with_cell (slot_at slots child)
@@ -84,7 +89,8 @@ picked slots last (Some child) = with_cell (slot_at slots child)
     with_cell None = None
     with_cell (Some cell) = Some (record { child = child; cell = picked_cell last child cell })
 
--- what a selection offers, by its children's slots and which of them are eligible
+-- what a selection offers, by its children's slots and which of them are eligible: the child that it uses and its cell,
+-- or nothing
 abbrev pub offered : Selection → List Slot → List Bool → Option Picked
 offered selection slots eligible =
     picked slots selection.last (pick_of selection.rule slots eligible selection.last)

@@ -19,14 +19,15 @@ use Rattle.clock_forcings.specs.Forcings.{id_or}
 use Rattle.plan_blames.specs.Needs.{needs}
 use Rattle.plan_blames.specs.Texts.{escaped}
 
--- Whether source n is red for a silence: it is the one `refused`, or it may offer nothing (`mark` is false) and a red
--- source needs it. `behind` are the sources after it, and `reds` says of each whether it is red.
+-- Whether a picture shows source n red for a silence. It is the source `refused`, of an output that may fall silent; or
+-- it may offer nothing itself (`mark` is false) and a red source needs it. `behind` are the sources with greater
+-- numbers, and `reds` says of each whether it is red.
 abbrev pub is_to_blame : (mark : ℕ → Bool) → (refused n : ℕ) → (behind : List Node) → (reds : List Bool) → Bool
 is_to_blame mark refused n behind reds = nat_eq n refused
     || (not (mark n) && list_any (λ pair. pair.1 && needs (pair.0).op (pair.0).children n) (zip behind reds))
 
--- of each of these sources, the first of which has number n, whether it is red for the silence of source `refused`;
--- `mark` says whether a source always offers something
+-- Of each of these sources, the first of which has number n, whether a picture shows it red for a silence. `refused` is
+-- the source of an output that may fall silent; `mark` says whether a source always offers something.
 abbrev pub reds_from : (mark : ℕ → Bool) → (refused n : ℕ) → List Node → List Bool
 reds_from mark refused n [] = []
 reds_from mark refused n (node ∷ nodes) = is_to_blame mark refused n nodes (reds_from mark refused (suc n) nodes)
@@ -52,7 +53,7 @@ name_text (Named id) = escaped id
 name_text (ClockName.Sub k) = codes "crossfade " ++ decimal k
 name_text AnyMain = codes "an output"
 
--- how a picture calls two clocks that were asked for
+-- how a picture calls two clocks that were both asked for, for one source: their names with `and` between
 abbrev pub both_names : (first second : ClockName) → List ℕ
 both_names first second = name_text first ++ (codes " and " ++ name_text second)
 
@@ -71,7 +72,8 @@ asks AnyMain k op = false
 abbrev pub either_asks : (first second : ClockName) → (k : ℕ) → Op → Bool
 either_asks first second k op = asks first k op || asks second k op
 
--- which clock source k wants for what it plays: a line of its label
+-- the line in the label of source k that says which clock it wants for what it plays: a clock node the one of its id,
+-- and another its own
 abbrev pub asking : (k : ℕ) → Op → List ℕ
 asking k (Clock id) = codes "\\nwants clock " ++ (escaped (id_or k id) ++ codes " for what it plays")
 asking k _ = codes "\\nwants its own clock for what it plays"
@@ -85,17 +87,18 @@ clock_red (Err (Nested node)) k op = nat_eq node k
 clock_red (Err TooManyClocks) k op = false
 clock_red (Err Memory) k op = false
 
--- the line of the source that two clocks would drive, if a source is that one
+-- the line in the label of the source that two clocks would drive, with the names of both; nothing for any other source
 abbrev pub shared_words : (is_it : Bool) → (first second : ClockName) → List ℕ
 shared_words true first second = codes "\\nE26 under clocks " ++ both_names first second
 shared_words false first second = []
 
--- the line of source k, if it asks for a clock: which one it wants
+-- the line in the label of source k that says which clock it wants, if it asks for one of the two that would drive one
+-- source; otherwise nothing
 abbrev pub asking_words : (asks : Bool) → (k : ℕ) → Op → List ℕ
 asking_words true k op = asking k op
 asking_words false k op = []
 
--- the line of the crossfade that lies in its own clock, if a source is that one
+-- the line in the label of the crossfade that lies in its own clock; nothing for any other source
 abbrev pub nested_words : (is_it : Bool) → List ℕ
 nested_words true = codes "\\nE27 lies in its own clock"
 nested_words false = []
@@ -109,23 +112,26 @@ clock_words (Err (Nested node)) k op = nested_words (nat_eq node k)
 clock_words (Err TooManyClocks) k op = []
 clock_words (Err Memory) k op = []
 
--- whether source k is red: for the silence, if the plan is refused for one, and otherwise for a fault of clocks
+-- Whether a picture shows source k red. If the plan is refused for a silence (`silent`), `reds` says so of each source;
+-- otherwise it is red for its part in a fault of clocks.
 abbrev pub node_red : (silent : Bool) → (reds : List Bool) → Result ClockMap ClockFault → (k : ℕ) → Op → Bool
 node_red true reds clocks k op = mark_at reds k
 node_red false reds clocks k op = clock_red clocks k op
 
--- the line of a source that may be red for a silence: its reason, if it is red
+-- the line in the label of a source that is red for a silence: why it may offer nothing, if the cause lies in itself;
+-- nothing for a source that is not red
 abbrev pub reason_words : (red : Bool) → Node → List ℕ
 reason_words true node = reason node.op node.children
 reason_words false node = []
 
--- the lines that say why source k is red: for the silence, if the plan is refused for one, and otherwise for a fault of
--- clocks
+-- The lines in the label of source k that say why it is red. If the plan is refused for a silence (`silent`), it is why
+-- it may offer nothing; otherwise it is its part in a fault of clocks.
 abbrev pub red_words : (silent red : Bool) → Result ClockMap ClockFault → (k : ℕ) → Node → List ℕ
 red_words true red clocks k node = reason_words red node
 red_words false red clocks k node = clock_words clocks k node.op
 
--- whether the edge from this child to source k is red; `silent` says that the plan is refused for a silence
+-- Whether a picture shows the edge from this child to source k red. If the plan is refused for a silence (`silent`), it
+-- is if both are red, by `reds`; otherwise, if k is a crossfade that lies in its own clock.
 abbrev pub edge_red : (silent : Bool) → (reds : List Bool) → Result ClockMap ClockFault → (k child : ℕ) → Bool
 edge_red true reds clocks k child = mark_at reds k && mark_at reds child
 edge_red false reds (Err (Nested node)) k child = nat_eq node k

@@ -9,7 +9,8 @@ use Rattle.script_grammar.specs.declared.tree.Operand as operand
 abbrev pub lone : Bool → Tree AnOperand → Tree AnExpr
 lone negated p = Expr (And (Not negated (Alone (Sum (Product p none) none))) none) none
 
--- the expression e is no more than its operand p, without any operator, and p is a smaller part of e
+-- The expression e is the operand p alone, without any operator. Its tree of the grammar says so, and p is smaller than
+-- e, so that recursion from e to p ends.
 pub record IsLone (e : expr.Expr) (p : operand.Operand) : Type 0 where
   pub seen : view_expr e ≡ lone false (view_operand p)
   pub below : operand.size-Operand p < expr.size-Expr e

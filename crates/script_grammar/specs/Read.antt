@@ -18,7 +18,7 @@ abbrev pub ◌>>=◌ : {A B : Type 0} → Result A ℕ → (A → Result B ℕ) 
 (Ok x) >>= f = f x
 (Err e) >>= f = Err e
 
--- ends a reading: the value that was read is changed by f, and the tokens behind it stay
+-- ends a rule of reading: f is applied to the value that was read, and the tokens behind it stay
 abbrev pub made : {A B : Type 0} → (A → B) → A × List TokenKind → Read B
 made f x = Ok (f x.0, x.1)
 

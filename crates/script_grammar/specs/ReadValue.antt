@@ -34,8 +34,8 @@ optional (Symbol sign.OpenRound ∷ r) =
     ]
 optional w = false
 
--- whether `%wav` has its option here: where a `(` may also stand behind it for another reason (true), only if all of
--- `(samplesize =` does; otherwise by `(` alone
+-- Whether `%wav` has its option where these tokens are left. If a `(` may stand behind it for another reason too
+-- (true), only if they begin with `(samplesize =`. Otherwise (false) it has it if a `(` is next.
 abbrev pub takes_option : Bool → List TokenKind → Bool
 takes_option true w = optional w
 takes_option false w = next is_open_round w
@@ -82,12 +82,14 @@ arg stamp full w = full w >>= made (Arg (stamp (length w)) None)
 unfoldable pub args : (ℕ → ℕ) → Reader (Tree AFull) → Reader (Tree (Many AnArg))
 args stamp full w = closed is_comma is_close_round (arg stamp full) w
 
--- what stands in parentheses, from the token `at`: the one value f in them, or a tuple of f and others
+-- The tree of what stands in parentheses, of which the first token has index `at`: the one value f, or a tuple of f and
+-- others
 abbrev pub round_of : ℕ → Tree AFull → Tree (Many AFull) → Tree AnOperand
 round_of at f none = Paren f
 round_of at f (more g rest) = Tuple at f g rest
 
--- what stands in parentheses, from the token `at`: nothing, one value, or a tuple
+-- The tree of what stands in parentheses, of which the first token has index `at`: the unit `()` for no value, one
+-- value, or a tuple of more
 abbrev pub round_or_unit : ℕ → Tree (Many AFull) → Tree AnOperand
 round_or_unit at none = Nothing at
 round_or_unit at (more f rest) = round_of at f rest
@@ -155,7 +157,9 @@ abbrev pub next_op : List TokenKind → Option CompareOp
 next_op [] = None
 next_op (k ∷ r) = op_of k
 
--- reads on from a sum `left`: it stands alone, or is compared by the operator that stands next with the sum behind it
+-- Reads on from a sum `left`: it stands alone, or it is compared by the operator that is next, with the sum behind
+-- that. `full` reads a value, and `stamp` makes the index of a token of the number of tokens that are left. `loose`
+-- says that a `(` may stand behind the value for another reason than %wav.
 abbrev pub behind_op : Bool → (ℕ → ℕ) → Reader (Tree AFull) → Tree ASum → Option CompareOp → Reader (Tree ACompare)
 behind_op loose stamp full left None w = Ok (Alone left, w)
 behind_op loose stamp full left (Some op) [] = Err 0

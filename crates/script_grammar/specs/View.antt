@@ -46,7 +46,8 @@ abbrev pub por_of : Tree (Many APAnd) → Tree APOr
 por_of none = POr (PAnd (PNot false FalseAtom) none) none
 por_of (more p rest) = POr p rest
 
--- Values in parentheses. A tuple of one value or none, which no tree of the grammar has, stands for what it looks like.
+-- The tree of values in parentheses, of which the first token has index `at`. No value at all is the unit `()`, one
+-- value is a value in parentheses, and two or more are a tuple.
 abbrev pub tuple_of : ℕ → Tree (Many AFull) → Tree AnOperand
 tuple_of at none = Nothing at
 tuple_of at (more f none) = Paren f
@@ -76,8 +77,8 @@ abbrev mutual
   view_patom (patom.Between a b) = IntervalAtom a b
   view_patom (patom.Paren' p inside) = Grouped (view_por inside)
 
--- the tree of the grammar, as the rules speak of it, for which an atom of a predicate, behind `not` or not, stands as
--- the program holds it
+-- turns an atom of a predicate, behind `not` or not, in the form that the program holds, into its tree of the grammar
+-- of scripts, of which the rules speak
 abbrev pub view_pnot : pnot.PNot → Tree APNot
 view_pnot n = PNot n.negated (view_patom n.atom)
 
@@ -154,61 +155,63 @@ abbrev mutual
   view_args call.end_of-Arg = none
   view_args (call.more_of-Arg at name f rest) = more (Arg at name (view_full f)) (view_args rest)
 
--- the tree of the grammar, as the rules speak of it, for which an operand behind `*` or `/` stands as the program
--- holds it
+-- turns an operand behind `*` or `/`, in the form that the program holds, into its tree of the grammar of scripts, of
+-- which the rules speak
 abbrev pub view_multiplied : multiplied.Multiplied → Tree AMultiplied
 view_multiplied m = Multiplied m.at m.divide (view_operand m.operand)
 
--- the tree of the grammar, as the rules speak of it, for which an argument of a call, with its label or without,
--- stands as the program holds it
+-- turns an argument of a call, with its label or without, in the form that the program holds, into its tree of the
+-- grammar of scripts, of which the rules speak
 abbrev pub view_arg : arg.Arg → Tree AnArg
 view_arg a = Arg a.at a.label (view_full a.value)
 
--- the tree of the grammar, as the rules speak of it, for which an `if` with its three values stands as the program
--- holds it
+-- turns an `if` with its three values, in the form that the program holds, into its tree of the grammar of scripts, of
+-- which the rules speak
 abbrev pub view_if : if_.If → Tree AnIf
 view_if i = If i.at (view_full i.condition.value) (view_full i.then_part.value) (view_full i.else_part.value)
 
--- the tree of the grammar, as the rules speak of it, for which a binding of a name to a value stands as the program
--- holds it
+-- turns a binding of a name to a value, in the form that the program holds, into its tree of the grammar of scripts, of
+-- which the rules speak
 abbrev pub view_bind : bind.Bind → Tree ABind
 view_bind b = Bind b.at b.name (view_full b.value)
 
--- the tree of the grammar, as the rules speak of it, for which a binding in the body of a def stands as the program
--- holds it
+-- turns a binding in the body of a def, in the form that the program holds, into its tree of the grammar of scripts, of
+-- which the rules speak
 abbrev pub view_inner : inner.Inner → Tree AnInner
 view_inner i = Inner (view_bind i.bind) i.semicolon
 
--- the tree of the grammar for a parameter of a def: by the place of its name, the name, and whether it is plain,
--- labelled or optional
+-- The tree of the grammar for a parameter of a def, which is plain, labelled or optional. `at` is the index of the
+-- token of its name.
 abbrev pub param_of : ℕ → List ℕ → ParamForm → Tree AParam
 param_of at name form.Plain = Param at name
 param_of at name form.Labelled = Labelled at name
 param_of at name (form.Optional f) = Optional at name (view_full f)
 
--- the tree of the grammar, as the rules speak of it, for which a parameter of a def stands as the program holds it
+-- turns a parameter of a def, in the form that the program holds, into its tree of the grammar of scripts, of which the
+-- rules speak
 abbrev pub view_param : param.Param → Tree AParam
 view_param p = param_of p.at p.name p.form
 
--- the tree of the grammar, as the rules speak of it, for which a def, with its parameters, bindings and result, stands
--- as the program holds it
+-- turns a def, with its parameters, bindings and result, in the form that the program holds, into its tree of the
+-- grammar of scripts, of which the rules speak
 abbrev pub view_def : def.Def → Tree ADef
 view_def d = Def d.at d.name (listed (map view_param d.params.items)) d.equals (listed (map view_inner d.inner.items))
     (view_expr d.result)
 
--- the tree of the grammar, as the rules speak of it, for which a statement without its `;` stands as the program holds
--- it
+-- turns a statement without its `;`, in the form that the program holds, into its tree of the grammar of scripts, of
+-- which the rules speak
 abbrev pub view_part : StmtPart → Tree APart
 view_part (part.Bind b) = BindPart (view_bind b)
 view_part (part.Def d) = DefPart (view_def d)
 view_part (part.Call c) = CallPart (view_call c)
 view_part (part.If i) = IfPart (view_if i)
 
--- the tree of the grammar, as the rules speak of it, for which a statement of a script stands as the program holds it
+-- turns a statement of a script, in the form that the program holds, into its tree of the grammar of scripts, of which
+-- the rules speak
 abbrev pub view_stmt : stmt.Stmt → Tree AStmt
 view_stmt s = Stmt (view_part s.part) s.semicolon
 
--- the tree of the grammar, as the rules speak of it, for which a script, its statements in order, stands as the
--- program holds it
+-- turns a script, its statements in order, in the form that the program holds, into its tree of the grammar of scripts,
+-- of which the rules speak
 abbrev pub view_script : script.Script → Script
 view_script s = listed (map view_stmt s.statements.items)

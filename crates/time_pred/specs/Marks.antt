@@ -24,13 +24,14 @@ period_of m = if is_some m.day then 604800 else if is_some m.hour then 86400 els
 abbrev pub finest_of : TimeMark → ℕ
 finest_of m = if is_some m.second then 1 else if is_some m.minute then 60 else if is_some m.hour then 3600 else 86400
 
--- whether a time mark of a script that stands alone, as `9h`, holds at second `at` of the week: less than its finest
--- part has gone by since its time, around its period
+-- Whether a time mark of a script that stands alone, as `9h`, holds at second `at` of the week. It holds from the time
+-- that it names, for a day, an hour, a minute or a second, by its finest part. It does so again in each of its periods.
 abbrev pub is_at : TimeMark → ℕ → Bool
 is_at m at = nat_lt (unsigned_abs (int_rem_euclid (pos (at % period_of m) -ℤ pos (value_of m)) (pos (period_of m))))
     (finest_of m)
 
--- x lies from a to b, without b; where b comes before a, from a around the end of the period to b
+-- whether x lies in the interval from a to b, without b; where b comes before a, the interval goes from a around the
+-- end of the period to b
 abbrev pub is_in_interval : ℕ → ℕ → ℕ → Bool
 is_in_interval a b x = if nat_le a b then nat_le a x && nat_lt x b else nat_le a x || nat_lt x b
 
@@ -39,6 +40,7 @@ is_in_interval a b x = if nat_le a b then nat_le a x && nat_lt x b else nat_le a
 abbrev pub is_between : TimeMark → TimeMark → ℕ → Bool
 is_between from to at = is_in_interval (value_of from) (value_of to) (at % max (period_of from) (period_of to))
 
--- from second `at` of the week on, the test keeps its answer for so many seconds
+-- From second `at` of the week on, this test of seconds of the week keeps its answer for so many seconds. After the
+-- last second of the week comes its first.
 abbrev pub Stays : (ℕ → Bool) → (at seconds : ℕ) → Type 0
 Stays test at seconds = (j : ℕ) → j < seconds → test ((at + j) % 604800) ≡ test at

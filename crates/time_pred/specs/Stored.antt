@@ -71,7 +71,8 @@ abbrev mutual
   codes no_parts = gnil
   codes (first_part p ps) = gcons (code p) (codes ps)
 
--- the predicate of this form: forms are numbered, g has the code of its marks, and p and ps are its parts
+-- The predicate of the form with this number, from 0 to 6; a greater one is as 6. Of a form with time marks, g has
+-- their codes; of a negated one, p is its part; of one with `and` or `or`, ps are its parts.
 abbrev by_tag : ℕ → Gv → PredicateTree OnePredicate → PredicateTree PredicateParts → PredicateTree OnePredicate
 by_tag zero g p ps = Always
 by_tag (suc zero) g p ps = Never

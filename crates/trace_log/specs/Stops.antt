@@ -3,7 +3,8 @@ use Rattle.std.specs.Prelude.{◌≡◌, ◌<◌, ◌*◌, ◌/◌, ◌%◌, ℕ
 use Rattle.buffer_ends.specs.Local.{Answers}
 use Rattle.trace_log.specs.Texts.{header, line, window_count, InBounds}
 
--- a text is the first k lines after line 0 of a trace of `many` buffers, whatever their answers
+-- A text is the first lines of a trace after line 0, as many as the number says, whatever their answers. Of `many`
+-- buffers each has one line in each window, in order.
 pub data Lines (many : ℕ) : ℕ → List ℕ → Type 0 where
   no_lines : Lines many zero []
   one_line_more : (k : ℕ) (text : List ℕ) (log : Answers) → Lines many k text
@@ -13,13 +14,13 @@ pub data Lines (many : ℕ) : ℕ → List ℕ → Type 0 where
 abbrev pub HasLine : ℕ → ℕ → List ℕ → Type 0
 HasLine window buffer text = (log : Answers) × (rest : List ℕ) × (text ≡ line window buffer log ++ rest)
 
--- where a trace of `many` buffers has its line number k, counted from the one after line 0, the text does not begin
--- with such a line, whatever its answers
+-- A text does not begin with the line of a trace that is due there, whatever its answers. Due is line number k, counted
+-- from the one after line 0, and the trace has `many` buffers, each with a line in each window.
 abbrev pub NoLine : ℕ → ℕ → List ℕ → Type 0
 NoLine many k text = (log : Answers) (rest : List ℕ) → text ≡ line (k / many) (k % many) log ++ rest → ⊥
 
--- Line `at` is the first that is outside the form: line 0, or one in the place of a line, or anything after the last
--- line.
+-- Line `at` is the first of a text that is outside the form of a trace: it is line 0, or a wrong one where a line is
+-- due, or anything after the last line.
 pub data StopsAt (text : List ℕ) : ℕ → Type 0 where
   first : ((n w b : ℕ) (rest : List ℕ) → InBounds n w b → text ≡ header n w b ++ rest → ⊥) → StopsAt text zero
   inside : (n w b k : ℕ) (front rest : List ℕ) → InBounds n w b → Lines b k front → text ≡ header n w b ++ front ++ rest
@@ -28,8 +29,8 @@ pub data StopsAt (text : List ℕ) : ℕ → Type 0 where
       → text ≡ header n w b ++ front ++ rest
       → (rest ≡ [] → ⊥) → StopsAt text (suc (window_count n w * b))
 
--- a text is the text of a trace: line 0 with numbers within the bounds, and then one line for each window of each
--- buffer
+-- A text has the form of a trace: line 0 with numbers within the bounds, and then one line for each buffer in each
+-- window
 pub record IsText (text : List ℕ) : Type 0 where
   pub ticks : ℕ
   pub window : ℕ
@@ -39,8 +40,8 @@ pub record IsText (text : List ℕ) : Type 0 where
   pub form : Lines buffers (window_count ticks window * buffers) lines
   pub is : text ≡ header ticks window buffers ++ lines
 
--- reading has come past k lines of a text after line 0: they have the form of a trace with these ticks, ticks a window
--- and buffers, and `rest` follows them
+-- Reading of a text has come past line 0 and k lines after it, and `rest` follows them. They have the form of a trace
+-- of so many `ticks` with so many buffers, in windows of `window` ticks.
 pub record Stands (text : List ℕ) (ticks window buffers k : ℕ) (rest : List ℕ) : Type 0 where
   pub lines : List ℕ
   pub form : Lines buffers k lines

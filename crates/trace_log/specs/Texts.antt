@@ -3,7 +3,7 @@ use Rattle.std.specs.Prelude.{◌≡◌, ◌<◌, ◌≤◌, ◌+◌, ◌-◌, �
 use Rattle.buffer_ends.specs.Local.{Answers, no_answers}
 use Rattle.trace_log.specs.Values.{TraceValue}
 
--- the letter of an answer: `one` for true, and `other` for false
+-- the letter of one answer in a trace, as a byte: `one` for true, which is accepted or got, and `other` for false
 abbrev pub letter : ℕ → ℕ → Bool → ℕ
 letter one other answer = if answer then one else other
 
@@ -26,8 +26,8 @@ line window buffer log = codes "window " ++ decimal window ++ codes " buffer " +
 abbrev pub window_count : ℕ → ℕ → ℕ
 window_count ticks window = (ticks + (window - 1)) / window
 
--- what buffer number `buffer` answered in window number `window`, by the lists of windows of all buffers; no answers
--- where there is no such window
+-- What buffer number `buffer` answered in window number `window`, by the answers of each buffer, window by window.
+-- There are no answers where there is no such window.
 abbrev pub log_at : List (List Answers) → ℕ → ℕ → Answers
 log_at buffers buffer window = slice_index_or (slice_index_or buffers buffer []) window no_answers
 
@@ -56,7 +56,8 @@ pub record InBounds (ticks window buffers : ℕ) : Type 0 where
   pub window_most : window ≤ 1000000
   pub buffers_most : buffers ≤ 4096
 
--- a trace is within the bounds, and each of its buffers has as many windows as its ticks have
+-- A trace is one that has a text: its numbers are within the bounds, and each of its buffers has as many windows as its
+-- ticks make
 pub record IsTrace (t : TraceValue) : Type 0 where
   pub bounds : InBounds t.ticks t.window (length t.buffers)
   pub logs : (b : ℕ) → b < length t.buffers → length (slice_index_or t.buffers b []) ≡ window_count t.ticks t.window

@@ -25,15 +25,16 @@ track_text sensitive = if sensitive then codes ", once the track has ended" else
 abbrev pub below_text : (below : Bool) → List ℕ
 below_text below = if below then codes ", by the clock of the crossfade above" else []
 
--- the line of a switch about its holes, the spans of the week in which no case holds, and what plays then; `daily`
--- tells them once for all days
+-- The line of switch `number` about its holes, the spans of the week in which no case holds, and what plays `instead`.
+-- `daily` tells the spans once for all days, `sensitive` says that the switch is track-sensitive, and `below` that it
+-- lies below a crossfade.
 abbrev pub hole_line : (number : ℕ) → List Span → (daily : Bool) → Instead → (sensitive below : Bool) → List ℕ
 hole_line number spans daily instead sensitive below =
     switch_text number ++ (codes "nothing holds " ++ (when_text daily spans ++ (instead_text instead
     ++ (track_text sensitive ++ (below_text below ++ codes "\n")))))
 
--- the part of a duration behind its hours: a colon and the two digits of n, unless `rest`, what is left to be told, is
--- 0
+-- The minutes or the seconds of a duration, behind its hours: a colon and the two digits of n. They are left out if
+-- `rest`, the seconds that are still to be told, is 0.
 abbrev pub part_text : (rest n : ℕ) → List ℕ
 part_text rest n = if nat_eq rest 0 then [] else codes ":" ++ two_digits n
 
