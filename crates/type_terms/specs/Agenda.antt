@@ -20,8 +20,8 @@ abbrev pub variable_pairs : List (ℕ × ℕ) → List (Term × Term)
 variable_pairs [] = []
 variable_pairs (p ∷ ps) = (variable p.0, variable p.1) ∷ variable_pairs ps
 
--- two types are equal under the assignment a, as far as n goes: if the first has fewer than n nodes there, or at most
--- n where it is no variable
+-- Two types are equal under the assignment a, if the first has fewer than n nodes there, or at most n where it is no
+-- variable. It serves induction on n, by which pairs that were taken apart are shown to be equal.
 abbrev pub EqualBelow : Assignment → ℕ → Term → Term → Type 0
 EqualBelow a n t u = size (meaning a t) < n + extra t → meaning a t ≡ meaning a u
 
@@ -49,8 +49,8 @@ agenda_of lists = agenda lists.work.items lists.seen.keys
 abbrev pub empty_agenda : Agenda
 empty_agenda = record { todo = []; seen = [] }
 
--- two types were taken up: at each solution they are equal where the new agenda's pairs are, and these are where the
--- two types and the old agenda's pairs are
+-- Unification has taken up two types, with their parts put on the agenda. At each solution of s the two are equal if
+-- the pairs of `new` are, and these are equal if the two and the pairs of `old` are.
 pub record IsTakenUp (s : Table) (old new : Agenda) (left right : Term) : Type 0 where
   pub over : AllOver s old.todo → AllOver s new.todo
   pub needed : (a : Assignment) → Solves a s → meaning a left ≡ meaning a right → AllEqual a old.todo
@@ -64,16 +64,17 @@ pub record IsTakenUp (s : Table) (old new : Agenda) (left right : Term) : Type 0
   pub learnt : (a : Assignment) (n : ℕ) → Solves a s → AllEqualBelow a n new.todo → AllEqualBelow a n new.seen
       → AllEqualBelow a (suc n) old.seen → AllEqualBelow a (suc n) new.seen
 
--- what the comparison of two types answers is right: `Same`, their parts were put on the agenda; `Clash`, they are
--- equal at no solution; `Bind`, they are equal exactly where the variable has this value, and the agenda is as it was
+-- What the comparison of two types answers is right: `Same`, the agenda `new` has their parts; `Clash`, they are equal
+-- at no solution of the substitution; `Bind` and `BindKind`, they are equal exactly where variable x is t, and the
+-- agenda is as it was.
 abbrev pub TakesUp : Table → Agenda → Agenda → Term → Term → Difference → Type 0
 TakesUp s old new left right Same = IsTakenUp s old new left right
 TakesUp s old new left right Clash = AreNeverSame s left right
 TakesUp s old new left right (Bind x t) = IsForced s left right x (term_of t.now) × (new ≡ old)
 TakesUp s old new left right (BindKind x t) = IsKindForced s left right x t × (new ≡ old)
 
--- what the comparison of two types answers is right: true, their parts were put on the agenda; false, they are equal
--- at no solution
+-- what the comparison of two types answers is right: true, the agenda `new` has their parts, which are still to be
+-- compared; false, they are equal at no solution of the substitution
 abbrev pub IsTaken : Table → Agenda → Agenda → Term → Term → Bool → Type 0
 IsTaken s old new left right true = IsTakenUp s old new left right
 IsTaken s old new left right false = AreNeverSame s left right

@@ -12,16 +12,16 @@ use Rattle.type_terms.specs.Undo.{IsTrail, IsKindTrail}
 use Rattle.type_terms.specs.declared.table.Bindings.{Bindings}
 use Rattle.type_terms.specs.declared.unifier.Trail.{Trail}
 
--- what unification needs: the substitution is sound, the marks of the variables that stand inside bindings are right,
--- and the types t and u have no other variables than the substitution
+-- what unification of the types t and u needs: the bindings are sound, type variables that stand inside bindings are
+-- flagged as such, and t and u have no other variables than the substitution
 pub record AreComparable (b : Bindings) (t u : Term) : Type 0 where
   pub sound : IsSound (table_of b)
   pub marked : AreMarked b.types.items b.nested.items
   pub left : IsOver (table_of b) t
   pub right : IsOver (table_of b) u
 
--- a substitution was narrowed so that two types become the same: variables were bound, the result and its marks are
--- sound, and it lost only solutions at which the two types differ
+-- Unification of two types bound variables: from `old` came `new`, which is sound, and lost only solutions at which the
+-- types differ. `marks` before, and marks' after, flag each type variable that stands inside a binding.
 pub record IsNarrowed (left right : Term) (old new : Table) (marks marks' : List Bool) : Type 0 where
   pub sound : IsSound new
   pub marked : AreMarked new.types marks'
