@@ -44,7 +44,8 @@ pub record IsSyntaxFault (text : List ℕ) (f : ParseFault) : Type 0 where
   pub lexed : AreTokens text tokens
   pub told : IsFault (kinds tokens) f
 
--- this is the text's fault of types: the text spells a script, which has no typing; want of memory is no such fault
+-- This is the text's fault of types: the text spells a script, which has no typing, and f says why. That memory ran out
+-- is no fault of the text.
 pub record IsTypingFault (text : List ℕ) (f : TypeFault) : Type 0 where
   pub script : Script
   pub spelled : Spells text script
