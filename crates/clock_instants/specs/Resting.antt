@@ -58,7 +58,7 @@ pub record NodeStretches (setting : Setting) (sub : ℕ → ℕ
       → KeepsTitle setting sub past i (work_at setting i node) j
       (title_of (offer (moment_after setting sub clock past) i))
 
--- each reader of a clock has begun n instants; `filled` counts them by node
+-- each reader of a clock has begun n instants, by `filled`, which counts them by node
 pub record AreReadTo (setting : Setting) (clock : NodeClock) (filled : ℕ → ℕ) (n : ℕ) : Type 0 where
   pub each : (i : ℕ) (node : Node) (buffer : ℕ) → IsNode setting clock i node → work_at setting i node ≡ Reads buffer
       → filled i ≡ n

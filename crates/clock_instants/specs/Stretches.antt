@@ -38,8 +38,8 @@ pub record IsSpare (spare : Spare) : Type 0 where
   pub on_left : 2048 ≤ length spare.left.items
   pub on_right : 2048 ≤ length spare.right.items
 
--- the room has a place for each of so many nodes, and spare room; between two stretches (instants made at once) no
--- node has a part in it
+-- `room`, the memory in which stretches (instants made at once) are made, has a place for each of so many nodes, and
+-- spare room for the samples of one. Between two stretches each node's part in it is silent.
 pub record HasStretchRoom (nodes : ℕ) (room : StretchRoom) : Type 0 where
   pub in_left : length room.left.items ≡ nodes
   pub in_right : length room.right.items ≡ nodes
@@ -106,8 +106,9 @@ pub record IsGoing (setting : Setting) (sub : ℕ → ℕ
   pub laned : (i : ℕ) (node : Node) → IsNode setting clock i node → HasLanes left right i
   pub supplied : AreSupplied setting sub clock past many filled held states left right
 
--- how many instants a reader, or slots a crossfade, has got (`filled`, by node) after `many` instants more of a clock:
--- as many more for its readers, and for its crossfades through which cells pass; no more for any other node
+-- How many slots node i has got as a crossfade, or instants it has begun as a reader, after `many` instants more of a
+-- clock; `filled` has by node how many before. Readers of the clock, and crossfades through which cells pass
+-- (`through`), have `many` more; other nodes have no more.
 abbrev pub begun_on : Setting → NodeClock → (through : ℕ → Bool) → (many : ℕ) → (filled : ℕ → ℕ) → ℕ → ℕ
 begun_on setting clock through many filled i = filled_on (lies_in setting clock i
     && (through i || reads_at setting i)) many (filled i)

@@ -51,8 +51,8 @@ pub record HasOwnReaders (setting : Setting) : Type 0 where
 abbrev pub begun_by : Bool → ℕ → ℕ
 begun_by reading filled = if reading then suc filled else filled
 
--- by node, how many instants it has begun after the readers of a clock have begun one more, of those in `filled`
--- before
+-- How many slots node i has got as a crossfade, or instants it has begun as a reader, after the readers of a clock have
+-- begun one instant more; `filled` has by node how many before. Only these readers have one more.
 abbrev pub begun_in : Setting → NodeClock → (filled : ℕ → ℕ) → ℕ → ℕ
 begun_in setting clock filled i = begun_by (lies_in setting clock i && reads_at setting i) (filled i)
 

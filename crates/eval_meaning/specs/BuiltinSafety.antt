@@ -16,7 +16,8 @@ use Rattle.script_values.specs.Values as value
 use Rattle.script_values.specs.Values.{Value}
 use Rattle.builtin_calls.specs.Builtins.{builtin}
 
--- evaluation has only added nodes: each node of the list `before` is in `after` under the same number
+-- Evaluation has only added nodes to the plan: each node of `before` is in `after` under the same number. So a source
+-- that was made stays the same.
 abbrev pub Grows : List Node → List Node → Type 0
 Grows before after = (n : ℕ) (node : Node) → slice_get before n ≡ Some node → slice_get after n ≡ Some node
 

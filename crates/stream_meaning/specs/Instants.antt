@@ -20,8 +20,8 @@ use Rattle.stream_meaning.specs.declared.part.Part.{Part}
 use Rattle.stream_meaning.specs.Arithmetic.{mix_slot}
 use Rattle.stream_meaning.specs.Operators.{Work, Plays, Picks, Mixes, Fades, Reads, child_used, work_of, marks_at}
 
--- what holds at all instants: the plan, its audio files, the clock of each node, the second of the week at which the
--- clocks start, and the answers that the takes of each buffer get
+-- what is the same at all instants: the plan, its audio files, the clock of each node, the second of the week at which
+-- the clocks start, and for each buffer the answers that its takes get in the whole run
 pub record Setting : Type 0 where
   pub plan : Plan
   pub library : Sounds
@@ -29,7 +29,7 @@ pub record Setting : Type 0 where
   pub start : ℕ
   pub answers : ℕ → List Answer
 
--- the setting with `answers` in the place of what its buffers answer
+-- this setting, but that the takes of each buffer get `answers`
 abbrev pub answered : Setting → (ℕ → List Answer) → Setting
 answered setting answers = record {
   plan = setting.plan;
@@ -39,7 +39,7 @@ answered setting answers = record {
   answers = answers;
 }
 
--- the setting whose buffers answer first with `answers`, and behind them with `rest`
+-- this setting, but that the takes of each buffer get first `answers`, and behind these `rest`
 abbrev pub with_rest : Setting → (answers rest : ℕ → List Answer) → Setting
 with_rest setting answers rest = answered setting (λ buffer. answers buffer ++ rest buffer)
 

@@ -31,8 +31,8 @@ abbrev pub AllEqualBelow : Assignment → ℕ → List (Term × Term) → Type 0
 AllEqualBelow a n [] = Unit {0}
 AllEqualBelow a n (p ∷ ps) = EqualBelow a n p.0 p.1 × AllEqualBelow a n ps
 
--- the agenda of unification: the pairs of types that are still to be compared, and the pairs whose parts were put
--- among them
+-- What unification has still to do, and what it has taken apart: `todo` has the pairs of types to compare, and `seen`
+-- the pairs whose parts were put there, which it need not take apart again.
 pub record Agenda : Type 0 where
   pub todo : List (Term × Term)
   pub seen : List (Term × Term)

@@ -11,7 +11,7 @@ use Rattle.type_terms.specs.declared.ty.Ty.TheOpen as ty
 use Rattle.type_terms.specs.declared.ty.Ty.TheFolds.{fold-Ty}
 
 mutual
-  -- a type over variables
+  -- a type in which variables may stand, by their numbers: for types, and for the kinds of sources
   pub data Term : Type 0 where
     base_term : Base → Term
     list_term : Term → Term
@@ -19,7 +19,7 @@ mutual
     source_term : KindTerm → Term
     variable : ℕ → Term
 
-  -- the parts of a tuple
+  -- the component types of a tuple, one after another
   pub data Terms : Type 0 where
     no_terms : Terms
     one_more : Term → Terms → Terms
