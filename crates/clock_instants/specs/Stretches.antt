@@ -56,8 +56,8 @@ pub record HaveLanes (states : List NodeState) (count : ℕ) (lanes : Lanes) : T
       → HasLane lanes i
 
 -- Each node of a clock that gave can play `count` instants more from what it has: its next cells or items are there,
--- and none begins a track. `held` has what each node gave at the latest instant. A crossfade through which cells pass
--- gets them from its child.
+-- and none begins a track. `held` has what each node gave at the latest instant. A crossfade through which its child's
+-- cells pass one for one gets them from the child.
 pub record AllLieAhead (scene : Scene) (clock : NodeClock) (held : List Part) (states : List NodeState)
     (count : ℕ) : Type 0 where
   pub each : (i : ℕ) (state : NodeState) → i < length scene.clocks.now → lies_at scene.clocks.now clock i ≡ true

@@ -76,9 +76,9 @@ pub record HasBegun (setting : Setting) (sub : ℕ → ℕ
       → (reading_by setting i buffer past (suc (length past))).taken ≡ length (after_calls front more buffer)
   pub others : (buffer : ℕ) → (work ≡ Reads buffer → ⊥) → answers_in buffer more ≡ []
 
--- Node i has begun a tick: it made all takes of its buffer that are due. The taps, before `taps_old`, have these behind
--- the earlier calls; `stands` says for which calls taps stand. This holds for all instants that its state `old` can
--- stand for; `scene` is the plan with its files and clocks.
+-- Node i has begun a tick: it made all takes of its buffer that are due. The taps, which were `taps_old` and are
+-- `taps_new`, got them as further calls; `stands` says for which calls taps stand. This holds for all instants that its
+-- state `old` can stand for; `scene` is the plan with its files and clocks.
 pub record NodeBegan {T : Type 0} (stands : T → List Call
     → Type 0) (scene : Scene) (i : ℕ)
     (old new : NodeState) (taps_old taps_new : T) : Type 0 where
@@ -95,8 +95,8 @@ pub record NodeBegan {T : Type 0} (stands : T → List Call
       → (reading_after setting i buffer past).taken ≡ length (front buffer))
       → HasBegun setting sub past filled i (work_at setting i node) front more new
 
--- Memory ran out while node i began a tick: it made only the first of the takes that are due, or all. The taps, before
--- `taps_old`, have these behind the earlier calls; `stands` says for which calls taps stand. This holds for all
+-- Memory ran out while node i began a tick: `made`, the takes that it made, are a prefix of those that are due. The
+-- taps, which were `taps_old`, got them as further calls; `stands` says for which calls taps stand. This holds for all
 -- instants that its state `old` can stand for; `scene` is the plan with its files and clocks.
 pub record NodeTookSome {T : Type 0} (stands : T → List Call
     → Type 0) (scene : Scene) (i : ℕ)
@@ -132,9 +132,9 @@ pub record AreBegun (setting : Setting) (sub : ℕ → ℕ → List Slot) (clock
   pub others : (buffer : ℕ) → ((i : ℕ) (node : Node) → IsIn setting clock i node → work_at setting i node ≡ Reads buffer
       → ⊥) → answers_in buffer more ≡ []
 
--- The readers of a clock have begun a tick: they made all takes that are due. The taps, before `taps_old`, have these
--- behind the earlier calls; `stands` says for which calls taps stand. Whatever instants the states `old` stood for,
--- `new` stand for what was taken too; `scene` is the plan with its files and clocks.
+-- The readers of a clock have begun a tick: they made all takes that are due. The taps, which were `taps_old`, got them
+-- as further calls; `stands` says for which calls taps stand. Whatever instants the states `old` stood for, `new` stand
+-- for what was taken too; `scene` is the plan with its files and clocks.
 pub record HaveBegun {T : Type 0} (stands : T → List Call
     → Type 0) (scene : Scene) (clock : NodeClock)
     (old new : List NodeState) (taps_old taps_new : T) : Type 0 where
@@ -148,9 +148,9 @@ pub record HaveBegun {T : Type 0} (stands : T → List Call
       → ClockStands setting sub clock past filled old → HaveTaken setting clock past filled front
       → AreBegun setting sub clock past filled front more new
 
--- Memory ran out while the readers of a clock began a tick: they made only the first of the takes that are due, or all.
--- The taps, before `taps_old`, have these behind the earlier calls; `stands` says for which calls taps stand. This
--- holds for all instants that the states `old` can stand for; `scene` is the plan with its files.
+-- Memory ran out while the readers of a clock began a tick: `made`, the takes that they made, are a prefix of those
+-- that are due. The taps, which were `taps_old`, got them as further calls; `stands` says for which calls taps stand.
+-- It holds for all instants that the states `old` can stand for; `scene` is the plan with its files.
 pub record HaveTakenSome {T : Type 0} (stands : T → List Call
     → Type 0) (scene : Scene) (clock : NodeClock)
     (old : List NodeState) (taps_old taps_new : T) : Type 0 where

@@ -34,9 +34,9 @@ found f = record { at = f.at; target = f.target; kinds = f.kinds.items }
 abbrev pub founds : List FoundUse → List Found
 founds fs = map found fs
 
--- A kind that a name has where a def's text uses it, as the definitions of inference have it. It may not be fixed yet:
--- it is then a kind variable from outside the def, or number j of the kinds over which the def's type is generalised,
--- which each call chooses.
+-- A kind that a name has where a def's text uses it, as the definitions of inference have it. It may not be fixed yet.
+-- It is a kind over the variables of the scope around the def, or number j of the kinds over which the def's type is
+-- generalised, which each call chooses.
 abbrev pub pending : TextKind → Pending
 pending (text_kind.Outer k) = of_term k
 pending (text_kind.Open j) = of_def j
@@ -78,14 +78,14 @@ env_of n = record {
 -- ---- what is to hold before
 
 -- The name at token `at` may be called: in the scope `env` it means t, whose parameters are ps. A call has as its type
--- an instance of the general type g, one generalised over its own variables. s is the substitution so far.
+-- an instance of the type scheme g, a type generalised over its own variables. s is the substitution so far.
 pub record IsCalled (s : Table) (env : Env) (at : ℕ) (t : Target) (ps : List Parameter) (g : Scheme) : Type 0 where
   pub over : IsSchemeOver s g
   pub callable : IsCallable s env at t ps (IsInstance g)
   pub meant : env.targets at ≡ Some t
 
--- Without a def at token t no call of it has a type. With one, calls may have just the instances of its general type,
--- one generalised over its own variables. The Table is the substitution so far, the Env the names in scope.
+-- Without a def at token t no call of it has a type. With one, the types of calls are just the instances of its type
+-- scheme, a type generalised over its own variables. The Table is the substitution so far, the Env the names in scope.
 abbrev pub DefIs : Table → Env → ℕ → Option KnownDef → Type 0
 DefIs s env t None = (at : ℕ) → HasNoCall s env at (target.Def t)
 DefIs s env t (Some d) = IsSchemeOver s (scheme_of d.general)
@@ -99,9 +99,9 @@ pub record IsSeen (s : Table) (names : Names) (uses : List FoundUse) : Type 0 wh
   pub uses_over : AreUsesOver s (founds uses)
   pub calls : (t : ℕ) → DefIs s (env_of names) t (def_seen t names.defs.now)
 
--- The typing of a name outside a call, at token `at`: where it has a type variable (Some), the name means a binding in
--- this Env, the names in scope. Its use was added to the list `old`, with no kinds, which gave `new`. Nothing is said
--- without a type.
+-- The typing of a name outside a call, at token `at`. If it has a type variable (Some), the name means a binding in
+-- this Env, the names in scope, and `new` is `old`, the list of uses, with this use added, which has no kinds.
+-- Otherwise nothing is said.
 abbrev pub IsNamed : Env → ℕ → List Found → List Found → Option ℕ → Type 0
 IsNamed env at old new None = ⊤
 IsNamed env at old new (Some n) = (t : ℕ) × (env.targets at ≡ Some (target.Slot t))
@@ -112,9 +112,9 @@ abbrev pub called_scheme : Called → Scheme
 called_scheme (called.Builtin b) = builtin_scheme b
 called_scheme (called.General g) = scheme_of g.now
 
--- The typing of a call at token `at` has begun: t, which is called, has the general type g, and c has the fresh type
--- variables of this instance of it. The substitution s has become s'. The use of the name was added to `old`, which
--- gave `new`, with one kind for each that g leaves open.
+-- The typing of a call at token `at` has begun: c has the fresh type variables of an instance of g, the type scheme of
+-- what is called, t. The substitution s has become s'. The list of uses `old` has become `new`, with this use added and
+-- one kind for each that g leaves open.
 pub record HasBegun (s s' : Table) (g : Scheme) (at : ℕ) (t : Target) (c : Callee) (old new : List Found) : Type 0 where
   pub kinds : List KindTerm
   pub instantiated : IsInstantiated s s' (IsInstance g) (map term_of c.params.items) (variable c.result) kinds
