@@ -57,7 +57,7 @@ pub record HaveLanes (states : List NodeState) (count : ℕ) (lanes : Lanes) : T
 
 -- Each node of a clock that gave can play `count` instants more from what it has: its next cells or items are there,
 -- and none begins a track. `held` has what each node gave at the latest instant. A crossfade through which its child's
--- cells pass one for one gets them from the child.
+-- cells pass one for one gets them from the child. `scene` is the plan with its files and clocks.
 pub record AllLieAhead (scene : Scene) (clock : NodeClock) (held : List Part) (states : List NodeState)
     (count : ℕ) : Type 0 where
   pub each : (i : ℕ) (state : NodeState) → i < length scene.clocks.now → lies_at scene.clocks.now clock i ≡ true
@@ -92,9 +92,9 @@ pub record ClockGoesOn (scene : Scene) (clock : NodeClock) (time : WeekTime) (pa
       → AllAsk setting sub clock past filled states (length scene.clocks.now) rest
 
 -- A clock is about to make `many` instants at once, behind the one that follows `past` and at which `held` was given.
--- They are a stretch with it, and each node has room in `left` and `right`, the samples by node. `filled` counts the
--- slots that a crossfade got and the instants that a reader began; where cells pass, a crossfade has its child's
--- samples.
+-- They are a stretch with it, and each node has room in `left` and `right`, the samples by node. A crossfade through
+-- which cells pass has its child's samples. `filled` counts the slots that a crossfade got and the instants that a
+-- reader began.
 pub record IsGoing (setting : Setting) (sub : ℕ → ℕ
     → List Slot) (clock : NodeClock) (past : List Moment) (many : ℕ) (filled : ℕ → ℕ)
     (held : List Part) (states : List NodeState) (left right : Lanes) : Type 0 where
@@ -113,8 +113,8 @@ abbrev pub begun_on : Setting → NodeClock → (through : ℕ → Bool) → (ma
 begun_on setting clock through many filled i = filled_on (lies_in setting clock i
     && (through i || reads_at setting i)) many (filled i)
 
--- A clock has made `many` instants at once, behind the one that follows `past`. The states, before them `old`, stand
--- for these too, and each node that gives has left its samples in `left` and `right`. `filled` counts by node the slots
+-- A clock has made `many` instants at once, behind the one that follows `past`. The states, which were `old`, stand for
+-- these too, and each node that gives has left its samples in `left` and `right`. `filled` counts by node the slots
 -- that a crossfade had got, and the instants that a reader had begun.
 pub record HasGoneOn (setting : Setting) (sub : ℕ → ℕ
     → List Slot) (clock : NodeClock) (past : List Moment) (many : ℕ) (filled : ℕ → ℕ)
@@ -155,8 +155,8 @@ pub record NodeGivesOn (history : History) (many filled i : ℕ) (node : Node) (
   pub supplied : gives (next_of history) i ≡ true → passes state ≡ true → IsSupplied history many filled i held sides
 
 -- Node i has made the `many` instants after the next one of `history`, the instants of its clock so far. Its state,
--- before them `old`, stands for these too, and if it gives, its samples are in `sides`. `filled` is how many slots it
--- had got as a crossfade, or instants it had begun as a reader.
+-- which was `old`, stands for these too, and if it gives, its samples are in `sides`. `filled` is how many slots it had
+-- got as a crossfade, or instants it had begun as a reader.
 pub record NodeHasGone (history : History) (many filled i : ℕ) (node : Node) (old : NodeState) (sides : Sides Lanes)
     (state : NodeState) : Type 0 where
   pub stands : StandsOn history (suc many) (filled_on ((gives (next_of history) i && passes old)
@@ -164,7 +164,7 @@ pub record NodeHasGone (history : History) (many filled i : ℕ) (node : Node) (
   pub lane_is : gives (next_of history) i ≡ true → HasMadeLane history many i sides
 
 -- Node i, which gives, has made the `many` instants after the next one of `history`, the instants of its clock so far.
--- Its samples on both sides are `samples`, and its state, before them `old`, stands for these too. `filled` is how many
+-- Its samples on both sides are `samples`, and its state, which was `old`, stands for these too. `filled` is how many
 -- slots it had got as a crossfade, or instants it had begun as a reader.
 pub record NodeHasMade (history : History) (many filled i : ℕ) (node : Node) (old : NodeState)
     (samples : Sides (List ℤ)) (state : NodeState) : Type 0 where
@@ -227,7 +227,7 @@ pub record CanRunNode (scene : Scene) (i many : ℕ) (parts : List Part) (left r
 
 -- The nodes of a clock have made `many` instants at once that go on as its latest one, at which `held` was given.
 -- Whatever instants the states `old` stood for, the new ones stand for so many more. `left` and `right`, which were
--- `left_old` and `right_old`, have the samples of these instants.
+-- `left_old` and `right_old`, have the samples of these instants. `scene` is the plan with its files and clocks.
 pub record NodesRun (scene : Scene) (clock : NodeClock) (many : ℕ) (held : List Part) (old : List NodeState)
     (left_old right_old left right : Lanes)
     (states : List NodeState) : Type 0 where
@@ -237,8 +237,9 @@ pub record NodesRun (scene : Scene) (clock : NodeClock) (many : ℕ) (held : Lis
       → HasGoneOn setting sub clock past many filled old left right states
 
 -- Node i has made `many` instants at once that go on as the latest one of its clock, at which nodes gave `held`, those
--- up to node i also in `parts`. Whatever instants its state `old` stood for, the new one stands for so many more. The
--- samples of all nodes were `before` and are `after`: if node i gives, its own are there.
+-- up to node i also in `parts`. Whatever instants its state `old` stood for, the new one stands for so many more. If it
+-- gives, its samples are in `after`, the samples of all nodes, which were `before`. `scene` is the plan with its files
+-- and clocks.
 pub record NodeRun (scene : Scene) (i many : ℕ) (held parts : List Part) (old : NodeState) (before after : Sides Lanes)
     (state : NodeState) : Type 0 where
   pub run : (other : Setting) (sub : ℕ → ℕ → List Slot) (clock : NodeClock) (past : List Moment) (filled : ℕ)
@@ -249,7 +250,7 @@ pub record NodeRun (scene : Scene) (i many : ℕ) (held parts : List Part) (old 
 
 -- Node i, which gave, has made `many` instants at once that go on as the latest one of its clock, with these samples.
 -- At that one nodes gave `held`, those up to node i also in `parts`; `before` has the samples of all nodes. Whatever
--- instants the state `old` stood for, the new one stands for so many more.
+-- instants the state `old` stood for, the new one stands for so many more. `scene` is the plan with its files.
 pub record NodeMade (scene : Scene) (i many : ℕ) (held parts : List Part) (old : NodeState) (before : Sides Lanes)
     (samples : Sides (List ℤ)) (state : NodeState) : Type 0 where
   pub made : (other : Setting) (sub : ℕ → ℕ → List Slot) (clock : NodeClock) (past : List Moment) (filled : ℕ)

@@ -96,7 +96,7 @@ demanded moment i = slice_index_or moment.demands i false
 abbrev pub gives : Moment → ℕ → Bool
 gives moment i = demanded moment i && is_some (offer moment i)
 
--- at how many of these instants node i gave a cell; a leaf has come so far in its samples
+-- at how many of these instants node i gave a cell; for a leaf, this is how many samples it has played
 abbrev pub gives_before : List Moment → ℕ → ℕ
 gives_before [] i = 0
 gives_before (moment ∷ past) i = if gives moment i then suc (gives_before past i) else gives_before past i
@@ -187,9 +187,9 @@ part_by setting sub past i (Reads buffer) slots =
 abbrev pub work_at : Setting → ℕ → Node → Work
 work_at setting i node = work_of setting.plan.rate i node.kind node.op
 
--- What node i does at the instant after `past`: `before` has what the nodes before it do there. If it is not in the
--- clock (`inside` is false) or not in the plan, it offers nothing. `sub k m` has the first m slots of crossfade k's
--- child.
+-- What node i does at the instant after `past`, the instants so far; `before` has what the nodes of lesser numbers do
+-- there. If it is not in the clock (`inside` is false) or not in the plan, it offers nothing. `sub k m` has the first m
+-- slots of crossfade k's child.
 abbrev pub part_in : Setting → (sub : ℕ → ℕ → List Slot) → Bool → List Moment → ℕ → Option Node → List Part → Part
 part_in setting sub inside past i None before = silent
 part_in setting sub false past i (Some node) before = silent
@@ -230,8 +230,8 @@ uses_from setting parts i [] = []
 uses_from setting parts i (node ∷ nodes) =
     uses_by parts (work_at setting i node) node.children (part_at parts i).pick ∷ uses_from setting parts (suc i) nodes
 
--- whether node i is used by one of these nodes that is demanded; for each of them there is whether it is demanded, and
--- in `uses` the children that it uses
+-- whether node i is used by a node that is demanded; of some nodes, in their order, the first list says whether each is
+-- demanded, and `uses` has the children that each uses
 abbrev pub is_used : List Bool → List (List ℕ) → ℕ → Bool
 is_used [] uses i = false
 is_used (demand ∷ demands) [] i = false

@@ -20,13 +20,13 @@ abbrev pub variable_pairs : List (ℕ × ℕ) → List (Term × Term)
 variable_pairs [] = []
 variable_pairs (p ∷ ps) = (variable p.0, variable p.1) ∷ variable_pairs ps
 
--- Two types are equal under the assignment a, if the first has fewer than n nodes there, or at most n where it is no
--- variable. It serves induction on n, by which pairs that were taken apart are shown to be equal.
+-- If type t has fewer than n nodes under the assignment a, or at most n where it is no variable, t and u are equal
+-- there. It serves induction on n, by which pairs that were taken apart are shown to be equal.
 abbrev pub EqualBelow : Assignment → ℕ → Term → Term → Type 0
 EqualBelow a n t u = size (meaning a t) < n + extra t → meaning a t ≡ meaning a u
 
--- the two types of each pair are equal under the assignment a, as far as n goes: if the first has fewer than n nodes
--- there, or at most n where it is no variable
+-- the two types of each pair are equal under the assignment a, if the first has fewer than n nodes there, or at most n
+-- where it is no variable; this serves induction on n
 abbrev pub AllEqualBelow : Assignment → ℕ → List (Term × Term) → Type 0
 AllEqualBelow a n [] = Unit {0}
 AllEqualBelow a n (p ∷ ps) = EqualBelow a n p.0 p.1 × AllEqualBelow a n ps

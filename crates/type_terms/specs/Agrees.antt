@@ -24,8 +24,8 @@ pub record Follows (s s' : Table) : Type 0 where
   pub bound : KeepsBound s s'
   pub solves : (a : Assignment) → Solves a s' → Solves a s
 
--- s' is the substitution s with the fresh type variable n. It may be any type, but where the proposition `number` holds
--- only int or decimal.
+-- s' is the substitution s with the fresh type variable n. Each solution of s extends to one of s' with any type for n,
+-- or only with int or decimal where the proposition `number` holds.
 pub record HasNewType (s s' : Table) (number : Type 0) (n : ℕ) : Type 0 where
   pub inside : n < length s'.types
   pub follows : Follows s s'
