@@ -24,8 +24,8 @@ uses_in Nothing parts children pick = []
 uses_in Picked parts children pick = offering parts (child_at children pick)
 uses_in Offering parts children pick = offering parts children
 
--- at an instant at which `parts` has what each node offers and picks: each node picks a child that offers a cell, or
--- none
+-- Each of these nodes of a plan picks a child that offers a cell at the instant, or none. `parts` has what each node
+-- offers and picks there.
 pub record PicksOffer (nodes : List Node) (parts : List Part) : Type 0 where
   pub each : (i : ℕ) (node : Node) → slice_get nodes i ≡ Some node
       → offering parts (child_at node.children (part_at parts i).pick) ≡ child_at node.children (part_at parts i).pick

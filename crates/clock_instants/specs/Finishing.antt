@@ -15,9 +15,9 @@ use Rattle.clock_instants.specs.Held.{IsHeld}
 use Rattle.clock_nodes.specs.Scenes.{IsScene, setting_over}
 use Rattle.clock_nodes.specs.States.{AllFit, AreRoots, AreSettled, ClockStands, HasRoomFor}
 
--- What the program needs to make an instant after the latest one, `before`: states that fit the nodes, and room for
--- the `most` children that a node may have. There is also a place for each node in `own`, whether it is demanded of
--- itself, and in `held`, what it gave last.
+-- What the program needs to make an instant after the latest one, `before`: states that fit the nodes, and room for the
+-- `most` children that a node may have. `over` is the plan with its files and clocks, and `nodes` lists the clock's
+-- nodes. `own` says by node whether it is demanded of itself, `held` what it gave last.
 pub record CanMakeNext (over : Scene) (nodes : ClockNodes) (own : List Bool) (before : Latest) (states : List NodeState)
     (held : List Part) (most : ℕ) : Type 0 where
   pub scene : IsScene over
@@ -40,8 +40,8 @@ pub record CanFinish (setting : Setting) (sub : ℕ → ℕ → List Slot) (cloc
   pub settled : AreSettled setting sub clock past filled
   pub roots : AreRoots setting clock own
 
--- the program has made the instant after this past: `parts` has what its nodes do there, `held` what they gave, and
--- the states stand for it too
+-- The program has made the instant after `past`: `parts` has what its nodes do there, `held` what they gave, and the
+-- states stand for it too. `filled` counts by node the slots that a crossfade got and the instants that a reader began.
 pub record HasFinished (setting : Setting) (sub : ℕ → ℕ
     → List Slot) (clock : NodeClock) (past : List Moment) (filled : ℕ → ℕ)
     (states : List NodeState) (parts held : List Part) : Type 0 where
@@ -49,8 +49,9 @@ pub record HasFinished (setting : Setting) (sub : ℕ → ℕ
   pub held_are : IsHeld setting sub clock past held
   pub stands : ClockStands setting sub clock (moment_after setting sub clock past ∷ past) filled states
 
--- the program made one instant of a clock in this second: for every past for which the old states stood, the new ones
--- stand for one instant more, with its parts and with what the nodes gave
+-- The program made one instant of a clock in this second: for every past for which the states `old` stood, `new` stand
+-- for one instant more, with its `parts` and with `held`, what nodes gave. `own` says by node whether it is demanded of
+-- itself. `scene` is the plan with its files and clocks.
 pub record InstantFinished (scene : Scene) (own : List Bool) (clock : NodeClock) (second : ℕ) (old new : List NodeState)
     (parts held : List Part) : Type 0 where
   pub made : (other : Setting) (sub : ℕ → ℕ → List Slot) (past : List Moment) (filled : ℕ → ℕ) →

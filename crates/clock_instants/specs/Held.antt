@@ -15,8 +15,8 @@ use Rattle.node_states.specs.Passing.{LaneFills, asked, given_part, passes}
 use Rattle.clock_nodes.specs.declared.scene.Scene.{Scene}
 use Rattle.clock_nodes.specs.Nodes.{lies_at}
 
--- what a node with this part (slot and picked child) gave at an instant: the part if it is demanded and offers a
--- cell, and otherwise silence
+-- what a node gave at an instant at which it did this part, a slot and the child that it picked: the part itself if it
+-- was demanded and offered a cell, and otherwise silence
 abbrev pub given_by : (demanded : Bool) → Part → Part
 given_by demanded part = if demanded && is_some part.slot then part else silent
 
@@ -39,8 +39,9 @@ pub record IsHeld (setting : Setting) (sub : ℕ → ℕ
   pub each : (i : ℕ) → i < length setting.plan.nodes → lies_in setting clock i ≡ true
       → part_at held i ≡ given_part (moment_after setting sub clock past) i
 
--- the crossfades of a clock that gave at the instant after this past, and through which cells pass, get from their
--- sub-clocks cells of one track for as many instants as `rests` says; `held` has the titles of their children
+-- Crossfades that gave at the instant after `past`, and through which a child's cells pass one for one, get cells of
+-- one track for as many instants more as `rests` has by node. `filled` counts by node the slots that they got before.
+-- `held` has what nodes gave: here it tells the title of each crossfade's child.
 pub record AreFilledOn (setting : Setting) (sub : ℕ → ℕ
     → List Slot) (clock : NodeClock) (past : List Moment) (filled : ℕ → ℕ) (held : List Part) (states : List NodeState)
     (rests : List ℕ) : Type 0 where
@@ -49,16 +50,18 @@ pub record AreFilledOn (setting : Setting) (sub : ℕ → ℕ
       → AreFilled setting sub k (filled k) (slice_index_or rests k 0)
       (title_of (part_at held (crossfaded setting.plan.nodes k)).slot)
 
--- by `rests`, the sub-clock of each crossfade of a clock that gave, and through which cells pass, goes on as it did
--- for at least `count` instants
+-- Each crossfade of a clock that gave, and through which its child's cells pass one for one, gets such cells for at
+-- least `count` instants more: `rests` has by node for how many. `held` has what each node gave at the latest instant.
+-- `scene` is the plan with its files and clocks.
 pub record AllPassOn (scene : Scene) (clock : NodeClock) (held : List Part) (states : List NodeState) (rests : List ℕ)
     (count : ℕ) : Type 0 where
   pub each : (i : ℕ) (state : NodeState) → i < length scene.clocks.now → lies_at scene.clocks.now clock i ≡ true
       → slice_get states i ≡ Some state → gave_at held i ≡ true → passes state ≡ true
       → count ≤ slice_index_or rests i 0
 
--- each crossfade of a clock, numbered below `below`, that gave at the instant after this past asks in each of the
--- `count` instants after it for one slot where cells pass, and otherwise for none
+-- How many slots the crossfades of a clock with numbers less than `below`, that gave at the instant after `past`, ask
+-- for in each of the next `count` instants: one if a child's cells pass through one for one, else none. `filled` has by
+-- node how many they got before.
 pub record AllAsk (setting : Setting) (sub : ℕ → ℕ → List Slot) (clock : NodeClock) (past : List Moment) (filled : ℕ
     → ℕ) (states : List NodeState)
     (below count : ℕ) : Type 0 where
@@ -67,8 +70,9 @@ pub record AllAsk (setting : Setting) (sub : ℕ → ℕ → List Slot) (clock :
       → slice_get states k ≡ Some state → gives (moment_after setting sub clock past) k ≡ true → j < count
       → run_of overlap (sub k) (suc (position past k) + j) ≡ filled k + asked (passes state) j
 
--- the crossfades of a clock that gave at the instant after this past, and through which cells pass, have the samples of
--- their children for `many` instants; `held` has the children's titles
+-- Crossfades that gave at the instant after `past`, and through which a child's cells pass one for one, have the
+-- child's samples for `many` instants, in `left` and `right` by node. `filled` counts by node the slots that they got
+-- before. `held` has what nodes gave: here it tells the children's titles.
 pub record AreSupplied (setting : Setting) (sub : ℕ → ℕ
     → List Slot) (clock : NodeClock) (past : List Moment) (many : ℕ) (filled : ℕ → ℕ)
     (held : List Part) (states : List NodeState) (left right : Lanes) : Type 0 where

@@ -22,7 +22,8 @@ use Rattle.node_states.specs.declared.time.WeekTime.{WeekTime}
 use Rattle.clock_nodes.specs.declared.scene.Scene.{Scene}
 use Rattle.clock_nodes.specs.Scenes.{setting_over}
 
--- whether the child at this place in a node's list of children offers the first cell of a track; without a place, no
+-- whether the child at this place of a node's list `children` offers the first cell of a track, by `parts`, what all
+-- nodes offer; false without a place
 abbrev pub begins_at : List Part → List ℕ → Option ℕ → Bool
 begins_at parts children None = false
 begins_at parts children (Some place) = is_first (slot_at (slots_at parts children) place)
@@ -57,13 +58,13 @@ pub record NodeStretches (setting : Setting) (sub : ℕ → ℕ
       → KeepsTitle setting sub past i (work_at setting i node) j
       (title_of (offer (moment_after setting sub clock past) i))
 
--- each reader of a clock has begun n instants; `filled` counts them by node
+-- each reader of a clock has begun n instants, by `filled`, which counts them by node
 pub record AreReadTo (setting : Setting) (clock : NodeClock) (filled : ℕ → ℕ) (n : ℕ) : Type 0 where
   pub each : (i : ℕ) (node : Node) (buffer : ℕ) → IsNode setting clock i node → work_at setting i node ≡ Reads buffer
       → filled i ≡ n
 
--- for `rest` instants after one at this time, the same children of a node that chooses may be chosen: the second of the
--- week, which its predicates ask for, changes nothing
+-- For `rest` instants after one at this time, the same children of a node with this operator may be chosen. The second
+-- of the week, for which the predicates of a switch ask, changes nothing.
 pub record MarksStay (op : Op) (time : WeekTime) (rest : ℕ) : Type 0 where
   pub each : (rate i : ℕ) (kind : Kind) (choice : Choice) (eligible : Eligible) (start n j children : ℕ)
       → work_of rate i kind op ≡ Picks choice eligible → TimeStands start n time → j ≤ rest
@@ -74,9 +75,9 @@ pub record MarksStay (op : Op) (time : WeekTime) (rest : ℕ) : Type 0 where
 pub record IsSameTick (setting : Setting) (n tick : ℕ) : Type 0 where
   pub each : (j : ℕ) → 0 < j → j ≤ tick → nat_eq ((n + j) % setting.plan.frame) 0 ≡ false
 
--- Node i, which gave `held` at the latest instant, goes on for `rest` instants in the same way, whatever instants its
--- state stood for; `below` and `below_title` tell how long its sub-clock goes on, and under which title. If it is a
--- crossfade, it asks in each of them for one slot where cells pass, and otherwise for none.
+-- Node i, which gave `held` at the latest instant, where nodes did `parts`, goes on for `rest` instants in the same
+-- way, whatever instants `state` stood for. Its sub-clock goes on for `below` instants under title `below_title`, and
+-- its tick for `tick` more. A crossfade asks in each for one slot where cells pass, else for none.
 pub record NodeGoesOn (scene : Scene) (i : ℕ) (parts : List Part) (held : Part) (state : NodeState)
     (below below_title : ℕ) (time : WeekTime) (tick rest : ℕ) : Type 0 where
   pub goes : (other : Setting) (sub : ℕ → ℕ

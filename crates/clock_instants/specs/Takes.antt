@@ -46,26 +46,27 @@ pub record HasOwnReaders (setting : Setting) : Type 0 where
       → slice_get setting.plan.nodes j ≡ Some other
       → work_at setting i one ≡ Reads buffer → work_at setting j other ≡ Reads buffer → i ≡ j
 
--- how many instants a node has begun after one more of its clock, of `filled` before: a reader one more, any other node
--- none more
+-- how many instants a node has begun after one more of its clock, where it had begun `filled`: as a reader (true) one
+-- more, as any other node no more
 abbrev pub begun_by : Bool → ℕ → ℕ
 begun_by reading filled = if reading then suc filled else filled
 
--- by node, how many instants it has begun after the readers of a clock have begun one more, of those in `filled`
--- before
+-- How many slots node i has got as a crossfade, or instants it has begun as a reader, after the readers of a clock have
+-- begun one instant more; `filled` has by node how many before. Only these readers have one more.
 abbrev pub begun_in : Setting → NodeClock → (filled : ℕ → ℕ) → ℕ → ℕ
 begun_in setting clock filled i = begun_by (lies_in setting clock i && reads_at setting i) (filled i)
 
--- before the readers of a clock begin an instant: they have begun those of this past, and of each buffer they have
--- taken just the answers in `front`
+-- Before the readers of a clock begin the instant after `past`: by `filled`, a count by node, they have begun the
+-- instants of `past`. `front` has for each buffer just the answers that were taken from it.
 pub record HaveTaken (setting : Setting) (clock : NodeClock) (past : List Moment) (filled : ℕ → ℕ) (front : ℕ
     → List Answer) : Type 0 where
   pub even : (i : ℕ) → lies_in setting clock i ≡ true → reads_at setting i ≡ true → filled i ≡ length past
   pub taken : (i buffer : ℕ) (node : Node) → IsIn setting clock i node → work_at setting i node ≡ Reads buffer
       → (reading_after setting i buffer past).taken ≡ length (front buffer)
 
--- node i, which does this work, has begun the instant after this past with the calls `more` of its buffer: its state
--- stands for it, the calls are the takes that it is to make, and they got the answers behind `front`
+-- Node i, which does this work, has begun the instant after `past` with the takes `more`, those that are due there. Its
+-- state stands for the instant, and the takes got the answers behind `front`, those taken before by buffer. Of a
+-- crossfade `filled` counts the slots that it got, of a reader the instants begun before.
 pub record HasBegun (setting : Setting) (sub : ℕ → ℕ
     → List Slot) (past : List Moment) (filled i : ℕ) (work : Work) (front : ℕ → List Answer)
     (more : List Call) (state : NodeState) : Type 0 where
@@ -75,8 +76,9 @@ pub record HasBegun (setting : Setting) (sub : ℕ → ℕ
       → (reading_by setting i buffer past (suc (length past))).taken ≡ length (after_calls front more buffer)
   pub others : (buffer : ℕ) → (work ≡ Reads buffer → ⊥) → answers_in buffer more ≡ []
 
--- node i has begun a tick: whatever instants its state stood for, it made all the takes of its buffer that are due
--- there, and the taps, which stand for the calls made so far, have these behind the earlier ones
+-- Node i has begun a tick: it made all takes of its buffer that are due. The taps, which were `taps_old` and are
+-- `taps_new`, got them as further calls; `stands` says for which calls taps stand. This holds for all instants that its
+-- state `old` can stand for; `scene` is the plan with its files and clocks.
 pub record NodeBegan {T : Type 0} (stands : T → List Call
     → Type 0) (scene : Scene) (i : ℕ)
     (old new : NodeState) (taps_old taps_new : T) : Type 0 where
@@ -93,8 +95,9 @@ pub record NodeBegan {T : Type 0} (stands : T → List Call
       → (reading_after setting i buffer past).taken ≡ length (front buffer))
       → HasBegun setting sub past filled i (work_at setting i node) front more new
 
--- memory ran out while node i began a tick: it made the first of the takes that are due there, and the taps, which
--- stand for the calls made so far, have these behind the earlier ones; whatever instants its state stood for
+-- Memory ran out while node i began a tick: `made`, the takes that it made, are a prefix of those that are due. The
+-- taps, which were `taps_old`, got them as further calls; `stands` says for which calls taps stand. This holds for all
+-- instants that its state `old` can stand for; `scene` is the plan with its files and clocks.
 pub record NodeTookSome {T : Type 0} (stands : T → List Call
     → Type 0) (scene : Scene) (i : ℕ)
     (old : NodeState) (taps_old taps_new : T) : Type 0 where
@@ -116,8 +119,9 @@ abbrev pub takes_below : Setting → NodeClock → List Moment → (n : ℕ) →
 takes_below setting clock past n = joined_upto
     (λ i. takes_in setting (lies_in setting clock i) past i (slice_get setting.plan.nodes i)) n
 
--- the readers of a clock have begun the instant after this past: the calls `more` are all of their takes in node order,
--- with answers behind those of `front`, and the states stand for what they took
+-- The readers of a clock have begun the instant after `past`: `more` are all their takes in node order, which got the
+-- answers behind `front`, those taken before by buffer. The states stand for what they took. `filled` counts by node
+-- the slots that a crossfade got and the instants that a reader had begun.
 pub record AreBegun (setting : Setting) (sub : ℕ → ℕ → List Slot) (clock : NodeClock) (past : List Moment) (filled : ℕ
     → ℕ) (front : ℕ → List Answer)
     (more : List Call) (states : List NodeState) : Type 0 where
@@ -128,8 +132,9 @@ pub record AreBegun (setting : Setting) (sub : ℕ → ℕ → List Slot) (clock
   pub others : (buffer : ℕ) → ((i : ℕ) (node : Node) → IsIn setting clock i node → work_at setting i node ≡ Reads buffer
       → ⊥) → answers_in buffer more ≡ []
 
--- the readers of a clock have begun a tick, whatever instants the states stood for: they made all the takes that are
--- due there, and the taps, which stand for the calls made so far, have these behind the earlier ones
+-- The readers of a clock have begun a tick: they made all takes that are due. The taps, which were `taps_old`, got them
+-- as further calls; `stands` says for which calls taps stand. Whatever instants the states `old` stood for, `new` stand
+-- for what was taken too; `scene` is the plan with its files and clocks.
 pub record HaveBegun {T : Type 0} (stands : T → List Call
     → Type 0) (scene : Scene) (clock : NodeClock)
     (old new : List NodeState) (taps_old taps_new : T) : Type 0 where
@@ -143,9 +148,9 @@ pub record HaveBegun {T : Type 0} (stands : T → List Call
       → ClockStands setting sub clock past filled old → HaveTaken setting clock past filled front
       → AreBegun setting sub clock past filled front more new
 
--- Memory ran out while the readers of a clock began a tick, and they made only the first of the takes that are due
--- there. The taps, which stand for the calls made so far, have these behind the earlier ones; whatever instants the
--- states stood for.
+-- Memory ran out while the readers of a clock began a tick: `made`, the takes that they made, are a prefix of those
+-- that are due. The taps, which were `taps_old`, got them as further calls; `stands` says for which calls taps stand.
+-- It holds for all instants that the states `old` can stand for; `scene` is the plan with its files.
 pub record HaveTakenSome {T : Type 0} (stands : T → List Call
     → Type 0) (scene : Scene) (clock : NodeClock)
     (old : List NodeState) (taps_old taps_new : T) : Type 0 where

@@ -16,11 +16,12 @@ use Rattle.script_values.specs.Values as value
 use Rattle.script_values.specs.Values.{Value}
 use Rattle.builtin_calls.specs.Builtins.{builtin}
 
--- evaluation has only added nodes: each node of the list `before` is in `after` under the same number
+-- Evaluation has only added nodes to the plan: each node of `before` is in `after` under the same number. So a source
+-- that was made stays the same.
 abbrev pub Grows : List Node → List Node → Type 0
 Grows before after = (n : ℕ) (node : Node) → slice_get before n ≡ Some node → slice_get after n ≡ Some node
 
--- The type of a value; a source's kind is that of its node.
+-- A value has the type g, where the plan that is being built has the nodes `ns`; a source's kind is that of its node.
 abbrev mutual
   pub IsA : List Node → value.ValueTree value.OneValue → Ground → Type 0
   IsA ns (value.Int n) g = g ≡ base_type base.Int

@@ -22,25 +22,28 @@ use Rattle.builtin_calls.specs.Builtins.{builtin}
 use Rattle.eval_meaning.specs.Preds.{or_pred}
 use Rattle.script_values.specs.Slots.{Argument, SlotValue, value_at_token}
 
--- what a call of a def makes of the state: by the token of the def's name, the kinds that its open kinds have in this
--- call, and the arguments
+-- What a call of a def makes of the state of evaluation, the Machine. It is given the token of the def's name, the
+-- arguments, and mono or stereo for each kind over which the def's type is generalised.
 abbrev pub Caller : Type 0
 Caller = ℕ → List Kind → List Argument → Machine → Outcome
 
--- all that the value of an expression depends on besides the state: what names stand for, the values of bindings, the
--- kinds that the open kinds of the def around have, and what a call of a def makes
+-- The environment of an expression, all that its value depends on besides the state: what names stand for, the values
+-- of bindings, and what a call of a def makes. In a def, `kinds` has mono or stereo for each kind over which the def's
+-- type is generalised.
 pub record Surroundings : Type 0 where
   pub uses : List Use
   pub slots : List SlotValue
   pub kinds : List Kind
   pub call : Caller
 
--- the value of a binding, whose size counts as work; stuck without a value
+-- The value of a binding with the state after it; its size counts as work. Without a value evaluation is stuck, which
+-- no typed script comes to.
 abbrev pub value_at : Option Value → Machine → Outcome
 value_at None m = Err Stuck
 value_at (Some v) m = count_work (size v) m >>= λ c. Ok (v, c)
 
--- the value of a name by its use; stuck where the name is no binding's
+-- The value of a name by its use, which tells what the name stands for. Evaluation is stuck where that is no binding,
+-- which no typed script comes to.
 unfoldable pub named : Surroundings → Option Use → Machine → Outcome
 named s None m = Err Stuck
 named s (Some u) m =
@@ -50,15 +53,16 @@ named s (Some u) m =
       | target.Builtin b ↦ Err Stuck
     ]
 
--- what a call at token `at` makes of these kinds and arguments, by what its name means
+-- What a call at token `at` comes to, by what its name means (`target`), the kinds of this use, and the arguments.
+-- Evaluation is stuck without kinds, or where the name is a binding's; no typed script comes to that.
 abbrev pub applied_to : Surroundings → Target → ℕ → Option (List Kind) → List Argument → Machine → Outcome
 applied_to s target at None given m = Err Stuck
 applied_to s (target.Slot t) at (Some kinds) given m = Err Stuck
 applied_to s (target.Def t) at (Some kinds) given m = s.call t kinds given m
 applied_to s (target.Builtin b) at (Some kinds) given m = builtin b at kinds given m
 
--- A call at token `at` of what a name stands for. The sources that it makes are its own; those of its arguments were
--- made before.
+-- What a call at token `at` of a name with this use comes to. The sources that the call makes are noted as its own;
+-- those of its arguments, which were evaluated before, are not. Without a use evaluation is stuck.
 unfoldable pub applied : Surroundings → Option Use → ℕ → List Argument → Machine → Outcome
 applied s None at given m = Err Stuck
 applied s (Some u) at given m = ascribed at m (applied_to s u.target at (kinds_of s.kinds u.kinds) given m)
@@ -198,27 +202,30 @@ grouped s (more f (more g rest)) m = fulls s (more f (more g rest)) [] m >>= λ 
 abbrev pub all_of : Surroundings → Tree (Many AFull) → Machine → Outcome
 all_of s parts m = fulls s parts [] m >>= λ z. Ok (value.ListValue (many z.0), z.1)
 
--- The binding of a parameter whose name stands at this token by the argument that it takes, and the arguments that are
--- left; stuck without one.
+-- For a parameter whose name stands at token `at`, and the argument that it takes with those that are left: its
+-- binding, with those that are left. Without an argument evaluation is stuck, which no typed script comes to.
 abbrev pub taken_slot : ℕ → Option (Value × List Argument) → Machine
     → Result ((SlotValue × List Argument) × Machine) Stop
 taken_slot at None m = Err Stuck
 taken_slot at (Some x) m = Ok (((at, x.0), x.1), m)
 
--- the binding of a parameter by the argument that it takes or else by its default, and the arguments that are left
+-- For a parameter whose name stands at token `at`: its binding, with the arguments that are left. It is bound to the
+-- argument that it takes, if there is one; otherwise to its default, and all of `given` are left.
 abbrev pub slot_or_default : ℕ → Option (Value × List Argument) → List Argument → Outcome → Machine
     → Result ((SlotValue × List Argument) × Machine) Stop
 slot_or_default at None given default m = default >>= λ x. Ok (((at, x.0), given), x.1)
 slot_or_default at (Some x) given default m = Ok (((at, x.0), x.1), m)
 
--- the binding of one parameter, and the arguments that are left; a default is evaluated among the names before the def
+-- The binding of one parameter of a def in a call with the arguments `given`, and the arguments that are left. A
+-- default is evaluated in s, the environment before the def.
 unfoldable pub parameter : Surroundings → Tree AParam → List Argument → Machine
     → Result ((SlotValue × List Argument) × Machine) Stop
 parameter s (Param at name) given m = taken_slot at (argument None given) m
 parameter s (Labelled at name) given m = taken_slot at (argument (Some name) given) m
 parameter s (Optional at name d) given m = slot_or_default at (argument (Some name) given) given (full s d m) m
 
--- the bindings `slots` and behind them those of further parameters, in the order in which they stand
+-- the bindings `slots` of earlier parameters, and behind them those of these parameters, in the order in which they
+-- stand; `given` are the arguments that the earlier ones left
 unfoldable pub parameters : Surroundings → Tree (Many AParam) → List Argument → List SlotValue → Machine
     → Result (List SlotValue × Machine) Stop
 parameters s none given slots m = Ok (slots, m)
@@ -228,11 +235,13 @@ parameters s (more p ps) given slots m = parameter s p given m >>= λ x. paramet
 abbrev pub with_slots : Surroundings → List SlotValue → Surroundings
 with_slots s slots = record s { slots = slots ++ s.slots }
 
--- the binding that an inner binding of a def makes, behind the bindings `slots`
+-- the value that an inner binding of a def gets, with the token of its name; `slots` are the bindings of the def before
+-- it
 unfoldable pub inner : Surroundings → Tree AnInner → List SlotValue → Machine → Result (SlotValue × Machine) Stop
 inner s (Inner (Bind at name f) semicolon) slots m = full (with_slots s slots) f m >>= λ x. Ok ((at, x.0), x.1)
 
--- the bindings `slots` and behind them those that further inner bindings make, each over those before it
+-- the bindings `slots` of a def, and behind them those that these inner bindings make, each evaluated over those before
+-- it
 unfoldable pub inners : Surroundings → Tree (Many AnInner) → List SlotValue → Machine
     → Result (List SlotValue × Machine) Stop
 inners s none slots m = Ok (slots, m)
@@ -251,12 +260,14 @@ pub record World : Type 0 where
   pub uses : List Use
   pub globals : List SlotValue
 
--- the value of a call of a def, if there is one, with these arguments; stuck without a def
+-- the value of a call of this def with these arguments; without a def evaluation is stuck, which no typed script comes
+-- to
 abbrev pub run : Surroundings → Option (Tree ADef) → List Argument → Machine → Outcome
 run s None given m = Err Stuck
 run s (Some d) given m = body s d given m
 
--- A call of the def at token t, where n more calls may run within each other. Each call evaluates the body anew.
+-- A call of the def whose name stands at token t, where at most n calls may run within each other; past that the script
+-- is too large. Each call evaluates the def's body anew, over the values `w.globals` of the statements before.
 unfoldable pub call_by : World → ℕ → Caller
 call_by w zero t kinds given m = Err (TooLarge Calls)
 call_by w (suc n) t kinds given m = run (record {

@@ -39,7 +39,8 @@ unfoldable mutual
   not_pred (PNot true atom) = pred.Negated (atom_pred atom)
   not_pred (PNot false atom) = atom_pred atom
 
-  -- the predicate of an atom: a truth, a mark, an interval, or parentheses
+  -- the predicate of an atom: true or false, a single time such as `12h` (`Mark`), an interval of times, or a predicate
+  -- in parentheses
   pub atom_pred : Tree APAtom → Predicate
   atom_pred TrueAtom = pred.Always
   atom_pred FalseAtom = pred.Never

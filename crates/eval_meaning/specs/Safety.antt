@@ -19,8 +19,9 @@ abbrev pub HaveValues : List Node → TypesByToken → List SlotValue → Type 0
 HaveValues ns types slots = (at : ℕ) (g : Ground) → type_at at types ≡ Some g
     → (v : Value) × (value_at_token at slots ≡ Some v) × IsA ns v g
 
--- evaluation in the surroundings s and typing in the sight t look up the same: targets, kinds, values of the right
--- types, and calls that are not stuck
+-- Evaluation in the environment s and typing in the scope t look up the same: the same targets and kinds of names, for
+-- each typed binding a value of its type, and calls of defs that don't get stuck. The plan that is being built has the
+-- nodes ns.
 pub record Knows (s : Surroundings) (t : Sight) (ns : List Node) : Type 0 where
   pub target : (at : ℕ) → target_said (use_at at s.uses) ≡ t.target at
   pub kinds : (at : ℕ) → t.kinds at ≡ kinds_in (use_at at s.uses) s.kinds

@@ -18,8 +18,8 @@ use Rattle.script_values.specs.Slots.{SlotValue}
 use Rattle.eval_meaning.specs.Calls.{is_setting}
 use Rattle.eval_meaning.specs.Meaning.{Surroundings, full, call, choice, call_by}
 
--- the surroundings of a statement: the bindings of those before it, no open kinds, and 16 calls that may run within
--- each other
+-- the environment in which a statement is evaluated: `globals` are the values of the statements before it, and up to 16
+-- calls may run within each other
 abbrev pub top_scope : Script → List Use → List SlotValue → Surroundings
 top_scope script uses globals = record {
   uses = uses;
@@ -28,8 +28,8 @@ top_scope script uses globals = record {
   call = call_by (record { script = script; uses = uses; globals = globals }) MAX_CALLS;
 }
 
--- What a statement makes of the bindings and of the state. A call or an `if` that is a whole statement counts nothing
--- itself.
+-- What a statement makes of `slots`, the values of the bindings before it, and of the state: a binding adds its value.
+-- A call or an `if` that is a whole statement counts no step of work itself.
 unfoldable pub statement : Surroundings → Tree APart → List SlotValue → Machine
     → Result (List SlotValue × Machine) Stop
 statement s (BindPart (Bind at name f)) slots m = full s f m >>= λ x. Ok (slots ++ (at, x.0) ∷ [], x.1)
@@ -74,8 +74,8 @@ closed m None = Err (Some (told.BadSetting m.settings.last))
 unfoldable pub settings_ended : Machine → Result Machine Ending
 settings_ended m = closed m (tick_of m.settings.duration.millionths m.plan.rate)
 
--- before a statement: if it is no setting (false) and settings were still allowed, they end here; else nothing
--- changes
+-- What is done before a statement, where the flag says whether it is a setting. If it is none and settings were still
+-- allowed, they end here; else the state stays as it was.
 abbrev pub settings_settled : Bool → Machine → Result Machine Ending
 settings_settled true m = Ok m
 settings_settled false m = elim m.settings.allowed [ true ↦ settings_ended m | false ↦ Ok m ]
@@ -84,14 +84,15 @@ settings_settled false m = elim m.settings.allowed [ true ↦ settings_ended m |
 abbrev pub numbered : ℕ → Machine → Machine
 numbered n m = record m { settings = record m.settings { statement = n } }
 
--- one statement, number n, evaluated: the bindings and the state after it, where the settings end first if it is no
--- setting
+-- Statement number n evaluated: the values of bindings and the state after it; `slots` and m are those before. If it is
+-- no setting, and settings were still allowed, these end first.
 unfoldable pub turned : Script → List Use → Tree APart → ℕ → List SlotValue → Machine
     → Result (List SlotValue × Machine) Ending
 turned script uses part n slots m = and_then (settings_settled (is_setting uses part) m)
     (λ b. ending_in n (statement (top_scope script uses slots) part slots (numbered n b)))
 
--- the state behind the statements that follow the first n, over the bindings of these
+-- the state behind these statements, which follow the first n of the script; `slots` has the values that the first n
+-- have bound
 unfoldable pub statements : Script → List Use → Tree (Many AStmt) → ℕ → List SlotValue → Machine → Result Machine Ending
 statements script uses none n slots m = settings_settled false m
 statements script uses (more (Stmt part semicolon) rest) n slots m = and_then (turned script uses part (n + 1) slots m)

@@ -53,7 +53,8 @@ Said = ℕ × Option Target × Option ℕ
 abbrev pub said_of : Found → Said
 said_of f = (f.at, Some f.target, Some (length f.kinds))
 
--- how many open kinds a def has: kind variables of its general type, which each call of it chooses anew
+-- how many kinds a def leaves open: the kind variables over which its type is generalised, so that each call chooses
+-- them anew
 abbrev pub open_kinds : KnownDef → ℕ
 open_kinds d = length (open_numbers 0 (scheme_of d.general).kinds)
 

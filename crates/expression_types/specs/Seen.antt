@@ -34,21 +34,23 @@ found f = record { at = f.at; target = f.target; kinds = f.kinds.items }
 abbrev pub founds : List FoundUse → List Found
 founds fs = map found fs
 
--- a kind of a use in the text of a def, as the definitions of inference have it: one over the variables outside, or
--- an open kind of the def
+-- A kind that a name has where a def's text uses it, as the definitions of inference have it. It may not be fixed yet.
+-- It is a kind over the variables of the scope around the def, or number j of the kinds over which the def's type is
+-- generalised, which each call chooses.
 abbrev pub pending : TextKind → Pending
 pending (text_kind.Outer k) = of_term k
 pending (text_kind.Open j) = of_def j
 
--- a use of a name in the text of a def, as the definitions of inference have it
+-- a use of a name in the text of a def, as the definitions of inference have it: each of its kinds is one over
+-- variables from outside the def, or one over which the def's type is generalised
 abbrev pub text_use : ATextUse → TextUse
 text_use u = record { at = u.at; target = u.target; kinds = map pending u.kinds.items }
 
--- parameters and inner bindings by their tokens, each with its type variable
+-- parameters and inner bindings of a def, each as the token of its name with its type variable
 abbrev pub types_seen : List TypedName → List (ℕ × Term)
 types_seen ns = map (λ n. (n.at, variable n.var)) ns
 
--- a def that statements have bound, with the uses in its text, as a list of one, or of none without a def
+-- a def that a statement has bound, with the uses of names in its text, as a list of one; the empty list without a def
 abbrev pub def_known : Option KnownDef → List Known
 def_known None = []
 def_known (Some d) = function (view_def d.def.now) (map text_use d.uses.items) ∷ []
@@ -75,15 +77,15 @@ env_of n = record {
 
 -- ---- what is to hold before
 
--- the name at token `at` may be called: it means t, whose parameters are ps, and a call of it has as its type an
--- instance of the general type g
+-- The name at token `at` may be called: in the scope `env` it means t, whose parameters are ps. A call has as its type
+-- an instance of the type scheme g, a type generalised over its own variables. s is the substitution so far.
 pub record IsCalled (s : Table) (env : Env) (at : ℕ) (t : Target) (ps : List Parameter) (g : Scheme) : Type 0 where
   pub over : IsSchemeOver s g
   pub callable : IsCallable s env at t ps (IsInstance g)
   pub meant : env.targets at ≡ Some t
 
--- a call of the def at token t may have exactly the instances of the def's general type as its type; without a def
--- there is no call
+-- Without a def at token t no call of it has a type. With one, the types of calls are just the instances of its type
+-- scheme, a type generalised over its own variables. The Table is the substitution so far, the Env the names in scope.
 abbrev pub DefIs : Table → Env → ℕ → Option KnownDef → Type 0
 DefIs s env t None = (at : ℕ) → HasNoCall s env at (target.Def t)
 DefIs s env t (Some d) = IsSchemeOver s (scheme_of d.general)
@@ -97,8 +99,9 @@ pub record IsSeen (s : Table) (names : Names) (uses : List FoundUse) : Type 0 wh
   pub uses_over : AreUsesOver s (founds uses)
   pub calls : (t : ℕ) → DefIs s (env_of names) t (def_seen t names.defs.now)
 
--- the typing of a name outside a call, at token `at`: where it has a type, the name means a binding, and its use was
--- added to the list, with no kinds
+-- The typing of a name outside a call, at token `at`. If it has a type variable (Some), the name means a binding in
+-- this Env, the names in scope, and `new` is `old`, the list of uses, with this use added, which has no kinds.
+-- Otherwise nothing is said.
 abbrev pub IsNamed : Env → ℕ → List Found → List Found → Option ℕ → Type 0
 IsNamed env at old new None = ⊤
 IsNamed env at old new (Some n) = (t : ℕ) × (env.targets at ≡ Some (target.Slot t))
@@ -109,8 +112,9 @@ abbrev pub called_scheme : Called → Scheme
 called_scheme (called.Builtin b) = builtin_scheme b
 called_scheme (called.General g) = scheme_of g.now
 
--- the typing of a call has begun: what is called, of general type g, got the new type variables in c, and the use of
--- its name at token `at` was added, with as many kinds as it has open ones
+-- The typing of a call at token `at` has begun: c has the fresh type variables of an instance of g, the type scheme of
+-- what is called, t. The substitution s has become s'. The list of uses `old` has become `new`, with this use added and
+-- one kind for each that g leaves open.
 pub record HasBegun (s s' : Table) (g : Scheme) (at : ℕ) (t : Target) (c : Callee) (old new : List Found) : Type 0 where
   pub kinds : List KindTerm
   pub instantiated : IsInstantiated s s' (IsInstance g) (map term_of c.params.items) (variable c.result) kinds

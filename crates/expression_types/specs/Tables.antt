@@ -13,7 +13,8 @@ use Rattle.expression_types.specs.declared.environment.Known.TheVariants as know
 abbrev pub targets_of : List (Option Target) → Targets
 targets_of m t = at_token t m
 
--- the number of the type variable of what a statement has bound, if it is a value whose name stands at token t
+-- the number of a type variable: that of the value which a statement has bound to the name at token t; none if what the
+-- statement bound is a def, or has its name at another token
 abbrev pub number_known : ℕ → Known → Option ℕ
 number_known t (known.Value n) = cond (nat_eq n.at t) (Some n.var) None
 number_known t (known.Function i) = None

@@ -9,8 +9,8 @@ abbrev pub has_label : List (GivenArgument ℕ) → Bool
 has_label [] = false
 has_label (g ∷ gs) = cond (is_some g.0) true (has_label gs)
 
--- how many of the arguments without labels are left after a parameter of this form, which takes one if it stands in
--- its place; none where it needs an argument that is not there
+-- How many of a call's arguments without labels are left after a parameter of this form, where there were so many
+-- before: it takes one if it is `InPlace`. None if it needs an argument that is not there.
 abbrev pub left_by : Form → Option ℕ → Option ℕ
 left_by f None = None
 left_by InPlace (Some zero) = None
@@ -18,8 +18,8 @@ left_by InPlace (Some (suc n)) = Some n
 left_by ByLabel (Some n) = None
 left_by Perhaps (Some n) = Some n
 
--- how many of the arguments without labels are left after these parameters took theirs; none where one of them needs
--- an argument that is not there
+-- how many of a call's arguments without labels are left after these parameters took theirs, where there were so many
+-- before; None if one of them needs an argument that is not there
 abbrev pub left_behind : List Parameter → Option ℕ → Option ℕ
 left_behind [] o = o
 left_behind (p ∷ ps) o = left_behind ps (left_by p.form o)

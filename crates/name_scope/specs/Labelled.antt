@@ -22,7 +22,8 @@ abbrev pub placed : ℕ → List (Option (List ℕ)) → List (GivenArgument ℕ
 placed k [] = []
 placed k (l ∷ ls) = (l, k) ∷ placed (suc k) ls
 
--- the place of the first argument with this label; of the first without a label, if none is asked for
+-- the place of the first of these arguments that has this label; where no label is asked for, of the first one without
+-- a label
 abbrev pub first_of : Option (List ℕ) → List (GivenArgument ℕ) → Option ℕ
 first_of label gs = option_map (λ x. x.0) (argument label gs)
 
@@ -35,13 +36,14 @@ next_ones (g ∷ gs) = first_of g.0 gs ∷ next_ones gs
 abbrev pub AreLinked : (ℕ → Option ℕ) → List (GivenArgument ℕ) → Type 0
 AreLinked next gs = map (λ g. next g.1) gs ≡ next_ones gs
 
--- the place that a table has for a label: none where the table has no entry, or an entry without a place
+-- an option within an option as one: the place that a look-up in a table finds, none where the table has no entry for
+-- the label, or an entry without a place
 abbrev pub flat : Option (Option ℕ) → Option ℕ
 flat None = None
 flat (Some o) = o
 
--- the place of the first argument that is left with this label: `named` has these places by label, and `plain` is
--- that of the first one without a label
+-- The place of the first argument with this label that no parameter has taken, looked up: `named` has these places by
+-- label, and `plain` is that of the first argument without a label.
 abbrev pub head_at : {S : Type 0} → IndexMap (Bor (List ℕ)) (Option ℕ) S → Option ℕ → Option (List ℕ) → Option ℕ
 head_at named plain None = plain
 head_at named plain (Some name) = flat (get_by (λ key. bytes_eq name key.now) named)
@@ -55,6 +57,6 @@ AreHeads head gs = (label : Option (List ℕ)) → head label ≡ first_of label
 abbrev pub next_at : List (Option ℕ) → ℕ → Option ℕ
 next_at next i = get_or next i None
 
--- an argument with the same label, and with f of its place or token in place of it
+-- the argument of a call with the same label, and with its place or token n replaced by f n
 abbrev pub on : (ℕ → ℕ) → GivenArgument ℕ → GivenArgument ℕ
 on f g = (g.0, f g.1)

@@ -11,8 +11,8 @@ use Rattle.typing_rules.specs.Scoping.{Meaning, Name, Scope, inner_names, names,
 use Rattle.name_scope.specs.declared.notes.Notes.{Notes}
 use Rattle.name_scope.specs.declared.notes.Resolved.{Resolved}
 
--- the first parameter of a call that finds no argument: the one known from before, or else p, if it must have an
--- argument and none was taken
+-- The first parameter of a call that finds no argument, after one more parameter p: the one known from before, if any.
+-- Otherwise it is p, if p must have an argument and took none (`taken` is false).
 abbrev pub missing_with : Option (List ℕ) → Parameter → Bool → Option (List ℕ)
 missing_with (Some m) p taken = Some m
 missing_with None p true = None
@@ -68,7 +68,7 @@ resolved r = (r.at, Some r.target)
 abbrev pub noted : Notes → Noted
 noted n = record { found = map resolved n.found.items; fault = n.fault }
 
--- the names of a def's inner bindings and of its result, in the scope of its parameters
+-- the uses of names in a def's inner bindings `is` and in its result e, where the scope `sc` has the def's parameters
 abbrev pub body_names : Scope → Tree (Many AnInner) → Tree AnExpr → List Name
 body_names sc is e = inner_names sc is ++ names (with_inners is sc) e
 

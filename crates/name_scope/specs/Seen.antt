@@ -44,7 +44,8 @@ both_scopes s = in_scope s.inner.now ++ in_scope s.outer.now
 abbrev pub token_at : List AGiven → ℕ → ℕ
 token_at gs i = get_or (map (λ g. g.at) gs) i 0
 
--- the arguments of a call that no parameter has taken yet, with their labels and places, by the program's table
+-- the arguments of a call that no parameter has taken yet, each with its label and its place, as the program's table t
+-- of labels has them
 abbrev pub left_of : Labels → List (GivenArgument ℕ)
 left_of t = left_in 0 (map seen_label t.labels.items) t.taken.items
 

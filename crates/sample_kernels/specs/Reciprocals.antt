@@ -1,7 +1,8 @@
 -- Quotients by products: what private contracts say of the numbers that stand for divisors.
 use Rattle.std.specs.Prelude.{ℕ, ◌+◌, ◌*◌, ◌/◌, ℤ, pos, negsuc, neg_ℤ}
 
--- the number of this size that has the sign of the first argument
+-- the number of this size with the sign of the first argument: products and quotients are computed of sizes alone, and
+-- get their sign then
 abbrev pub signed_as : ℤ → ℕ → ℤ
 signed_as (pos n) size = pos size
 signed_as (negsuc n) size = neg_ℤ (pos size)

@@ -19,18 +19,19 @@ pub record IsParsed (tokens : List TokenKind) (script : program.Script) : Type 0
   pub placed : IsPlaced 0 (view_script script)
   pub whole : IsWhole script
 
--- brackets, `if` and `def` nest at no token deeper than they may
+-- at each token, brackets, `if` and `def` nest no deeper than is allowed
 abbrev pub IsShallow : List TokenKind → Type 0
 IsShallow tokens = (k : ℕ) → k < length tokens → IsDeepAt tokens k → ⊥
 
--- what parsing answers, with no bound on the nesting, is right: the script that the tokens spell, or want of memory,
--- or the token at which no script goes on
+-- What the parser returned for these tokens, with no bound on the nesting, is right: the script that they spell, or the
+-- token at which no script goes on. That memory ran out may be returned for all tokens.
 abbrev pub Whole : List TokenKind → Result program.Script Refusal → Type 0
 Whole tokens (Ok s) = IsParsed tokens s
 Whole tokens (Err refusals.Memory) = Unit {0}
 Whole tokens (Err (refusals.At k)) = IsSyntaxPlace tokens k
 
--- why these tokens are no script: the lesser place decides, and at equal places it is that of syntax
+-- The fault that is told of these tokens is right: at token k no script goes on, or at token d brackets nest too deep.
+-- Of the two the one that comes first is told, and at the same token that of syntax.
 abbrev pub IsFault : List TokenKind → ParseFault → Type 0
 IsFault tokens answers.Memory = ⊥
 IsFault tokens (answers.Syntax k) = IsSyntaxPlace tokens k × ((d : ℕ) → d < k → IsDeepAt tokens d → ⊥)

@@ -8,7 +8,7 @@ use Rattle.script_lex.specs.declared.token.Symbol.TheVariants as sign
 use Rattle.script_grammar.specs.Tree.{Script}
 use Rattle.script_grammar.specs.Spelling.{spelling}
 
--- these tokens are the beginning of some script, or all of it
+-- these tokens are the first tokens of some script, or all of its tokens
 abbrev pub Begins : List TokenKind → Type 0
 Begins front = (s : Script) × (others : List TokenKind) × (spelling s ≡ front ++ others)
 
@@ -38,7 +38,8 @@ closes (Symbol sign.CloseCurly) = true
 closes (Keyword word.End) = true
 closes k = false
 
--- the nesting at token k, what is opened less what is closed among tokens 0 to k, is more than may be
+-- The nesting at token k is more than is allowed: of the tokens 0 to k, those that open a level are more than
+-- MAX_NESTING above those that close one.
 abbrev pub IsDeepAt : List TokenKind → ℕ → Type 0
 IsDeepAt tokens k = count_by closes (take (k + 1) tokens) + MAX_NESTING < count_by opens (take (k + 1) tokens)
 

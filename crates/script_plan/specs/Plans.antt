@@ -18,7 +18,8 @@ use Rattle.eval_meaning.specs.Scripts.{evaluation}
 use Rattle.script_plan.specs.declared.fault.ScriptFault.{ScriptFault}
 use Rattle.script_plan.specs.declared.fault.ScriptFault.TheVariants as fault
 
--- the text's tokens spell this script, its token numbers are right, and it nests no deeper than it may
+-- the text's tokens spell this script, each `at` in it is the index of its token, and it nests no deeper than is
+-- allowed
 pub record Spells (text : List ℕ) (script : Script) : Type 0 where
   pub tokens : List Token
   pub lexed : AreTokens text tokens
@@ -26,7 +27,7 @@ pub record Spells (text : List ℕ) (script : Script) : Type 0 where
   pub placed : IsPlaced 0 script
   pub shallow : IsShallow (kinds tokens)
 
--- the text spells this script, and typing gives its names these meanings, its uses
+-- the text spells this script, which has a typing, with these uses of names: what each name means where it stands
 pub record Types (text : List ℕ) (script : Script) (uses : List Use) : Type 0 where
   pub spelled : Spells text script
   pub typed : IsTyped script uses
@@ -44,7 +45,8 @@ pub record IsSyntaxFault (text : List ℕ) (f : ParseFault) : Type 0 where
   pub lexed : AreTokens text tokens
   pub told : IsFault (kinds tokens) f
 
--- this is the text's fault of types: the text spells a script, which has no typing; want of memory is no such fault
+-- This is the text's fault of types: the text spells a script, which has no typing, and f says why. That memory ran out
+-- is no fault of the text.
 pub record IsTypingFault (text : List ℕ) (f : TypeFault) : Type 0 where
   pub script : Script
   pub spelled : Spells text script

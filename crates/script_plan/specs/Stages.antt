@@ -17,22 +17,22 @@ use Rattle.eval_meaning.specs.Scripts.{evaluation}
 use Rattle.script_plan.specs.declared.fault.ScriptFault.{ScriptFault}
 use Rattle.script_plan.specs.declared.fault.ScriptFault.TheVariants as fault
 
--- a fault of tokens as that of the text; want of memory is that of all stages
+-- the fault of a text whose tokens have the fault f; that memory ran out is told alike by all stages
 abbrev pub lexical : LexFault → ScriptFault
 lexical lex_fault.Memory = fault.Memory
 lexical f = fault.Lex f
 
--- a fault of the tree as that of the text; want of memory is that of all stages
+-- the fault of a text whose tokens are no script, for the reason f; that memory ran out is told alike by all stages
 abbrev pub syntactic : ParseFault → ScriptFault
 syntactic parse_fault.Memory = fault.Memory
 syntactic f = fault.Parse f
 
--- a fault of types as that of the text; want of memory is that of all stages
+-- the fault of a text whose script has the fault of types f; that memory ran out is told alike by all stages
 abbrev pub of_typing : TypeFault → ScriptFault
 of_typing type_fault.Memory = fault.Memory
 of_typing f = fault.Type f
 
--- a fault of evaluation as that of the text; want of memory is that of all stages
+-- the fault of a text whose evaluation ends with the fault f; that memory ran out is told alike by all stages
 abbrev pub of_evaluation : EvalFault → ScriptFault
 of_evaluation eval_fault.Memory = fault.Memory
 of_evaluation f = fault.Eval f
@@ -49,8 +49,8 @@ pub record EndsBy (script : Script) (f : EvalFault) : Type 0 where
   pub typed : IsTyped script uses
   pub told : evaluation script uses ≡ Err (Some f)
 
--- what the stage of typing may answer of a script in place of its uses: the script's fault of types, or want of
--- memory
+-- what the stage of typing may tell of a script in place of its uses of names: the script's fault of types, or that
+-- memory ran out
 abbrev pub IsOfTyping : Script → ScriptFault → Type 0
 IsOfTyping script (fault.Lex f) = ⊥
 IsOfTyping script (fault.Parse f) = ⊥
@@ -58,8 +58,8 @@ IsOfTyping script (fault.Type f) = (f ≢ type_fault.Memory) × IsTypeFault scri
 IsOfTyping script (fault.Eval f) = ⊥
 IsOfTyping script fault.Memory = ⊤
 
--- what the stage of evaluation may answer of a script with these uses, in place of a plan: the fault with which it
--- ends, or want of memory
+-- what the stage of evaluation may tell of a script with these uses of names, in place of a plan: the fault with which
+-- its evaluation ends, or that memory ran out
 abbrev pub IsOfEvaluation : Script → List Use → ScriptFault → Type 0
 IsOfEvaluation script uses (fault.Lex f) = ⊥
 IsOfEvaluation script uses (fault.Parse f) = ⊥
@@ -67,7 +67,8 @@ IsOfEvaluation script uses (fault.Type f) = ⊥
 IsOfEvaluation script uses (fault.Eval f) = evaluation script uses ≡ Err (Some f)
 IsOfEvaluation script uses fault.Memory = ⊤
 
--- what may be answered of a script in place of its plan: the fault of its types or of its evaluation, or want of memory
+-- what may be told of a script in place of its plan: the fault of its types, the fault of its evaluation, or that
+-- memory ran out
 abbrev pub IsOfScript : Script → ScriptFault → Type 0
 IsOfScript script (fault.Lex f) = ⊥
 IsOfScript script (fault.Parse f) = ⊥

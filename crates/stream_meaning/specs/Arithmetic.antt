@@ -15,11 +15,13 @@ abbrev pub total_by : (Cell → ℤ) → List Cell → ℤ
 total_by sample [] = pos 0
 total_by sample (cell ∷ cells) = sample cell +ℤ total_by sample cells
 
--- the sum of so many samples, made one sample: their mean, or the sum cut to the range of a sample
+-- the sum of `parts` samples, made one sample again: where `normalize` holds their mean, otherwise the sum cut to the
+-- range of a sample
 abbrev pub levelled : Bool → ℕ → ℤ → ℤ
 levelled normalize parts sum = if normalize then mean_of sum parts else clamped sum
 
--- the sum or the mean of these cells; the flag and the title are those of the first of them
+-- the sum of these cells, or with `normalize` their mean, as one cell; whether it begins a track and its title are
+-- those of the first cell; nothing without cells
 abbrev pub summed_slot : Bool → List Cell → Slot
 summed_slot normalize [] = None
 summed_slot normalize (cell ∷ cells) = Some (record {

@@ -15,7 +15,7 @@ use Rattle.stream_meaning.specs.Operators.{Work, Plays, Picks, Mixes, Fades, Rea
 use Rattle.stream_meaning.specs.Instants.{Setting, Moment, clock_of, lies_in, position, next_answers, reading_after, work_at, first_instants, sub_of}
 use Rattle.stream_meaning.specs.Sinks.{feed_cells}
 
--- the first n of these lists of calls, one behind another; `calls j` is list j
+-- the first n of the lists of calls `calls 0`, `calls 1` and so on, one behind another
 abbrev pub joined_upto : (ℕ → List Call) → ℕ → List Call
 joined_upto calls zero = []
 joined_upto calls (suc n) = joined_upto calls n ++ calls n
@@ -24,21 +24,22 @@ joined_upto calls (suc n) = joined_upto calls n ++ calls n
 abbrev pub joined_between : (ℕ → List Call) → (from to : ℕ) → List Call
 joined_between calls from to = joined_upto (λ j. calls (from + j)) (to - from)
 
--- the takes that node i makes of its buffer where its clock begins a tick after these instants; none where its work is
--- not to read a buffer
+-- the takes that node i makes of its buffer at the instant after `past`, where a tick of its clock begins; none where
+-- its work is not to read a buffer
 abbrev pub takes_by : Setting → List Moment → ℕ → Work → List Call
 takes_by setting past i (Reads buffer) =
     let reading = reading_after setting i buffer past in
     map (Took buffer) (reader_takes (next_answers (setting.answers buffer) reading) reading.reader)
 takes_by setting past i _ = []
 
--- the takes of node i at the start of a tick, if it lies in the clock and there is such a node
+-- the takes of node i at the instant after `past`, where a tick begins; none if the node is not in the clock (`inside`
+-- is false) or not in the plan
 abbrev pub takes_in : Setting → Bool → List Moment → ℕ → Option Node → List Call
 takes_in setting inside past i None = []
 takes_in setting false past i (Some node) = []
 takes_in setting true past i (Some node) = takes_by setting past i (work_at setting i node)
 
--- the takes of a clock's readers before the instant after these, in node order; none where no tick begins there
+-- the takes of a clock's readers before the instant that follows `past`, in node order; none where no tick begins there
 abbrev pub takes_at : Setting → NodeClock → List Moment → List Call
 takes_at setting clock past =
     if nat_eq (length past % setting.plan.frame) 0
@@ -52,22 +53,25 @@ abbrev pub ran_by : (sub : ℕ → ℕ → List Slot) → (k overlap : ℕ) → 
 ran_by sub k overlap [] = 0
 ran_by sub k overlap (moment ∷ past) = run_of overlap (sub k) (position past k)
 
--- the calls of the instants that node k's sub-clock makes at the instant after these, if its work is a crossfade;
--- `below k m` are those of instant m of the sub-clock
+-- The calls of the instants that node k's sub-clock makes at the instant of its clock after `past`, if its work is a
+-- crossfade. `below k m` has the calls of instant m of that sub-clock, and `sub k m` the first m slots of its child.
 abbrev pub fades_by : (sub : ℕ → ℕ → List Slot) → (below : ℕ → ℕ → List Call) → List Moment → ℕ → Work → List Call
 fades_by sub below past k (Fades overlap) = joined_between (below k) (ran_by sub k overlap past)
     (run_of overlap (sub k) (position past k))
 fades_by sub below past k _ = []
 
--- the calls of the instants that the sub-clock of node k makes, if it is a crossfade in this clock
+-- The calls of the instants that node k's sub-clock makes at the instant after `past`, if the node is a crossfade in
+-- this clock (`inside` is true). `below k m` has the calls of instant m of that sub-clock, and `sub k m` the first m
+-- slots of its child.
 abbrev pub fades_in : Setting → (sub : ℕ → ℕ → List Slot) → (below : ℕ → ℕ → List Call) → Bool → List Moment → ℕ
     → Option Node → List Call
 fades_in setting sub below inside past k None = []
 fades_in setting sub below false past k (Some node) = []
 fades_in setting sub below true past k (Some node) = fades_by sub below past k (work_at setting k node)
 
--- the calls of the instant of a clock after these: the takes of its readers, and then for each of its crossfades in
--- node order those of the instants of its sub-clock, where sub-clocks nest less deep than this
+-- The calls of the instant of a clock after `past`: its readers' takes, and then, for its crossfades in node order, the
+-- calls of the instants that their sub-clocks make at it. `depth` bounds how deep sub-clocks nest. `sub k m` has the
+-- first m slots of crossfade k's child.
 abbrev pub calls_at : Setting → (sub : ℕ → ℕ → List Slot) → (depth : ℕ) → NodeClock → List Moment → List Call
 calls_at setting sub zero clock past = []
 calls_at setting sub (suc depth) clock past =
@@ -76,11 +80,13 @@ calls_at setting sub (suc depth) clock past =
     (λ j m. calls_at setting sub depth (Sub j) (first_instants setting sub (Sub j) m))
     (lies_in setting clock k) past k (slice_get setting.plan.nodes k)) (length setting.plan.nodes)
 
--- the calls of the instant of a clock after these, its sub-clocks' with them, which nest no deeper than there are nodes
+-- The calls of the instant of a clock after `past`, with those of its sub-clocks, however deep these nest. `sub k m`
+-- has the first m slots of crossfade k's child.
 abbrev pub calls_of : Setting → (sub : ℕ → ℕ → List Slot) → NodeClock → List Moment → List Call
 calls_of setting sub clock past = calls_at setting sub (suc (length setting.plan.nodes)) clock past
 
--- the call by which cells are put to a buffer, with its answer; no cell, no call
+-- the call by which these cells are put to a buffer, as a list of one, with the buffer's answer, whether it accepted
+-- them; no call without cells
 abbrev pub given : (buffer : ℕ) → List Cell → Bool → List Call
 given buffer [] accepted = []
 given buffer (cell ∷ cells) accepted = Given buffer (cell ∷ cells) accepted ∷ []
@@ -128,8 +134,8 @@ pub record IsBegin (made calls : List Call) : Type 0 where
   pub rest : List Call
   pub are : calls ≡ made ++ rest
 
--- the calls of an instant follow one rule in every clock: first its readers' takes, then the calls of the instants that
--- its sub-clocks make at it, whose calls follow the same rule
+-- The calls of an instant follow one rule in every clock, with no bound on the depth: first its readers' takes, then
+-- the calls of the instants that its sub-clocks make at it. `sub k m` has the first m slots of crossfade k's child.
 pub record GoDown (setting : Setting) (sub : ℕ → ℕ → List Slot) : Type 0 where
   pub each : (clock : NodeClock) (past : List Moment) → calls_of setting sub clock past
       ≡ takes_at setting clock past

@@ -11,7 +11,7 @@ gave_over [] i children = []
 gave_over (moment ∷ past) i children = if gives moment i then slots_at moment.parts children ∷ gave_over past i children
     else gave_over past i children
 
--- what a rotate or a random, node i, chooses by after these instants: the child that it used last, and how often it
--- chose
+-- what a rotate or a random, node i, chooses its next child by, after these instants: the child that it used last, and
+-- how often it has chosen
 abbrev pub turned : List Moment → ℕ → Past
 turned past i = record { last = last_pick past i; choices = choices past i }

@@ -20,8 +20,8 @@ use Rattle.stream_meaning.specs.declared.part.Part.{Part}
 use Rattle.stream_meaning.specs.Arithmetic.{mix_slot}
 use Rattle.stream_meaning.specs.Operators.{Work, Plays, Picks, Mixes, Fades, Reads, child_used, work_of, marks_at}
 
--- what holds at all instants: the plan, its audio files, the clock of each node, the second of the week at which the
--- clocks start, and the answers that the takes of each buffer get
+-- what is the same at all instants: the plan, its audio files, the clock of each node, the second of the week at which
+-- the clocks start, and for each buffer the answers that its takes get in the whole run
 pub record Setting : Type 0 where
   pub plan : Plan
   pub library : Sounds
@@ -29,7 +29,7 @@ pub record Setting : Type 0 where
   pub start : ℕ
   pub answers : ℕ → List Answer
 
--- the setting with `answers` in the place of what its buffers answer
+-- this setting, but that the takes of each buffer get `answers`
 abbrev pub answered : Setting → (ℕ → List Answer) → Setting
 answered setting answers = record {
   plan = setting.plan;
@@ -39,7 +39,7 @@ answered setting answers = record {
   answers = answers;
 }
 
--- the setting whose buffers answer first with `answers`, and behind them with `rest`
+-- this setting, but that the takes of each buffer get first `answers`, and behind these `rest`
 abbrev pub with_rest : Setting → (answers rest : ℕ → List Answer) → Setting
 with_rest setting answers rest = answered setting (λ buffer. answers buffer ++ rest buffer)
 
@@ -54,7 +54,7 @@ same_clock (Main m) (Sub k) = false
 same_clock (Sub j) (Main m) = false
 same_clock (Sub j) (Sub k) = nat_eq j k
 
--- whether node i lies in this clock, so that the clock's instants are its own
+-- whether node i lies in this clock, so that the instants of the clock are the instants of the node
 abbrev pub lies_in : Setting → NodeClock → ℕ → Bool
 lies_in setting clock i = same_clock (clock_of setting i) clock
 
@@ -96,7 +96,7 @@ demanded moment i = slice_index_or moment.demands i false
 abbrev pub gives : Moment → ℕ → Bool
 gives moment i = demanded moment i && is_some (offer moment i)
 
--- at how many of these instants node i gave a cell: so far a leaf has come in its samples
+-- at how many of these instants node i gave a cell; for a leaf, this is how many samples it has played
 abbrev pub gives_before : List Moment → ℕ → ℕ
 gives_before [] i = 0
 gives_before (moment ∷ past) i = if gives moment i then suc (gives_before past i) else gives_before past i
@@ -126,18 +126,20 @@ new_reading setting buffer = record {
   taken = 0;
 }
 
--- the answers of a buffer that its reader has not taken yet
+-- of all answers of a buffer, `answers`, those that its reader has not taken yet
 abbrev pub next_answers : List Answer → Reading → List Answer
 next_answers answers reading = drop reading.taken answers
 
--- a reader at the start of a tick, with the chunks that it takes there
+-- a reader at the start of a tick, moved on by the chunks that it takes there from its buffer, whose answers in the
+-- whole run are `answers`
 abbrev pub started : List Answer → Reading → Reading
 started answers reading = record {
   reader = at_start (next_answers answers reading) reading.reader;
   taken = reading.taken + length (reader_takes (next_answers answers reading) reading.reader);
 }
 
--- the reader of a buffer at this instant, where `before` is the reader that the instant before left
+-- The reader of a buffer at this instant: where a tick begins it has taken what is due. `before` is the reader that the
+-- instant before left.
 abbrev pub reading_at : Setting → (buffer instant : ℕ) → Reading → Reading
 reading_at setting buffer instant before =
     if nat_eq (instant % setting.plan.frame) 0 then started (setting.answers buffer) before else before
@@ -152,7 +154,8 @@ reading_after setting i buffer [] = new_reading setting buffer
 reading_after setting i buffer (moment ∷ past) =
     read_on (gives moment i) (reading_at setting buffer (length past) (reading_after setting i buffer past))
 
--- what each of these children, numbers of nodes, offered at an instant; `parts` has what all nodes did then
+-- what each of these children, given as numbers of nodes, offered at an instant; `parts` has what each node of the plan
+-- did then
 abbrev pub slots_at : List Part → List ℕ → List Slot
 slots_at parts children = map (λ child. (part_at parts child).slot) children
 
@@ -166,8 +169,9 @@ abbrev pub picked_part : Option Picked → Part
 picked_part None = silent
 picked_part (Some picked) = record { slot = Some picked.cell; pick = Some picked.child }
 
--- what node i offers and picks at the instant after these, by its work and its children's slots; `sub k m` are the
--- first m slots of crossfade k's child
+-- What node i offers and picks at the instant after `past`, the instants so far, by its work and by what its children
+-- offer there, `slots`. A crossfade plays what its child offers in a sub-clock: `sub k m` has the first m slots of
+-- crossfade k's child.
 abbrev pub part_by : Setting → (sub : ℕ → ℕ → List Slot) → List Moment → ℕ → Work → List Slot → Part
 part_by setting sub past i (Plays leaf) slots = unpicked (leaf_slot setting.library leaf (gives_before past i))
 part_by setting sub past i (Picks choice eligible) slots =
@@ -183,22 +187,25 @@ part_by setting sub past i (Reads buffer) slots =
 abbrev pub work_at : Setting → ℕ → Node → Work
 work_at setting i node = work_of setting.plan.rate i node.kind node.op
 
--- what node i offers and picks, by the parts of the nodes before it; one that is not in the clock (`inside`) or not in
--- the plan offers nothing
+-- What node i does at the instant after `past`, the instants so far; `before` has what the nodes of lesser numbers do
+-- there. If it is not in the clock (`inside` is false) or not in the plan, it offers nothing. `sub k m` has the first m
+-- slots of crossfade k's child.
 abbrev pub part_in : Setting → (sub : ℕ → ℕ → List Slot) → Bool → List Moment → ℕ → Option Node → List Part → Part
 part_in setting sub inside past i None before = silent
 part_in setting sub false past i (Some node) before = silent
 part_in setting sub true past i (Some node) before = part_by setting sub past i (work_at setting i node)
     (slots_at before node.children)
 
--- the parts of the first n nodes at the instant of a clock after these
+-- what each of the first n nodes does at the instant of a clock after `past`, the instants so far; `sub k m` has the
+-- first m slots of crossfade k's child, which lies in a sub-clock
 abbrev pub parts_upto : Setting → (sub : ℕ → ℕ → List Slot) → NodeClock → List Moment → ℕ → List Part
 parts_upto setting sub clock past zero = []
 parts_upto setting sub clock past (suc i) =
     let before = parts_upto setting sub clock past i in
     before ++ part_in setting sub (lies_in setting clock i) past i (slice_get setting.plan.nodes i) before ∷ []
 
--- the number of the child at a place of a node's children, as a list of one; none without a place
+-- the number of the child at this place of a node's children, as a list of one; the empty list without a place, or
+-- without a child there
 abbrev pub child_at : List ℕ → Option ℕ → List ℕ
 child_at children None = []
 child_at children (Some place) = option_map_or (λ child. child ∷ []) (slice_get children place) []
@@ -209,7 +216,8 @@ offering parts [] = []
 offering parts (child ∷ children) =
     if is_some (part_at parts child).slot then child ∷ offering parts children else offering parts children
 
--- the children that a node of this work uses: the one that it picked, or each that offers where it mixes
+-- The children that a node of this work uses at an instant: the one at place `pick` if it picks, and each that offers a
+-- cell if it mixes; otherwise none. `parts` has what each node offers.
 abbrev pub uses_by : List Part → Work → List ℕ → (pick : Option ℕ) → List ℕ
 uses_by parts (Picks choice eligible) children pick = child_at children pick
 uses_by parts (Mixes mixing) children pick = offering parts children
@@ -222,14 +230,15 @@ uses_from setting parts i [] = []
 uses_from setting parts i (node ∷ nodes) =
     uses_by parts (work_at setting i node) node.children (part_at parts i).pick ∷ uses_from setting parts (suc i) nodes
 
--- whether one of these nodes is demanded and uses node i, by the demand and the uses of each
+-- whether node i is used by a node that is demanded; of some nodes, in their order, the first list says whether each is
+-- demanded, and `uses` has the children that each uses
 abbrev pub is_used : List Bool → List (List ℕ) → ℕ → Bool
 is_used [] uses i = false
 is_used (demand ∷ demands) [] i = false
 is_used (demand ∷ demands) (used ∷ uses) i = (demand && list_any (nat_eq i) used) || is_used demands uses i
 
--- for each of these nodes, the first of which is node i, whether it is demanded: it is a root, or a later one that is
--- demanded uses it
+-- For each of some nodes, the first of which is node i, whether it is demanded: it is so of itself, as `roots` says, or
+-- a later one that is demanded uses it. The list `uses` has for each of them the children that it uses.
 abbrev pub demands_from : (ℕ → Bool) → ℕ → List (List ℕ) → List Bool
 demands_from roots i [] = []
 demands_from roots i (used ∷ uses) =
@@ -244,7 +253,7 @@ abbrev pub is_root : Setting → NodeClock → ℕ → Bool
 is_root setting (Main m) i = list_any (λ sink. nat_eq (sink_node sink) i) setting.plan.sinks
 is_root setting (Sub k) i = nat_eq (crossfaded setting.plan.nodes k) i
 
--- the moment of a clock whose nodes have these parts: what they offer, and which are demanded
+-- the moment of a clock, one instant of it, at which its nodes do these parts: with it, which nodes are demanded there
 abbrev pub moment_of : Setting → NodeClock → List Part → Moment
 moment_of setting clock parts = record {
   parts = parts;
@@ -252,13 +261,14 @@ moment_of setting clock parts = record {
       && is_root setting clock i) 0 (uses_from setting parts 0 setting.plan.nodes);
 }
 
--- the next instant of a clock, made from those before it (`past`) and from the slots of its sub-clocks: what each
--- node does, and who is demanded
+-- The next instant of a clock after `past`, the instants so far: what each node does there, and which are demanded.
+-- `sub k m` has the first m slots of crossfade k's child, which lies in a sub-clock.
 abbrev pub moment_after : Setting → (sub : ℕ → ℕ → List Slot) → NodeClock → List Moment → Moment
 moment_after setting sub clock past = moment_of setting clock
     (parts_upto setting sub clock past (length setting.plan.nodes))
 
--- the first n instants of a clock, the latest first, each made from those before it
+-- the first n instants of a clock, the latest first, each made from those before it; `sub k m` has the first m slots of
+-- crossfade k's child, which lies in a sub-clock
 abbrev pub first_instants : Setting → (sub : ℕ → ℕ → List Slot) → NodeClock → ℕ → List Moment
 first_instants setting sub clock zero = []
 first_instants setting sub clock (suc n) =
@@ -269,12 +279,14 @@ abbrev pub slots_of : List Moment → ℕ → List Slot
 slots_of [] i = []
 slots_of (moment ∷ past) i = slots_of past i ++ offer moment i ∷ []
 
--- `sub` is the meaning of the sub-clocks: the first m slots of each crossfade's child in the crossfade's own sub-clock
+-- `sub` is what sub-clocks play: `sub k m` is just what the child of crossfade k offers in the first m instants of the
+-- crossfade's sub-clock. Deeper sub-clocks are taken from `sub` itself.
 abbrev pub IsMeaning : Setting → (sub : ℕ → ℕ → List Slot) → Type 0
 IsMeaning setting sub = (k m : ℕ) → sub k m
     ≡ slots_of (first_instants setting sub (Sub k) m) (crossfaded setting.plan.nodes k)
 
--- the first m slots of the child of crossfade k in its sub-clock, where sub-clocks nest no deeper than this
+-- the first m slots of the child of crossfade k in its sub-clock, by recursion on how deep sub-clocks nest: `depth` is
+-- the bound, and at 0 there are no slots
 abbrev pub sub_within : Setting → (depth : ℕ) → ℕ → ℕ → List Slot
 sub_within setting zero k m = []
 sub_within setting (suc depth) k m = slots_of (first_instants setting (sub_within setting depth) (Sub k) m)

@@ -20,7 +20,7 @@ pub data Eligible : Type 0 where
   Every : Eligible
   Where : List Predicate → Eligible
 
--- for each of a node's `children` many children, whether it may be chosen in this second of the week
+-- for each of a node's `children` many children, whether it may be chosen in this second of the week: true or false
 abbrev pub marks_at : Eligible → (second children : ℕ) → List Bool
 marks_at Every second children = replicate children true
 marks_at (Where preds) second children = map (λ pred. holds pred second) preds
@@ -31,8 +31,8 @@ pub data Choice : Type 0 where
   Selects : Rule → Choice
   TakesTurns : Turn → Choice
 
--- the child that a node uses, by its children's slots and which are eligible, the child that it used last, and how
--- often it has chosen; None where it uses none
+-- The child that a node uses at an instant: `slots` is what its children offer, `eligible` which of them may be chosen,
+-- `last` the child that it used last, and `choices` how often it has chosen. None where it uses none.
 abbrev pub child_used : Choice → List Slot → List Bool → (last : Option ℕ) → (choices : ℕ) → Option ℕ
 child_used (Selects rule) slots eligible last choices = pick_of rule slots eligible last
 child_used (TakesTurns turn) slots eligible last choices = used_child turn (record {

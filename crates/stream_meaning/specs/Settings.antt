@@ -10,7 +10,8 @@ use Rattle.clock_infer.specs.declared.clock_map.ClockMap.{ClockMap}
 use Rattle.clock_infer.specs.Answers.{IsClockMap}
 use Rattle.stream_meaning.specs.Instants.{Setting}
 
--- a well-formed plan with its clocks and its audio files, of which each `single` has one, from a second of the week on
+-- The setting is right: its plan is well-formed, it has the clocks of the map `clocks`, and it starts in a second of
+-- the week. Its library has the audio files of each node, and of a `single` just one.
 pub record IsSetting (setting : Setting) (clocks : ClockMap) : Type 0 where
   pub plan : IsWellFormed setting.plan
   pub map : IsClockMap setting.plan clocks

@@ -20,19 +20,19 @@ abbrev pub variable_pairs : List (ℕ × ℕ) → List (Term × Term)
 variable_pairs [] = []
 variable_pairs (p ∷ ps) = (variable p.0, variable p.1) ∷ variable_pairs ps
 
--- two types are equal under the assignment a, as far as n goes: if the first has fewer than n nodes there, or at most
--- n where it is no variable
+-- If type t has fewer than n nodes under the assignment a, or at most n where it is no variable, t and u are equal
+-- there. It serves induction on n, by which pairs that were taken apart are shown to be equal.
 abbrev pub EqualBelow : Assignment → ℕ → Term → Term → Type 0
 EqualBelow a n t u = size (meaning a t) < n + extra t → meaning a t ≡ meaning a u
 
--- the two types of each pair are equal under the assignment a, as far as n goes: if the first has fewer than n nodes
--- there, or at most n where it is no variable
+-- the two types of each pair are equal under the assignment a, if the first has fewer than n nodes there, or at most n
+-- where it is no variable; this serves induction on n
 abbrev pub AllEqualBelow : Assignment → ℕ → List (Term × Term) → Type 0
 AllEqualBelow a n [] = Unit {0}
 AllEqualBelow a n (p ∷ ps) = EqualBelow a n p.0 p.1 × AllEqualBelow a n ps
 
--- the agenda of unification: the pairs of types that are still to be compared, and the pairs whose parts were put
--- among them
+-- What unification has still to do, and what it has taken apart: `todo` has the pairs of types to compare, and `seen`
+-- the pairs whose parts were put there, which it need not take apart again.
 pub record Agenda : Type 0 where
   pub todo : List (Term × Term)
   pub seen : List (Term × Term)
@@ -49,8 +49,8 @@ agenda_of lists = agenda lists.work.items lists.seen.keys
 abbrev pub empty_agenda : Agenda
 empty_agenda = record { todo = []; seen = [] }
 
--- two types were taken up: at each solution they are equal where the new agenda's pairs are, and these are where the
--- two types and the old agenda's pairs are
+-- Unification has taken up two types, with their parts put on the agenda. At each solution of s the two are equal if
+-- the pairs of `new` are, and these are equal if the two and the pairs of `old` are.
 pub record IsTakenUp (s : Table) (old new : Agenda) (left right : Term) : Type 0 where
   pub over : AllOver s old.todo → AllOver s new.todo
   pub needed : (a : Assignment) → Solves a s → meaning a left ≡ meaning a right → AllEqual a old.todo
@@ -64,16 +64,17 @@ pub record IsTakenUp (s : Table) (old new : Agenda) (left right : Term) : Type 0
   pub learnt : (a : Assignment) (n : ℕ) → Solves a s → AllEqualBelow a n new.todo → AllEqualBelow a n new.seen
       → AllEqualBelow a (suc n) old.seen → AllEqualBelow a (suc n) new.seen
 
--- what the comparison of two types answers is right: `Same`, their parts were put on the agenda; `Clash`, they are
--- equal at no solution; `Bind`, they are equal exactly where the variable has this value, and the agenda is as it was
+-- What the comparison of two types answers is right: `Same`, the agenda `new` has their parts; `Clash`, they are equal
+-- at no solution of the substitution; `Bind` and `BindKind`, they are equal exactly where variable x is t, and the
+-- agenda is as it was.
 abbrev pub TakesUp : Table → Agenda → Agenda → Term → Term → Difference → Type 0
 TakesUp s old new left right Same = IsTakenUp s old new left right
 TakesUp s old new left right Clash = AreNeverSame s left right
 TakesUp s old new left right (Bind x t) = IsForced s left right x (term_of t.now) × (new ≡ old)
 TakesUp s old new left right (BindKind x t) = IsKindForced s left right x t × (new ≡ old)
 
--- what the comparison of two types answers is right: true, their parts were put on the agenda; false, they are equal
--- at no solution
+-- what the comparison of two types answers is right: true, the agenda `new` has their parts, which are still to be
+-- compared; false, they are equal at no solution of the substitution
 abbrev pub IsTaken : Table → Agenda → Agenda → Term → Term → Bool → Type 0
 IsTaken s old new left right true = IsTakenUp s old new left right
 IsTaken s old new left right false = AreNeverSame s left right

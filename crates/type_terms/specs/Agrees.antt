@@ -11,20 +11,21 @@ pub record Agrees (s : Table) (a b : Assignment) : Type 0 where
   pub types : (k : ℕ) → k < length s.types → a.type_of k ≡ b.type_of k
   pub kinds : (k : ℕ) → k < length s.kinds → a.kind_of k ≡ b.kind_of k
 
--- the later substitution binds what the earlier one binds, to the same
+-- the later substitution s' binds each variable that the earlier one, s, binds, and to the same type or kind
 pub record KeepsBound (s s' : Table) : Type 0 where
   pub types : (k : ℕ) (t : Term) → bound_at s.types k ≡ Some t → bound_at s'.types k ≡ Some t
   pub kinds : (k : ℕ) (t : KindTerm) → kind_at s.kinds k ≡ Some t → kind_at s'.kinds k ≡ Some t
 
--- a later substitution: it has the old variables and bindings, and solves no more than the old one does
+-- s' is a later substitution than s: it has the variables and bindings of s, maybe more, and each of its solutions is
+-- one of s
 pub record Follows (s s' : Table) : Type 0 where
   pub types : length s.types ≤ length s'.types
   pub kinds : length s.kinds ≤ length s'.kinds
   pub bound : KeepsBound s s'
   pub solves : (a : Assignment) → Solves a s' → Solves a s
 
--- s' is the substitution s with the new type variable n, which may be any type, or where `number` holds any number
--- type
+-- s' is the substitution s with the fresh type variable n. Each solution of s extends to one of s' with any type for n,
+-- or only with int or decimal where the proposition `number` holds.
 pub record HasNewType (s s' : Table) (number : Type 0) (n : ℕ) : Type 0 where
   pub inside : n < length s'.types
   pub follows : Follows s s'

@@ -38,8 +38,8 @@ pub record IsKindForced (s : Table) (left right : Term) (x : ℕ) (t : KindTerm)
   pub forced : (a : Assignment) → Solves a s → meaning a left ≡ meaning a right → a.kind_of x ≡ kind_meaning a t
   pub enough : (a : Assignment) → Solves a s → a.kind_of x ≡ kind_meaning a t → meaning a left ≡ meaning a right
 
--- a difference is right for two types: they are equal at each solution, at none, or exactly where the variable has this
--- value
+-- What the program found as the difference of two types is right. `Same`: they are equal at each solution of the
+-- substitution. `Clash`: they are equal at none. `Bind` and `BindKind`: they are equal exactly where variable x is t.
 abbrev pub Settles : Table → Term → Term → Difference → Type 0
 Settles s left right Same = AreSame s left right
 Settles s left right Clash = AreNeverSame s left right

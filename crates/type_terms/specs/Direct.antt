@@ -6,8 +6,9 @@ use Rattle.type_terms.specs.Table.{Table}
 use Rattle.type_terms.specs.declared.unifier.Direct.{Direct}
 use Rattle.type_terms.specs.declared.unifier.Direct.TheVariants.{Same, Clash, Apart}
 
--- what became of two types is right: s' makes them equal, or it is s as it was, where they are equal at no solution or
--- are to be taken apart
+-- What was done to make two types equal without taking them apart is right; s' is the substitution s after it. `Same`:
+-- s' makes them equal. `Clash`: s' is s, and they are equal at no solution. `Apart`: s' is s, and their parts are to be
+-- compared.
 abbrev pub IsDirect : Table → Table → Term → Term → Direct → Type 0
 IsDirect s s' left right Same = AreSame s' left right
 IsDirect s s' left right Clash = (s' ≡ s) × AreNeverSame s left right

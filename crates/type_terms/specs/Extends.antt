@@ -7,7 +7,7 @@ use Rattle.liq_base.specs.declared.memory.Kind.TheVariants.{Mono, Stereo}
 use Rattle.type_terms.specs.declared.ty.KindTerm.{KindTerm}
 use Rattle.type_terms.specs.Table.{Table, Solves, bound_at, kind_at}
 
--- a is a solution of the substitution s that gives every free variable what p gives it
+-- the assignment a is the solution of the substitution s that p begins: it gives each free variable what p gives it
 pub record Extends (s : Table) (p a : Assignment) : Type 0 where
   pub solves : Solves a s
   pub types : (k : ℕ) → bound_at s.types k ≡ None → a.type_of k ≡ p.type_of k

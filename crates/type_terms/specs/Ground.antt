@@ -34,14 +34,14 @@ IsNumber (base_type b) = IsNumberBase b
 IsNumber _ = ⊥
 
 abbrev mutual
-  -- the nodes of a type
+  -- the size of a type: how many nodes its tree has
   pub size : Ground → ℕ
   size (base_type b) = 1
   size (list t) = 1 + size t
   size (tuple ts) = 1 + sizes ts
   size (source k) = 1
 
-  -- the nodes of a tuple's parts together
+  -- the sizes of a tuple's component types, added up
   pub sizes : Grounds → ℕ
   sizes no_more = 0
   sizes (and_more t ts) = size t + sizes ts

@@ -38,7 +38,7 @@ abbrev mutual
   all_kind_variables no_terms = []
   all_kind_variables (one_more t ts) = kind_variables t ++ all_kind_variables ts
 
--- the number that is there, or n where there is none
+-- the number in the option, or n where there is none
 abbrev pub number_or : ℕ → Option ℕ → ℕ
 number_or n None = n
 number_or n (Some m) = m
@@ -53,7 +53,8 @@ kind_instance news (Fixed k) = Fixed k
 kind_instance news (Var n) = Var (new_number news n)
 
 abbrev mutual
-  -- the type in which each variable has its new number
+  -- the type with its variables renamed: type variable n has entry n of `types` as its new number, and kind variable n
+  -- entry n of `kinds`
   pub instance : List ℕ → List ℕ → Term → Term
   instance types kinds (base_term b) = base_term b
   instance types kinds (list_term t) = list_term (instance types kinds t)
@@ -61,13 +62,13 @@ abbrev mutual
   instance types kinds (source_term k) = source_term (kind_instance kinds k)
   instance types kinds (variable n) = variable (new_number types n)
 
-  -- the parts of a tuple, in which each variable has its new number
+  -- the parts of a tuple with their variables renamed, by the lists `types` and `kinds` of new numbers
   pub instances : List ℕ → List ℕ → Terms → Terms
   instances types kinds no_terms = no_terms
   instances types kinds (one_more t ts) = one_more (instance types kinds t) (instances types kinds ts)
 
--- what variables stand for before they got new numbers: variable n has what the assignment a gives to its new number,
--- which the lists `types` and `kinds` have
+-- The assignment for a type before its variables were renamed: it gives to variable n what a gives to the new number of
+-- n. The lists `types` and `kinds` have the new numbers.
 abbrev pub behind : List ℕ → List ℕ → Assignment → Assignment
 behind types kinds a = record {
   type_of = λ n. a.type_of (new_number types n);

@@ -12,16 +12,16 @@ use Rattle.type_terms.specs.Undo.{IsTrail, IsKindTrail}
 use Rattle.type_terms.specs.declared.table.Bindings.{Bindings}
 use Rattle.type_terms.specs.declared.unifier.Trail.{Trail}
 
--- what unification needs: the substitution is sound, the marks of the variables that stand inside bindings are right,
--- and the types t and u have no other variables than the substitution
+-- what unification of the types t and u needs: the bindings are sound, type variables that stand inside bindings are
+-- flagged as such, and t and u have no other variables than the substitution
 pub record AreComparable (b : Bindings) (t u : Term) : Type 0 where
   pub sound : IsSound (table_of b)
   pub marked : AreMarked b.types.items b.nested.items
   pub left : IsOver (table_of b) t
   pub right : IsOver (table_of b) u
 
--- a substitution was narrowed so that two types become the same: variables were bound, the result and its marks are
--- sound, and it lost only solutions at which the two types differ
+-- Unification of two types bound variables: from `old` came `new`, which is sound, and lost only solutions at which the
+-- types differ. `marks` before, and marks' after, flag each type variable that stands inside a binding.
 pub record IsNarrowed (left right : Term) (old new : Table) (marks marks' : List Bool) : Type 0 where
   pub sound : IsSound new
   pub marked : AreMarked new.types marks'
@@ -30,13 +30,13 @@ pub record IsNarrowed (left right : Term) (old new : Table) (marks marks' : List
   pub kept : (a : Assignment) → Solves a old → meaning a left ≡ meaning a right → Solves a new
   pub same_variables : SameVariables old new
 
--- the new bindings come from the old ones by making two types the same: only solutions at which the two differ were
--- lost
+-- unification of two types made the bindings `new` of `old`: variables were bound, and only solutions were lost at
+-- which the types differ
 abbrev pub Narrows : Term → Term → Bindings → Bindings → Type 0
 Narrows left right old new = IsNarrowed left right (table_of old) (table_of new) old.nested.items new.nested.items
 
--- the trail, a list of bound variables, tells how to get back: the old substitution is the new one, but that these
--- variables are free
+-- The trail, a list of the variables that were bound, is enough to undo this: `old` is the substitution `new`, but that
+-- these variables are free.
 pub record Tells (trail : Trail) (old new : Table) : Type 0 where
   pub types : IsTrail trail.types.items old.types new.types
   pub kinds : IsKindTrail trail.kinds.items old.kinds new.kinds
@@ -45,8 +45,8 @@ pub record Tells (trail : Trail) (old new : Table) : Type 0 where
 abbrev pub trail_len : Trail → ℕ
 trail_len trail = length trail.types.items + length trail.kinds.items
 
--- a trail, the list of the variables that were bound, was kept up to date from the old substitution to the new one:
--- it has each variable that was bound, once
+-- A trail, the list of the variables that were bound, was kept up to date while the substitution `old` became `new`:
+-- from `trail` came trail', which leads as far back. Each variable that was bound is in it once.
 pub record IsTrailed (old new : Table) (trail trail' : Trail) : Type 0 where
   pub told : (s : Table) → Tells trail s old → Tells trail' s new
   pub free : free_count new + trail_len trail' ≡ free_count old + trail_len trail

@@ -8,31 +8,34 @@ use Rattle.type_terms.specs.Variables.{Variable}
 use Rattle.type_terms.specs.Table.{Table, IsSound, bound_at}
 use Rattle.type_terms.specs.declared.ty.Ty.{Ty}
 
--- a mark, or false where there is none; a marked type variable may stand in what another is bound to
+-- The flag of a type variable, true if it may stand in what another is bound to; false where there is no flag. It has
+-- nothing to do with tracks of sound.
 abbrev pub mark_in : Option Bool → Bool
 mark_in None = false
 mark_in (Some b) = b
 
--- whether type variable k is marked as one that may stand in what another is bound to
+-- whether type variable k is flagged in `marks` as one that may stand in what another is bound to
 abbrev pub mark_at : List Bool → ℕ → Bool
 mark_at marks k = mark_in (slice_get marks k)
 
--- each type variable of the type is marked as one that may stand in what another is bound to
+-- each type variable of the type is flagged in `marks` as one that may stand in what another is bound to
 abbrev pub IsMarked : List Bool → Term → Type 0
 IsMarked marks t = InTerm (λ j. mark_at marks j ≡ true) (λ _. Unit {0}) t
 
--- the marks are right: each type variable has one, and each that stands in what another is bound to is marked
+-- the flags in `marks` are right: each type variable has one, and it is set for each that stands in what another is
+-- bound to
 pub record AreMarked (vs : List Variable) (marks : List Bool) : Type 0 where
   pub enough : length vs ≤ length marks
   pub marked : (k : ℕ) (t : Term) → bound_at vs k ≡ Some t → IsMarked marks t
 
--- a substitution is sound, and the marks of the variables that stand inside its bindings are right
+-- a substitution is sound, and in `marks` the flag is set for each type variable that stands in what another is bound
+-- to
 pub record IsWhole (s : Table) (marks : List Bool) : Type 0 where
   pub sound : IsSound s
   pub marked : AreMarked s.types marks
 
--- what the program keeps of a substitution is right: the bindings, the marks of the variables that stand inside
--- bindings, and `free`, the number of variables that are bound to nothing
+-- What the program keeps of a substitution is right: the bindings are sound, in `marks` the flag is set for each type
+-- variable that stands in what another is bound to, and `free` is the number of unbound variables.
 pub record IsKept (s : Table) (marks : List Bool) (free : ℕ) : Type 0 where
   pub whole : IsWhole s marks
   pub counted : free ≡ free_count s
@@ -46,7 +49,7 @@ abbrev pub terms : List (Bor Ty) → List Term
 terms [] = []
 terms (p ∷ ps) = term_of p.now ∷ terms ps
 
--- the types of a tuple's parts, as a list
+-- the component types of a tuple, as a list
 abbrev pub parts : Terms → List Term
 parts no_terms = []
 parts (one_more t ts) = t ∷ parts ts
@@ -56,7 +59,8 @@ abbrev pub bound_list : Option Term → List Term
 bound_list None = []
 bound_list (Some t) = t ∷ []
 
--- what a variable is bound to, as a list of one type or none; nothing where the walk doesn't go through bindings
+-- what a walk over types comes to from a variable: the type that it is bound to, if any; nothing where the flag is
+-- false, since the walk then doesn't go through bindings
 abbrev pub reached_by : Bool → Option Term → List Term
 reached_by true o = bound_list o
 reached_by false o = []
@@ -86,9 +90,9 @@ IsAmong m n _ = Unit {0}
 abbrev pub IsIn : List ℕ → ℕ → Type 0
 IsIn ks k = list_any (nat_eq k) ks ≡ true
 
--- one step of a walk over types, which comes to u: `old` and `new` are the variables whose bindings it has gone
--- through before and after. With `nested` it goes through each variable's binding once, and `deep` says whether it
--- does now.
+-- One step of a walk over types, which comes to u. `old` and `new` are the variables whose bindings it has gone through
+-- before and after. With `nested` it goes through each variable's binding once, and `deep` says whether it does so in
+-- this step.
 pub record IsVisit (nested deep : Bool) (old new : List ℕ) (u : Term) : Type 0 where
   pub kept : (k : ℕ) → IsIn old k → IsIn new k
   pub here : nested ≡ true → (k : ℕ) → u ≡ variable k → IsIn new k

@@ -14,7 +14,7 @@ abbrev pub bound_count : List Variable → ℕ
 bound_count [] = 0
 bound_count (v ∷ vs) = one_if_bound v.bound + bound_count vs
 
--- the type variables, but that variable k is bound to nothing
+-- the type variables with the binding of variable k taken away, so that it is free
 abbrev pub erase : ℕ → List Variable → List Variable
 erase k [] = []
 erase zero (v ∷ vs) = record v { bound = None } ∷ vs

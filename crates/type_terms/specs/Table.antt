@@ -71,7 +71,8 @@ IsNumberTerm vs _ = ⊥
 abbrev pub IsOver : Table → Term → Type 0
 IsOver s t = InTerm (λ n. n < length s.types) (λ n. n < length s.kinds) t
 
--- no variable stands inside what it is bound to, directly or through others: some rank falls along each binding
+-- by `w`, a number for each type variable, no variable stands inside what it is bound to, directly or through others:
+-- each that is bound has a larger number than the height of what it is bound to
 pub record IsRank (w : ℕ → ℕ) (vs : List Variable) : Type 0 where
   pub falls : (k : ℕ) (t : Term) → bound_at vs k ≡ Some t → height w t < w k
 
@@ -98,7 +99,7 @@ pub record Avoids (vs : List Variable) (x : ℕ) (t : Term) : Type 0 where
       → InTerm (λ j. reached j ≡ true) (λ _. Unit {0}) s
   pub within : InTerm (λ j. reached j ≡ true) (λ _. Unit {0}) t
 
--- the new variables are the old ones, but that x, which was free, is bound to t
+-- the type variables `new` are those of `old`, but that x, which was free, is bound to the type t
 pub record Binds (x : ℕ) (t : Term) (old new : List Variable) : Type 0 where
   pub free : bound_at old x ≡ None
   pub same_length : length new ≡ length old
@@ -106,15 +107,15 @@ pub record Binds (x : ℕ) (t : Term) (old new : List Variable) : Type 0 where
   pub here : bound_at new x ≡ Some t
   pub elsewhere : (k : ℕ) → k ≢ x → bound_at new k ≡ bound_at old k
 
--- the new kind variables are the old ones, but that x, which was free, is bound to t
+-- the kind variables `new` are those of `old`, but that x, which was free, is bound to the kind t
 pub record BindsKind (x : ℕ) (t : KindTerm) (old new : List (Option KindTerm)) : Type 0 where
   pub free : kind_at old x ≡ None
   pub same_length : length new ≡ length old
   pub here : kind_at new x ≡ Some t
   pub elsewhere : (k : ℕ) → k ≢ x → kind_at new k ≡ kind_at old k
 
--- 1 for a type that is no variable, else 0: what is added to a bound on sizes, since a list or tuple is larger than
--- its parts, and a variable is not
+-- 1 for a type that is no variable, else 0. It is added to a bound on sizes: a list or tuple has a node more than its
+-- parts together, but a variable has no more nodes than what it is bound to.
 abbrev pub extra : Term → ℕ
 extra (variable n) = 0
 extra _ = 1

@@ -11,7 +11,7 @@ use Rattle.type_terms.specs.declared.ty.Ty.TheOpen as ty
 use Rattle.type_terms.specs.declared.ty.Ty.TheFolds.{fold-Ty}
 
 mutual
-  -- a type over variables
+  -- a type in which variables may stand, by their numbers: for types, and for the kinds of sources
   pub data Term : Type 0 where
     base_term : Base → Term
     list_term : Term → Term
@@ -19,7 +19,7 @@ mutual
     source_term : KindTerm → Term
     variable : ℕ → Term
 
-  -- the parts of a tuple
+  -- the component types of a tuple, one after another
   pub data Terms : Type 0 where
     no_terms : Terms
     one_more : Term → Terms → Terms
@@ -71,13 +71,13 @@ abbrev mutual
   meanings a no_terms = no_more
   meanings a (one_more t ts) = and_more (meaning a t) (meanings a ts)
 
--- Q holds of the number of the variable that the kind is, if it is one
+-- if the kind is a variable, Q holds of its number; of mono and stereo nothing is asked
 abbrev pub InKind : (ℕ → Type 0) → KindTerm → Type 0
 InKind Q (Fixed k) = Unit {0}
 InKind Q (Var n) = Q n
 
 abbrev mutual
-  -- P holds of each type variable, and Q of each kind variable
+  -- P holds of the number of each type variable that stands in the type, and Q of each kind variable
   pub InTerm : (ℕ → Type 0) → (ℕ → Type 0) → Term → Type 0
   InTerm P Q (base_term b) = Unit {0}
   InTerm P Q (list_term t) = InTerm P Q t
@@ -91,7 +91,7 @@ abbrev mutual
   InTerms P Q (one_more t ts) = InTerm P Q t × InTerms P Q ts
 
 abbrev mutual
-  -- the height of a term, where each variable is as high as `w` says
+  -- the height of a type as a tree, where type variable n is as high as `w n` says
   pub height : (ℕ → ℕ) → Term → ℕ
   height w (base_term b) = 1
   height w (list_term t) = 1 + height w t
