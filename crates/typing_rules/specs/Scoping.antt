@@ -7,12 +7,13 @@ use Rattle.typing_rules.specs.declared.uses.Target.TheVariants as target
 use Rattle.typing_rules.specs.Arguments.{Parameter, GivenArgument, parameters_of}
 use Rattle.typing_rules.specs.Table.{builtin_named, params_of_builtin}
 
--- what a name is bound to: a value or a def, by the token of the name that is bound
+-- What a name is bound to, with the token at which the name was bound: a value, or a def with its parameters.
 pub data Bound : Type 0 where
   bound_value : ℕ → Bound
   bound_function : ℕ → List Parameter → Bound
 
--- the names in scope, the newest first; a newer one hides an older one, of either sort, and a builtin
+-- The names in scope and what each is bound to, the newest first. A newer binding hides an older one of the same name,
+-- and a builtin of that name.
 abbrev pub Scope : Type 0
 Scope = List (List ℕ × Bound)
 
@@ -27,25 +28,27 @@ value_meant (Some (bound_value t)) = Some (target.Slot t)
 value_meant (Some (bound_function t ps)) = None
 value_meant None = None
 
--- a builtin, as what a call means, with its parameters
+-- what a call means that names no def: the builtin found, with its parameters, or None if there is none
 abbrev pub builtin_meant : Option Builtin → Option (Target × List Parameter)
 builtin_meant None = None
 builtin_meant (Some b) = Some (target.Builtin b, params_of_builtin b)
 
--- what a call means: a def or a builtin, with its parameters; a name that binds a value hides both
+-- What a call of this name means, by what binds the name: a def or, if nothing binds it, a builtin, with its
+-- parameters. A name that is bound to a value hides both, and cannot be called.
 abbrev pub call_meant : List ℕ → Option Bound → Option (Target × List Parameter)
 call_meant name (Some (bound_value t)) = None
 call_meant name (Some (bound_function t ps)) = Some (target.Def t, ps)
 call_meant name None = builtin_meant (builtin_named name)
 
--- A name that is used, at a token: the parameters of what it means, and the arguments by their tokens. One outside a
--- call has neither. None: it is unknown.
+-- A use of a name at token `at`. `meant` is what the name means, with the parameters of that def or builtin, or None if
+-- the name is unknown. `given` are the arguments of a call, by their tokens. A name outside a call has neither
+-- parameters nor arguments.
 pub record Name : Type 0 where
   pub at : ℕ
   pub meant : Option (Target × List Parameter)
   pub given : List (GivenArgument ℕ)
 
--- what a name outside a call means, with no parameters beside it
+-- what a name outside a call means, with the empty list of parameters, so that it has the form of what a call means
 abbrev pub no_parameters : Option Target → Option (Target × List Parameter)
 no_parameters None = None
 no_parameters (Some t) = Some (t, [])
@@ -88,8 +91,8 @@ with_statement (Stmt (DefPart (Def at name ps equals is e)) semicolon) sc = (nam
 with_statement (Stmt (CallPart c) semicolon) sc = sc
 with_statement (Stmt (IfPart i) semicolon) sc = sc
 
--- The names that a tree uses; those of inner bindings, each in the scope of the ones before it; and those of
--- statements.
+-- All names that a tree of the grammar uses, in the order of tokens, each looked up in the scope at its place. In the
+-- body of a def each inner binding sees the parameters and the bindings before it.
 abbrev mutual
   pub names : {s : Sort} → Scope → Tree s → List Name
   names sc none = []
