@@ -15,8 +15,8 @@ use Rattle.typing_rules.specs.Kinds.{said, target_at, read, blocks, IsLess, IsLe
 abbrev pub IsTypedScript : Script → List Use → Type 0
 IsTypedScript script uses = (es : List Entry) × IsTypedTo (target_at uses) (read [] uses) [] script es
 
--- The script is typed by these uses, one for each name: what it means, and its kinds. The kinds are mono only where
--- they must be, and each def leaves open as many kinds as it can.
+-- The script is typed by these uses, one for each name: what it means, and its kinds, mono or stereo. The kinds are
+-- mono only where they must be, and the kind variables of each def are exactly what is free in it.
 pub record IsTyped (script : Script) (uses : List Use) : Type 0 where
   -- all names and arguments match, and there is one use for each name, in the order of the tokens
   pub names : first_fault 1 [] script ≡ None
