@@ -13,8 +13,8 @@ between inside [] = []
 between true (b ∷ bs) = if b == 10 then between false bs else between true bs
 between false (b ∷ bs) = if is_blank b then between false bs else (if b == 35 then between true bs else b ∷ bs)
 
--- The bytes are these tokens in order, with blanks and comments before each, and then `rest`. Each token's kind and its
--- first and last place are right, counted in the whole script of `total` bytes.
+-- The bytes are these tokens in order, with blanks and comments before each, and then `rest`. Each token tells its kind
+-- and at which byte it begins and ends, counted in the whole script of `total` bytes.
 abbrev pub Leads : ℕ → List ℕ → List Token → List ℕ → Type 0
 Leads total bytes [] rest = bytes ≡ rest
 Leads total bytes (t ∷ ts) rest =

@@ -13,11 +13,11 @@ use Rattle.script_plan.specs.Plans.{IsPlan, Spells}
 use Rattle.where_lines.specs.Causes.{output_named}
 use Rattle.where_lines.specs.Texts.{text_among}
 
--- a text has no tokens
+-- a script has no list of tokens, since it is too long or has a fault of the lexer
 abbrev pub HasNoTokens : List ℕ → Type 0
 HasNoTokens text = (tokens : List Token) → AreTokens text tokens → ⊥
 
--- the tokens of a text spell no script that has a statement of this number
+-- the text spells no script that has a statement of this number
 abbrev pub HasNoStatement : List ℕ → (number : ℕ) → Type 0
 HasNoStatement text number = (script : Script) → Spells text script → first_token script number ≡ None
 
