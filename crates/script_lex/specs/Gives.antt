@@ -10,8 +10,8 @@ use Rattle.script_lex.specs.declared.token.LexFault.TheVariants as faults
 use Rattle.script_lex.specs.declared.refusal.Refusal.{Refusal}
 use Rattle.script_lex.specs.declared.refusal.Refusal.TheVariants as refusals
 
--- a refusal is right for what is read, whose first byte has `left` bytes from it on: want of memory always, a number
--- too large exactly where its shape passes a bound, and another fault where it is the one of reading
+-- A refusal of the lexer is right for what was read. Want of memory always is, a number too large where the token
+-- passes a bound, and another fault where reading gave it. `left` counts the bytes from the first one read to the end.
 abbrev pub Refuses : Read → ℕ → Refusal → Type 0
 Refuses read left refusals.Memory = Unit {0}
 Refuses (Ok found) left (refusals.NumberTooLarge n) = (is_within found.0 ≡ false) × (n ≡ left)
@@ -21,9 +21,9 @@ Refuses (Err fault) left (refusals.BadByte n) = fault ≡ Bad n
 Refuses (Err fault) left (refusals.UnclosedString n) = fault ≡ OpenText n
 Refuses (Err fault) left (refusals.NumberTooLarge n) = ⊥
 
--- a result of a reading function is right for what stands at the front: a token that the shape there means, with the
--- bytes behind it, or a right refusal. `kind` and `after` give the token and the bytes behind it of a result; `left`
--- counts the bytes
+-- A function of the lexer returned what is right for what was read: the token that it means, or a right refusal. `kind`
+-- and `after` take from a result the token and the bytes behind it. `left` counts the bytes from the first one read to
+-- the end.
 abbrev pub Gives : {X : Type 0} → (X → TokenKind) → (X → List ℕ) → Read → ℕ → Result X Refusal → Type 0
 Gives kind after (Ok found) left (Ok x) = (is_within found.0 ≡ true) × Means found.0 (kind x) × (after x ≡ found.1)
 Gives kind after (Err fault) left (Ok x) = ⊥

@@ -7,8 +7,8 @@ use Rattle.where_lines.specs.Passes.{IsBehind, Passes, TookAll}
 use Rattle.where_lines.specs.declared.passing.Broke.{Broke}
 use Rattle.where_lines.specs.declared.passing.Broke.TheVariants.{Input, Output, Memory}
 
--- The bytes are a prefix of what is written for one line of output: the line, and the two lines that show the place in
--- the script that it names. `file` is the script's name and `script` its text, if it is known.
+-- The bytes are a prefix of what is written for one line of output: the line and, if it names a place in the script,
+-- the two lines that show it. `file` is the script's name and `script` its text, if it is known.
 pub data IsFrontOf (file : List ℕ) (script : Option (List ℕ)) (line : List ℕ) : List ℕ → Type 0 where
   OfLine : (front : List ℕ) → IsPrefix front line → IsFrontOf file script line front
   OfBehind : (behind front : List ℕ) → IsBehind file script line behind → IsPrefix front behind

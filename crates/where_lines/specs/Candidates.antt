@@ -12,8 +12,8 @@ use Rattle.where_lines.specs.Clashes.{Clashes}
 abbrev pub AreCalls : List ℕ → List Token → List ℕ → List Bracket → Type 0
 AreCalls text tokens texts brackets = calls_of text tokens ≡ record { texts = texts; brackets = brackets }
 
--- What the search found is a call that one of these tokens of a statement closes: its first and last byte, and the
--- texts of the calls closed before it. Of these, those behind the first `others` bytes are its arguments.
+-- What the search found is a call that one of these tokens of a statement closes: where it begins and ends, and the
+-- texts of the calls closed before it. Of these texts, those behind the first `others` bytes are its arguments.
 pub record IsCandidate (text : List ℕ) (tokens : List Token) (found : Found) : Type 0 where
   pub number : ℕ
   pub last : Token
