@@ -23,15 +23,15 @@ abbrev pub output_named : List ℕ → List SinkPlan → Option ℕ
 output_named name [] = None
 output_named name (sink ∷ sinks) = or_next (node_named name sink) (output_named name sinks)
 
--- The output that plays node `output` of the plan may fall silent, and a source in the script is to be mended for it.
--- The call that makes this source begins at byte `at`.
+-- A silence of node `output` of the plan is to be mended at one source, so that the node never falls silent. The call
+-- in the script `text` that makes this source begins at byte `at`.
 pub record IsCauseOf (text : List ℕ) (plan : Plan) (output at : ℕ) : Type 0 where
   pub source : ℕ
   pub cause : IsCause plan.nodes output source
   pub place : IsSourceAt text source at
 
--- The output of this name may fall silent, and a source in the script is to be mended for it. The call that makes this
--- source begins at byte `at`.
+-- A silence of the output of this name is to be mended at one source, so that the output never falls silent. The call
+-- in the script `text` that makes this source begins at byte `at`.
 pub record IsCauseAt (text name : List ℕ) (at : ℕ) : Type 0 where
   pub plan : Plan
   pub is_plan : IsPlan text plan
