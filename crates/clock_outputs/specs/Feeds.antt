@@ -63,9 +63,9 @@ pub record HaveGiven {T : Type 0} (stands : T → List Call
   pub accepted : ℕ → Bool
   pub are : HaveOwnBuffers feeds → more ≡ joined_upto (λ k. given_by accepted (slice_get feeds k)) below
 
--- Memory was refused at the end of a tick: only some feeds, from the first one on, put their cells into their buffers.
--- The taps are all ends of buffers in this clock, before and after. `stands` says which calls a state of the taps
--- stands for; the puts are added to these.
+-- Memory was refused at the end of a tick: some feeds, from the first one on, put their cells into their buffers. The
+-- taps are all ends of buffers in this clock, before and after. `stands` says which calls a state of the taps stands
+-- for; the puts are added to these.
 pub record HaveGivenSome {T : Type 0} (stands : T → List Call
     → Type 0) (feeds : List FeedPort) (taps_old taps_new : T) : Type 0 where
   pub made : List Call

@@ -41,9 +41,9 @@ abbrev pub Makes : {X Y : Type 0} → (X → Y) → Option X → Place → Resul
 Makes view (Some x) now meant = meant ≡ Ok (view x)
 Makes view None now meant = Failed now meant
 
--- The result `now` of an operator, of the right operand's result `right` and then the left one's. A fault of the left
--- stays, and else one of the right. Of two values it is what the operator makes, once one step of work is counted. m
--- and n are the states before and after.
+-- The result `now` of an operator on two operands: `right` is the result of the right one, and what stands behind m
+-- that of the left one. A fault of the left stays, and else one of the right. Two values are joined, once one unit of
+-- work is counted. m and n are the states before and after.
 abbrev pub Joins : Operator → Place → Machine → Place → Place → Machine → Type 0
 Joins operator right m (Err e) now n = now ≡ Err e
 Joins operator (Err e) m (Ok v) now n = now ≡ Err e

@@ -42,7 +42,7 @@ played_by (Silence blank) = leaf.Blank blank.track
 played_by (Wave square) = leaf.Square square.pitch square.rate square.kind
 played_by Nothing = leaf.Never
 
--- the leaf that the state of one stands for: files, a blank, a square wave or nothing
+-- the leaf that has this state; a leaf is what plays without a child: files, a blank, a square wave or nothing
 abbrev pub leaf_of : LeafState → Leaf
 leaf_of state = played_by state.cursor
 

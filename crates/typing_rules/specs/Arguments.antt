@@ -4,7 +4,8 @@ use Rattle.typing_rules.specs.declared.form.Form.{Form}
 use Rattle.typing_rules.specs.declared.form.Form.TheVariants.{InPlace, ByLabel, Perhaps}
 use Rattle.script_grammar.specs.Tree.{Tree, Many, none, more, AParam, Param, Labelled, Optional}
 
--- a parameter: its name, and how an argument is given for it
+-- A parameter of a def or a builtin: its name, and how an argument is given for it. That is by place, by label, or by
+-- label with a default, so that it may be left out.
 pub record Parameter : Type 0 where
   pub name : List ℕ
   pub form : Form
@@ -19,7 +20,7 @@ label_by name InPlace = None
 label_by name ByLabel = Some name
 label_by name Perhaps = Some name
 
--- the label of a parameter's argument, if it has one
+-- the label by which an argument is given for this parameter; None if it is given by its place
 abbrev pub label_of : Parameter → Option (List ℕ)
 label_of p = label_by p.name p.form
 

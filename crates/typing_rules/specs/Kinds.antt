@@ -54,15 +54,15 @@ around given uses (at ∷ chain) = option_and_then (kinds_in (use_at at uses)) (
 abbrev pub read : List Kind → List Use → Places
 read given uses chain at = around given uses (at ∷ chain)
 
--- what a use says of a name: its token, and what the name means there
+-- what the use of a name says of it: the token at which it is used, and what the name means there
 abbrev pub said : Use → Meaning
 said u = (u.at, Some u.target)
 
--- what a name means, by the use that was found for it; None if none was found
+-- what a name means, by the use of it that was found; None if none was found
 abbrev pub target_said : Option Use → Option Target
 target_said o = option_map (λ u. u.target) o
 
--- what the name at each token means, as these uses say
+-- for each token what the name there means, as these uses of names say; None if none of them is at this token
 abbrev pub target_at : List Use → Targets
 target_at uses = target_in (map said uses)
 

@@ -17,12 +17,13 @@ pub data Bound : Type 0 where
 abbrev pub Scope : Type 0
 Scope = List (List ℕ × Bound)
 
--- what binds a name, the latest binding first
+-- what this name is bound to in the scope, by its latest binding; None if nothing binds it
 abbrev pub bound : List ℕ → Scope → Option Bound
 bound name [] = None
 bound name (b ∷ bs) = cond (bytes_eq name b.0) (Some b.1) (bound name bs)
 
--- what a name outside a call means, by what binds it: the value; a def, or nothing, leaves it unknown
+-- What a name outside a call means, by what binds it: the value, told by the token at which it was bound. A name that
+-- is bound to a def, or to nothing, is unknown there.
 abbrev pub value_meant : Option Bound → Option Target
 value_meant (Some (bound_value t)) = Some (target.Slot t)
 value_meant (Some (bound_function t ps)) = None
@@ -143,16 +144,16 @@ abbrev pub used : Scope → Script → List Name
 used sc none = []
 used sc (more s rest) = names sc s ++ used (with_statement s sc) rest
 
--- what a name means, without the parameters beside it
+-- what a name means, a value, a def or a builtin, without the parameters that stand beside it
 abbrev pub target_of : Option (Target × List Parameter) → Option Target
 target_of None = None
 target_of (Some x) = Some x.0
 
--- a token, and what the name there means
+-- the token at which a name is used, and what the name means there; None if it is unknown
 abbrev pub Meaning : Type 0
 Meaning = ℕ × Option Target
 
--- a name, by its token, and what it means
+-- the token of a use of a name, and what the name means there, without parameters and arguments
 abbrev pub meant : Name → Meaning
 meant n = (n.at, target_of n.meant)
 
@@ -161,6 +162,6 @@ abbrev pub target_in : List Meaning → ℕ → Option Target
 target_in [] at = None
 target_in (m ∷ ms) at = cond (nat_eq m.0 at) m.1 (target_in ms at)
 
--- all names of a script, with what they mean
+-- all uses of names in a script, in the order of tokens, each with what the name means there
 abbrev pub meanings_of : Script → List Meaning
 meanings_of script = map meant (used [] script)

@@ -77,9 +77,9 @@ sight target kinds es chain = record {
 abbrev pub HasSome : Targets → List Entry → Tree ADef → Type 0
 HasSome target es d = (kinds : Places) × (ts : List Ground) × (g : Ground) × DefHas (sight target kinds es []) d ts g
 
--- The statements of a script have types, one after another, and each def has some typing. es is what was bound before
--- them, fs what is bound after them, the latest first; `target` says what names mean, and `kinds` the kinds of each
--- use.
+-- The statements of a script have types, one after another, and each def has some typing. `es` is what was bound before
+-- them, `fs` what is bound after them, the latest first. `target` says what names mean, and `kinds` which kinds, mono
+-- or stereo, their uses have.
 abbrev pub IsTypedTo : Targets → Places → List Entry → Script → List Entry → Type 0
 IsTypedTo target kinds es none fs = fs ≡ es
 IsTypedTo target kinds es (more (Stmt (BindPart (Bind at name f)) semicolon) rest) fs = (g : Ground)
@@ -91,7 +91,8 @@ IsTypedTo target kinds es (more (Stmt (CallPart c) semicolon) rest) fs = ((g : G
 IsTypedTo target kinds es (more (Stmt (IfPart i) semicolon) rest) fs = ((g : Ground)
     × Has (sight target kinds es []) i g) × IsTypedTo target kinds es rest fs
 
--- a script has a typing, where names have these meanings
+-- A script has some typing: there are kinds of its uses and types of what it binds that fit all its statements.
+-- `target` says what each name means.
 abbrev pub HasTyping : Targets → Script → Type 0
 HasTyping target script = (kinds : Places) × (es : List Entry) × IsTypedTo target kinds [] script es
 

@@ -114,8 +114,8 @@ with_blocks format blocks = if nat_eq (length blocks) 0 then Err Empty else Ok (
   body = blocks;
 })
 
--- What the WAV file `bytes` of this format holds, by its first `data` chunk. That is the whole blocks in it, one sample
--- for each channel each, or the fault that there is no chunk or no block.
+-- What the WAV file `bytes` of this format holds, by its first `data` chunk. That is the whole blocks in it, of one
+-- sample for each channel, or the fault that there is no chunk or no block.
 abbrev pub data_step : List ℕ → Format → Option Chunk → Result Wav WavFault
 data_step bytes format None = Err NoData
 data_step bytes format (Some chunk) = with_blocks format (whole_blocks format.wide format.kind (body_of bytes chunk))

@@ -26,7 +26,7 @@ abbrev pub HasNoStatementAmong : List Token → (number : ℕ) → Type 0
 HasNoStatementAmong tokens number = (script : Script) → spelling script ≡ kinds tokens → IsPlaced 0 script
     → IsShallow (kinds tokens) → first_token script number ≡ None
 
--- no token of a script is this string
+-- the script `text` has tokens, if it has any, among which no quoted text has the bytes `name`
 abbrev pub HasNoText : List ℕ → (name : List ℕ) → Type 0
 HasNoText text name = (tokens : List Token) → AreTokens text tokens → text_among name tokens ≡ None
 

@@ -8,7 +8,7 @@ use Rattle.script_places.specs.Pointing.{pointer}
 use Rattle.script_places.specs.declared.named.Named.{Named}
 use Rattle.where_lines.specs.Beginning.{Begins, IsNowhere}
 
--- a line of output without the line feed at its end
+-- the bytes of a line of output without the line feed at its end, if it has one
 abbrev pub told_of : List ℕ → List ℕ
 told_of line = strip_last 10 line
 

@@ -33,11 +33,11 @@ abbrev pub or_all : List Token → Option ℕ → ℕ
 or_all tokens (Some first) = first
 or_all tokens None = length tokens
 
--- the number of the first token of a statement; for a number behind the last statement, how many tokens there are
+-- the number of the first token of statement `number`; if there is no such statement, how many tokens there are
 abbrev pub first_of : List Token → Script → ℕ → ℕ
 first_of tokens script number = or_all tokens (first_token script number)
 
--- the tokens of a statement: from its first one up to the first one of the next
+-- the tokens of statement `number` of a script, from its first one up to the first one of the next
 abbrev pub tokens_of : List Token → Script → ℕ → List Token
 tokens_of tokens script number = drop (first_of tokens script number)
     (take (first_of tokens script (number + 1)) tokens)
