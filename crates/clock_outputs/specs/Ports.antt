@@ -5,7 +5,8 @@ use Rattle.frame_core.specs.Slots.{Slot}
 use Rattle.stream_meaning.specs.Sinks.{block_length, slot_block}
 use Rattle.clock_outputs.specs.declared.port.Port.{Port}
 
--- the number of gaps of an output after one more slot of its node: a slot without a cell adds one, up to 2^64 - 1
+-- The number of gaps of an output after one more slot of its node. A slot without a cell is a gap and adds one, up to
+-- 2^64 - 1.
 abbrev pub counted : ℕ → Slot → ℕ
 counted gaps None = min (gaps + 1) (2 ^ 64 - 1)
 counted gaps (Some cell) = gaps

@@ -47,7 +47,8 @@ begun reader = from reader.playing
         then record reader { cells = flag_front reader.cells; playing = true }
         else reader
 
--- the cell that a reader has at an instant: the front one of those that it holds, while it plays; else none
+-- what the reader of a buffer has in its slot at an instant: the first of the cells that it holds, while it plays; else
+-- nothing
 abbrev pub reader_slot : Reader → Slot
 reader_slot reader = if reader.playing then front reader.cells else None
   where

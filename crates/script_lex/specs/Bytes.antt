@@ -30,12 +30,12 @@ is_escapable b = (b == 34) || ((b == 39) || (b == 92))
 abbrev pub is_inner : ℕ → Bool
 is_inner b = (nat_le 32 b && nat_le b 126) || nat_le 128 b
 
--- a part of a name begins at the front: a letter or `_`
+-- whether the bytes begin with a letter or `_`, with which a part of a dotted name begins
 abbrev pub starts_part : List ℕ → Bool
 starts_part [] = false
 starts_part (b ∷ bs) = is_letter b
 
--- a digit stands at the front
+-- whether the bytes begin with a digit
 abbrev pub starts_digit : List ℕ → Bool
 starts_digit [] = false
 starts_digit (b ∷ bs) = is_ascii_digit b

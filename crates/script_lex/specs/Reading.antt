@@ -12,12 +12,12 @@ use Rattle.script_lex.specs.declared.token.Symbol.{Symbol}
 use Rattle.script_lex.specs.declared.body.BodyEnd.{BodyEnd}
 use Rattle.script_lex.specs.declared.body.BodyEnd.TheVariants as ends
 
--- what a reader finds at the beginning of some bytes: a token as it is written, and the bytes behind it
+-- what a function of the lexer finds at the beginning of some bytes: a token as it is written, and the bytes behind it
 abbrev pub Found : Type 0
 Found = Shape × List ℕ
 
--- what a reader finds at the beginning of some bytes, a written token and the bytes behind it, or the fault of the
--- lexer
+-- what a function of the lexer finds at the beginning of some bytes: a token as it is written and the bytes behind it,
+-- or a fault
 abbrev pub Read : Type 0
 Read = Result Found LexStop
 
@@ -30,7 +30,7 @@ abbrev pub tail : List ℕ → List ℕ
 tail [] = []
 tail (b ∷ bs) = bs
 
--- the bytes behind the digits at the front
+-- what is left of the bytes behind the digits at their beginning, of which there may be none
 abbrev pub after_digits : List ℕ → List ℕ
 after_digits [] = []
 after_digits (b ∷ bs) = if is_ascii_digit b then after_digits bs else b ∷ bs
@@ -55,15 +55,16 @@ word_at bytes =
     let word = front bytes rest in
     word_or_open word (keyword_of word) rest
 
--- A part of a time such as `12h`, with the unit `h`. `bytes` begin with its digits, and the last list is what stands
--- behind them. If the unit comes there, the digits and the bytes behind the unit; else None and all `bytes`.
+-- One part of a time of the week, such as `12h` with the unit `h`. `bytes` begin with its digits, and the last list is
+-- what stands behind them. If the unit comes there: the digits, and the bytes behind the unit; else None and all
+-- `bytes`.
 abbrev pub part_before : ℕ → List ℕ → List ℕ → Option (List ℕ) × List ℕ
 part_before unit bytes [] = (None, bytes)
 part_before unit bytes (b ∷ bs) = if starts_digit bytes && (b == unit) then (Some (front bytes (b ∷ bs)), bs)
     else (None, bytes)
 
--- the digits of the part of a time with this unit, such as `12h`, if it stands at the front of `bytes`, and the bytes
--- behind it; else None and all `bytes`
+-- One part of a time of the week with this unit, such as `12h`, at the beginning of `bytes`: its digits, and the bytes
+-- behind the unit. If there is no such part, None and all `bytes`.
 unfoldable pub part_at : ℕ → List ℕ → Option (List ℕ) × List ℕ
 part_at unit bytes = part_before unit bytes (after_digits bytes)
 
@@ -75,7 +76,7 @@ minutes_after day (Some hour) None None bytes = if starts_digit bytes
     else (ATime day (Some hour) None None, bytes)
 minutes_after day hour minute second bytes = (ATime day hour minute second, bytes)
 
--- the time at the front, and the bytes behind it
+-- the time of the week, such as `1w12h30m`, at the beginning of the bytes, and the bytes behind it
 unfoldable pub time_at : List ℕ → Found
 time_at bytes =
     let day = part_at 119 bytes in
@@ -84,15 +85,15 @@ time_at bytes =
     let second = part_at 115 minute.1 in
     minutes_after day.0 hour.0 minute.0 second.0 second.1
 
--- The number or time at the front of `bytes`, and the bytes behind it. It begins with `digits`, and the last list is
--- what comes next: a point makes a decimal number, a unit of time a time, anything else an int.
+-- The number or time of the week at the beginning of `bytes`, and the bytes behind it. It begins with `digits`, and the
+-- last list is what comes next: a point makes a decimal number, a unit of time a time, anything else an int.
 abbrev pub number_from : List ℕ → List ℕ → List ℕ → Found
 number_from bytes digits [] = (AnInt digits, [])
 number_from bytes digits (b ∷ bs) =
     if b == 46 then (ANumber digits (front bs (after_digits bs)), after_digits bs)
     else (if is_unit b then time_at bytes else (AnInt digits, b ∷ bs))
 
--- the number or time at the front, and the bytes behind it
+-- the number or time of the week at the beginning of the bytes, and the bytes behind it
 unfoldable pub number_at : List ℕ → Found
 number_at bytes = number_from bytes (front bytes (after_digits bytes)) (after_digits bytes)
 
@@ -128,7 +129,8 @@ text_from body rest ends.Closed left = Ok (AText (unescaped body), tail rest)
 text_from body rest ends.Broken left = Err (Bad (length rest))
 text_from body rest ends.Cut left = Err (OpenText left)
 
--- the text whose opening quote stands before these bytes
+-- the quoted text whose opening quote stands before these bytes, and what is behind its closing quote, or the fault of
+-- the lexer
 unfoldable pub text_at : ℕ → List ℕ → Read
 text_at quote bytes =
     let stop = body_end quote bytes in
@@ -141,20 +143,20 @@ abbrev pub symbol_before : Option Symbol → List ℕ → Option Found
 symbol_before None rest = None
 symbol_before (Some symbol) rest = Some (ASymbol symbol, rest)
 
--- what the first of two readers found, or, where it found nothing, what the second found
+-- what the first of two functions of the lexer found, or, if it found nothing, what the second found
 abbrev pub first_of_two : Option Found → Option Found → Option Found
 first_of_two None second = second
 first_of_two (Some found) second = Some found
 
--- the operator or bracket whose first byte is b, by what comes after b: with `=` a symbol of two bytes if there is
--- one, else of one
+-- The operator, bracket or separator whose first byte is b, and the bytes behind it; the list is what comes after b. It
+-- is that of two bytes, such as `<=`, if there is one, else that of one byte, and None if there is neither.
 unfoldable pub symbol_at : ℕ → List ℕ → Option Found
 symbol_at b [] = symbol_before (symbol_of b) []
 symbol_at b (c ∷ bs) =
     if c == 61 then first_of_two (symbol_before (symbol_with_equals b) bs) (symbol_before (symbol_of b) (c ∷ bs))
     else symbol_before (symbol_of b) (c ∷ bs)
 
--- the format word `%wav`, if it stands at the front, and the bytes behind it
+-- the format word `%wav`, if the bytes begin with it, and the bytes behind it; else None
 unfoldable pub wav_at : List ℕ → Option Found
 wav_at (a ∷ b ∷ c ∷ d ∷ bs) = if (a == 37) && ((b == 119) && ((c == 97) && (d == 118))) then Some (AWav, bs) else None
 wav_at bs = None

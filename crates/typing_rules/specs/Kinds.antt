@@ -24,7 +24,7 @@ abbrev pub known_kind : List Kind → KindOf → Option Kind
 known_kind given (Fixed k) = Some k
 known_kind given (Given j) = slice_get given j
 
--- the kind put in front of the row of kinds, where both are known; else None
+-- the kind and then the row of kinds as one row, where both are known; else None
 abbrev pub put : Option Kind → Option (List Kind) → Option (List Kind)
 put None ks = None
 put (Some k) None = None
