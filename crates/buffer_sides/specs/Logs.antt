@@ -4,7 +4,7 @@ use Rattle.run_records.specs.Records.{Window}
 use Rattle.buffer_queue.specs.Window.{is_chunk}
 use Rattle.buffer_ends.specs.Local.{Answers}
 
--- the answers that a buffer gave in a window, which is a number of ticks: to its puts, true where the chunk was
--- accepted, and to its takes, true where a chunk was got
+-- What a buffer answered in a window, a number of ticks that all clocks make. For each put true says that the chunk was
+-- accepted, and for each take that there was a chunk to get.
 abbrev pub told : Window → Answers
 told window = record { puts = map is_chunk window.0; takes = map is_chunk window.1 }

@@ -3,20 +3,23 @@ use Rattle.std.specs.Prelude.{◌≡◌, ◌<◌, ◌≤◌, ◌+◌, ℕ, Some,
 use Rattle.liq_base.specs.Pieces.{HasRoom, SinkTold, TookPiece, TookPart}
 use Rattle.clock_outputs.specs.declared.port.Port.{Port}
 
--- each sink has room for the piece of its output
+-- Each sink of a clock has room for the bytes that its output has of the tick. `ports` are the outputs, `outs` their
+-- sinks in the same order, and `told` gives what a sink tells of itself.
 pub record HaveRoom {S : Type 0} (told : S → SinkTold) (ports : List Port) (outs : List S) : Type 0 where
   pub each : (k : ℕ) (port : Port) (out : S) → slice_get ports k ≡ Some port → slice_get outs k ≡ Some out
       → HasRoom (told out).room (length port.piece.bytes)
 
--- each of the first `below` sinks took the piece of its output, whole, and the others are as they were
+-- Each of the first `below` sinks took all the bytes that its output has of the tick, and the others are as they were.
+-- `ports` are the outputs, `old` and `new` their sinks before and after, and `told` gives what a sink tells of itself.
 pub record TookAll {S : Type 0} (told : S → SinkTold) (ports : List Port) (below : ℕ) (old new : List S) : Type 0 where
   pub each : (k : ℕ) (port : Port) (before after : S) → k < below → slice_get ports k ≡ Some port
       → slice_get old k ≡ Some before → slice_get new k ≡ Some after
       → TookPiece port.piece.bytes (told before) (told after)
   pub others : (k : ℕ) → below ≤ k → slice_get new k ≡ slice_get old k
 
--- the sink at this place took a front of the piece of its output, and failed; each before it took its piece whole, and
--- those after it are as they were
+-- The sink with the number `place` took only a prefix of its output's bytes of the tick, and failed. Each before it
+-- took all of them, and those after it are as they were. `ports` are the outputs, `old` and `new` their sinks, and
+-- `told` gives what a sink tells of itself.
 pub record BrokeAt {S : Type 0} (told : S → SinkTold) (place : ℕ) (ports : List Port) (old new : List S) : Type 0 where
   pub port : Port
   pub before : S

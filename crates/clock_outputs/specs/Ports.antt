@@ -5,12 +5,14 @@ use Rattle.frame_core.specs.Slots.{Slot}
 use Rattle.stream_meaning.specs.Sinks.{block_length, slot_block}
 use Rattle.clock_outputs.specs.declared.port.Port.{Port}
 
--- the number of gaps of an output after one more slot of its node: a slot without a cell adds one, up to 2^64 - 1
+-- The number of gaps of an output after one more slot of its node. A slot without a cell is a gap and adds one, up to
+-- 2^64 - 1.
 abbrev pub counted : ℕ → Slot → ℕ
 counted gaps None = min (gaps + 1) (2 ^ 64 - 1)
 counted gaps (Some cell) = gaps
 
--- an output with these bytes of the tick and this number of gaps
+-- the output `port` with these bytes collected of the tick, and with this number of gaps; a gap is an instant without a
+-- cell
 abbrev pub with_bytes : Port → List ℕ → ℕ → Port
 with_bytes port bytes gaps = record {
   sink = port.sink;
@@ -22,7 +24,8 @@ with_bytes port bytes gaps = record {
   gaps_before = port.gaps_before;
 }
 
--- an output at the start of a tick: it has no bytes, and the gaps so far are those before the tick
+-- An output at the start of a tick. It has no bytes of the tick yet, and its gaps so far, which are instants without a
+-- cell, are noted as those before the tick.
 abbrev pub emptied : Port → Port
 emptied port = record {
   sink = port.sink;
@@ -34,21 +37,23 @@ emptied port = record {
   gaps_before = port.gaps;
 }
 
--- an output after one more slot of its node: the bytes of its samples, or zeros for an empty slot, are added, and a
--- gap is counted
+-- An output after one more slot of its node. The bytes of the cell in it, or zeros and one gap for an empty slot, are
+-- added to those of the tick.
 abbrev pub after_slot : Port → Slot → Port
 after_slot port slot = with_bytes port (port.piece.bytes
     ++ slot_block port.wide port.kind slot) (counted port.gaps slot)
 
--- an output after these slots more of its node
+-- An output after these slots more of its node, one after another. Each adds the bytes of its cell, or zeros and one
+-- gap if it is empty.
 abbrev pub after_slots : Port → List Slot → Port
 after_slots port [] = port
 after_slots port (slot ∷ slots) = after_slots (after_slot port slot) slots
 
--- an output has room for the blocks of so many slots more
+-- an output has room for the bytes of so many slots more of its node, with a sample for each channel in each
 abbrev pub HasRoomLeft : ℕ → Port → Type 0
 HasRoomLeft slots port = length port.piece.bytes + slots * block_length port.wide port.kind ≤ port.piece.room
 
--- each of these outputs has room for the blocks of so many slots more
+-- each of these outputs has room for the bytes of so many slots more of its node, with a sample for each channel in
+-- each
 abbrev pub AllHaveRoomLeft : ℕ → List Port → Type 0
 AllHaveRoomLeft slots ports = All (λ port. HasRoomLeft slots port) ports

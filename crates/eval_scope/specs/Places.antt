@@ -10,21 +10,21 @@ use Rattle.script_values.specs.declared.slots.Slot.{Slot}
 use Rattle.typing_rules.specs.Scripts.{def_token}
 use Rattle.typing_rules.specs.declared.uses.Use.{Use}
 
--- `places` is an index of the list xs by tokens: for each token it has the place of the first item that passes the
--- test with this token, or None
+-- `places` is an index of the list xs by tokens, for fast search. For each token it has the place of the first item for
+-- which `test` holds with this token, or None if there is none.
 abbrev pub IsTable : {X : Type 0} → (ℕ → X → Bool) → List (Option ℕ) → List X → Type 0
 IsTable test places xs = (at : ℕ) → at_token at places ≡ position (test at) xs
 
--- one item was entered in an index by tokens: each token that passes the test has its place now, unless it had an
--- earlier one, and every other token has what it had
+-- One item, at `place` in its list, was entered in an index by tokens. Each token for which `test` holds has this place
+-- now, unless it had an earlier one; any other token has what it had. `old` and `new` are the index before and after.
 abbrev pub Notes : (ℕ → Bool) → List (Option ℕ) → ℕ → List (Option ℕ) → Type 0
 Notes test old place new = (at : ℕ) → at_token at new ≡ option_or (at_token at old) (cond (test at) (Some place) None)
 
--- whether the use stands for the name at the token
+-- whether u is the use of the name at token `at`, which says what the name means there
 abbrev pub is_use : ℕ → Use → Bool
 is_use at u = nat_eq u.at at
 
--- whether the binding is of the name at the token
+-- whether s is the binding, of a name to a value, whose name stands at token `at`
 abbrev pub is_slot : ℕ → Slot → Bool
 is_slot at s = nat_eq s.at at
 

@@ -10,7 +10,8 @@ use Rattle.script_values.specs.Values.{Value}
 use Rattle.script_values.specs.Views.{view_slot}
 use Rattle.eval_meaning.specs.Meaning.{Surroundings, World, call_by}
 
--- the script with its uses and the values of the bindings of its statements, as a program's scope has them
+-- What all calls of defs have in common, from the scope that the program keeps: the script, the uses, which say what
+-- its names mean, and the values that its statements bind.
 abbrev pub world_of : program.Scope → World
 world_of s = record {
   script = view_script s.defs.now.script.now;
@@ -18,7 +19,8 @@ world_of s = record {
   globals = map view_slot s.globals.now.all.items;
 }
 
--- what an expression sees in a program's scope: bindings of the def first, then those of statements
+-- What an expression sees where it is evaluated, from the scope that the program keeps. The bindings of the def around
+-- it come first, then those of the script's statements.
 abbrev pub scope_of : program.Scope → Surroundings
 scope_of s = record {
   uses = s.uses.now.all.now;
@@ -27,7 +29,8 @@ scope_of s = record {
   call = call_by (world_of s) s.calls;
 }
 
--- what an expression sees in a program's scope without the bindings of the def around
+-- What an expression outside of the body of a def sees, from the scope that the program keeps: the bindings of the
+-- script's statements, without those of a def.
 abbrev pub base_of : program.Scope → Surroundings
 base_of s = record {
   uses = s.uses.now.all.now;
@@ -36,11 +39,12 @@ base_of s = record {
   call = call_by (world_of s) s.calls;
 }
 
--- what a call of the def at this token makes, with these open kinds and arguments
+-- What a call of the def whose name stands at this token makes, evaluated in the scope s. `kinds` are the values of the
+-- def's open kinds (mono or stereo), `given` the arguments, and m the state before.
 abbrev pub called : program.Scope → ℕ → List Kind → List (GivenArgument Value) → Machine → Outcome
 called s at kinds given m = call_by (world_of s) s.calls at kinds given m
 
--- the kinds js, if they are known, with ks before them; else None
+-- the list js of kinds, mono or stereo, with ks before it; None if js is not known
 abbrev pub prefixed : List Kind → Option (List Kind) → Option (List Kind)
 prefixed ks None = None
 prefixed ks (Some js) = Some (ks ++ js)

@@ -9,11 +9,11 @@ use Rattle.script_values.specs.Values.{Value}
 use Rattle.script_values.specs.declared.fault.Stop.{Stop}
 use Rattle.script_values.specs.declared.machine.Machine.{Machine}
 
--- what was made, once 1 of work is counted
+-- what a step made, a value or a fault, once one unit of work is counted in the state of evaluation, which has a bound
 abbrev pub after_count : Result Value Stop → Machine → Outcome
 after_count made m = count_work 1 m >>= λ c. made >>= λ v. Ok (v, c)
 
--- what an operator makes of two values
+-- the value that an operator of the language makes of two values, or the fault where it has none
 abbrev pub operation : Operator → Value → Value → Result Value Stop
 operation operator.Or = either
 operation operator.And = both

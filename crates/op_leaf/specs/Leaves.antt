@@ -18,11 +18,12 @@ file_of library file = slice_index_or library.files file no_sound
 abbrev pub sounds_of : Sounds → ℕ → List Sound
 sounds_of library node = map (λ file. file_of library file) (tracks_of library node)
 
--- how many samples each channel has in all these files
+-- how many samples each channel has in all these sounds together
 abbrev pub total_of : List Sound → ℕ
 total_of sounds = sum_by length_of sounds
 
--- the slot at a position of these files, played once one after the other; a cell has its file's title
+-- The slot at a position of these files of the library, played once, one after the other. A cell has the kind, mono or
+-- stereo, that is asked for, and its file's title; behind the last file there is nothing.
 abbrev pub joined_slot : Sounds → (files : List ℕ) → Kind → ℕ → Slot
 joined_slot library [] kind position = None
 joined_slot library (file ∷ files) kind position =
@@ -30,18 +31,20 @@ joined_slot library (file ∷ files) kind position =
     then Some (cell_of (file_of library file) (suc file) kind position)
     else joined_slot library files kind (position - length_of (file_of library file))
 
--- the position among the files: where they begin again after the last one, it is that of a single pass
+-- The position within one pass through these files, for a leaf that has given `position` cells. With true the files are
+-- played again and again, so that it begins anew after the last one.
 abbrev pub place_in_round : List Sound → Bool → ℕ → ℕ
 place_in_round sounds true position = position % total_of sounds
 place_in_round sounds false position = position
 
--- the slot of a node at a position, which plays its files once or, with true, again and again
+-- The slot of a leaf that plays the files of a node, once or, with true, again and again. `position` is how many cells
+-- it has given.
 abbrev pub files_slot : Sounds → (node : ℕ) → Bool → Kind → ℕ → Slot
 files_slot library node again kind position =
     joined_slot library (tracks_of library node) kind (place_in_round (sounds_of library node) again position)
 
--- the cell of a blank at a position, zeros; a track begins at each multiple of its length, or at 0 alone where it is
--- endless
+-- The cell of a blank, zeros, at a position. A track of it has `track` samples, so that one begins at each multiple of
+-- them; with 0 the blank is endless, and its one track begins at 0.
 abbrev pub blank_cell : ℕ → ℕ → Cell
 blank_cell track position =
     record {
@@ -51,7 +54,8 @@ blank_cell track position =
       title = 0;
     }
 
--- the sample of a square wave at a position: 8192 in the first half of each period, and -8192 in the second
+-- The sample of a square wave at a position: 8192 in the first half of each period, and -8192 in the second. It has
+-- `pitch` periods a second, at `rate` samples a second.
 abbrev pub height_at : Decimal → ℕ → ℕ → ℤ
 height_at pitch rate position =
     if nat_lt (position * unsigned_abs pitch.millionths % (rate * 1000000)) (rate * 500000) then pos 8192
@@ -62,7 +66,8 @@ abbrev pub on_the_right : Kind → ℤ → ℤ
 on_the_right Mono sample = pos 0
 on_the_right Stereo sample = sample
 
--- the cell at a position of a square wave of this many periods a second, at this many samples a second
+-- The cell of a square wave of `pitch` periods a second, at `rate` samples a second, in a source of this kind. The cell
+-- at position 0 begins its one track.
 abbrev pub square_cell : Decimal → ℕ → Kind → ℕ → Cell
 square_cell pitch rate kind position = record {
   left = height_at pitch rate position;
@@ -71,7 +76,7 @@ square_cell pitch rate kind position = record {
   title = 0;
 }
 
--- the slot of a leaf at a position, which is how many cells it has given
+-- what a leaf has in its slot, a cell or nothing, when it has given `position` cells
 abbrev pub leaf_slot : Sounds → Leaf → ℕ → Slot
 leaf_slot library (Files node again kind) position = files_slot library node again kind position
 leaf_slot library (Blank track) position = Some (blank_cell track position)

@@ -4,15 +4,16 @@ use Rattle.frame_core.specs.declared.cell.Cell.{Cell}
 use Rattle.frame_core.specs.Slots.{Slot}
 use Rattle.frame_core.specs.Calls.{Answer}
 
--- a reader: the cells that it holds, in order; whether it plays; its prefill, at least 1; and the samples of a tick
+-- The node that plays the cells of a buffer. It has the cells that it took and did not yet play, whether it plays, its
+-- prefill, which is how many it collects before it begins, and how many samples a tick has.
 pub record Reader : Type 0 where
   pub cells : List Cell
   pub playing : Bool
   pub prefill : ℕ
   pub frame : ℕ
 
--- how many cells the reader of a buffer is to hold once it has taken chunks at the start of a tick: a tick of them
--- while it plays, else its prefill
+-- how many cells the reader of a buffer is to hold at the start of a tick: those of a tick while it plays, and else its
+-- prefill
 abbrev pub wanted : Reader → ℕ
 wanted reader = if reader.playing then reader.frame else reader.prefill
 
@@ -34,10 +35,8 @@ abbrev pub holds_some : List Cell → Bool
 holds_some [] = false
 holds_some (cell ∷ cells) = true
 
--- the reader after the takes of a tick:
---   where it played: it plays on where it holds a cell, else it stops
---   where it did not, and holds its prefill: it begins to play, and its front cell begins a track
---   otherwise: it stays as it is
+-- The reader of a buffer after it took chunks at the start of a tick. If it played, it plays on as long as it holds a
+-- cell. If it did not, it begins to play once it holds its prefill, and its first cell begins a track.
 abbrev pub begun : Reader → Reader
 begun reader = from reader.playing
   where
@@ -48,7 +47,8 @@ begun reader = from reader.playing
         then record reader { cells = flag_front reader.cells; playing = true }
         else reader
 
--- the cell that a reader has at an instant: the front one of those that it holds, while it plays; else none
+-- what the reader of a buffer has in its slot at an instant: the first of the cells that it holds, while it plays; else
+-- nothing
 abbrev pub reader_slot : Reader → Slot
 reader_slot reader = if reader.playing then front reader.cells else None
   where
@@ -56,31 +56,32 @@ reader_slot reader = if reader.playing then front reader.cells else None
     front [] = None
     front (cell ∷ cells) = Some cell
 
--- the reader after it gave a cell; it stays where it does not play
+-- the reader of a buffer after an instant: while it plays it gave the first of its cells, and else nothing changes
 abbrev pub after_cell : Reader → Reader
 after_cell reader = if reader.playing then record reader { cells = drop 1 reader.cells } else reader
 
--- the reader after it gave j cells
+-- the reader of a buffer after j instants at which it was to give a cell
 abbrev pub read_by : ℕ → Reader → Reader
 read_by zero reader = reader
 read_by (suc j) reader = after_cell (read_by j reader)
 
--- the reader after it asked its buffer for chunks at the start of a tick, with these answers: it adds chunks while it
--- wants cells, up to the first answer that is empty
+-- The reader of a buffer after its takes at the start of a tick, of which these are the answers: a chunk, or None for
+-- an empty buffer. It adds chunks while it holds too few cells, up to the first None.
 abbrev pub after_takes : List Answer → Reader → Reader
 after_takes [] reader = reader
 after_takes (None ∷ answers) reader = reader
 after_takes (Some chunk ∷ answers) reader =
     if wants reader then after_takes answers (record reader { cells = reader.cells ++ chunk }) else reader
 
--- the answers of the takes of a tick: while it wants, up to and with the first empty one, which ends them
+-- The answers that a reader gets of its buffer at the start of a tick, of those to come. It takes while it holds too
+-- few cells, and the first None, for an empty buffer, ends it.
 abbrev pub reader_takes : List Answer → Reader → List Answer
 reader_takes [] reader = if wants reader then None ∷ [] else []
 reader_takes (None ∷ answers) reader = if wants reader then None ∷ [] else []
 reader_takes (Some chunk ∷ answers) reader =
     if wants reader then Some chunk ∷ reader_takes answers (record reader { cells = reader.cells ++ chunk }) else []
 
--- the reader of a buffer at the start of a tick: it takes chunks, by the answers to come, and then plays, begins to
--- play or stops; past the end of the answers its buffer is empty
+-- The reader of a buffer at the start of a tick. It takes chunks, of which the answers are to come, and then plays on,
+-- begins to play or stops. Where there are no more answers, the buffer is empty.
 abbrev pub at_start : List Answer → Reader → Reader
 at_start answers reader = begun (after_takes answers reader)

@@ -12,52 +12,53 @@ use Rattle.op_leaf.specs.declared.leaf.Cursor.{Cursor}
 use Rattle.op_leaf.specs.declared.leaf.Cursor.TheVariants.{Track, Silence, Wave, Nothing}
 use Rattle.op_leaf.specs.Leaves.{place_in_round, sounds_of, total_of}
 
--- a player of files that has given `position` cells stands where its state says: the lengths of the files before the
--- one that is played, and the sample in it, make up the position in the current round
+-- A leaf of files that has given `position` cells is where its state says. The lengths of the files before the one that
+-- it plays, and its place in that one, make up the position in the current pass.
 abbrev pub FilesStandAt : Sounds → FilesState → ℕ → Type 0
 FilesStandAt library files position =
     total_of (take files.track (sounds_of library files.node)) + files.at
     ≡ place_in_round (sounds_of library files.node) files.again position
 
--- the library has the node's files, and the state is within one of them or past the last
+-- the library has the files of the leaf, and its state is within one of them, or past the last one
 pub record FilesArePlacedIn (library : Sounds) (files : FilesState) : Type 0 where
   pub there : files.node < length library.leaves
   pub within : files.track < length (tracks_of library files.node)
       → files.at < length_of (sound_at library files.node files.track)
 
--- a blank that has given `position` cells stands where its state says: at that sample of its track; of an endless one
--- the state only tells whether it has begun
+-- A blank that has given `position` cells is where its state says: at that sample of its track. If it is endless, the
+-- state tells only whether it has begun.
 abbrev pub BlankStandsAt : Blank → ℕ → Type 0
 BlankStandsAt blank position = blank.at ≡ (if nat_eq blank.track 0 then min position 1 else (position % blank.track))
 
--- the phase of a square wave is that of the position, and it has begun unless the position is 0
+-- the state of a square wave is that after `position` cells: where it is in its period, and whether it has begun
 pub record SquareStandsAt (square : Square) (position : ℕ) : Type 0 where
   pub phase : square.phase ≡ position * unsigned_abs square.pitch.millionths % (square.rate * 1000000)
   pub begun : square.begun ≡ not (nat_eq position 0)
 
--- the leaf, which is what plays without a child, that this cursor is the state of
+-- the leaf of which this is the state; a leaf is what plays without a child: files, a blank, a square wave or nothing
 abbrev pub played_by : Cursor → Leaf
 played_by (Track files) = leaf.Files files.node files.again files.kind
 played_by (Silence blank) = leaf.Blank blank.track
 played_by (Wave square) = leaf.Square square.pitch square.rate square.kind
 played_by Nothing = leaf.Never
 
--- the leaf that the state of one stands for: files, a blank, a square wave or nothing
+-- the leaf that has this state; a leaf is what plays without a child: files, a blank, a square wave or nothing
 abbrev pub leaf_of : LeafState → Leaf
 leaf_of state = played_by state.cursor
 
--- a blank whose tracks end is within one
+-- the state of a blank is within its track; if it is endless, nothing is asked
 pub record BlankIsPlaced (blank : Blank) : Type 0 where
   pub within : 0 < blank.track → blank.at < blank.track
 
--- where a cursor stands is a place of this library
+-- the state of a leaf, by what it plays, is a place that there is: within a file of this library, or within the track
+-- of a blank
 abbrev pub CursorIsPlacedIn : Sounds → Cursor → Type 0
 CursorIsPlacedIn library (Track files) = FilesArePlacedIn library files
 CursorIsPlacedIn library (Silence blank) = BlankIsPlaced blank
 CursorIsPlacedIn library (Wave square) = Unit {0}
 CursorIsPlacedIn library Nothing = Unit {0}
 
--- where a leaf stands is a place of this library
+-- the state of a leaf is a place that there is: within a file of this library, or within the track of a blank
 abbrev pub IsPlacedIn : Sounds → LeafState → Type 0
 IsPlacedIn library state = CursorIsPlacedIn library state.cursor
 

@@ -4,8 +4,8 @@ use Rattle.frame_core.specs.declared.cell.Cell.{Cell}
 use Rattle.cell_ring.specs.Rings.{Ring}
 use Rattle.op_leaf.specs.Readers.{flag_front}
 
--- the cells of the queue of a reader as they are played: if it has just begun to play, the first one is marked as the
--- beginning of a track
+-- the cells of a reader's queue as they are to be played: with true it has just begun to play, and the first cell is
+-- marked as the beginning of a track
 abbrev pub shown : Bool → List Cell → List Cell
 shown true cells = flag_front cells
 shown false cells = cells

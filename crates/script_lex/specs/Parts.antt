@@ -6,16 +6,16 @@ use Rattle.fixed_text.specs.declared.time_mark.TimeMark.{TimeMark}
 use Rattle.script_lex.specs.Spelling.{Shape, ATime, mark_of}
 use Rattle.script_lex.specs.declared.time.Parts.{Parts}
 
--- the digits of a part of a time, if it is there
+-- the digits of one part of a time of the week, such as the hour, as plain data; None if the time lacks the part
 abbrev pub digits_in : Option (Bor (List ℕ)) → Option (List ℕ)
 digits_in = option_map (λ digits. digits.now)
 
--- a part of a time is digits, if it is there
+-- one part of a time of the week, such as the hour, is all digits; a part that the time lacks passes
 abbrev pub AreDigits : Option (List ℕ) → Type 0
 AreDigits None = Unit {0}
 AreDigits (Some digits) = AllDigits 10 digits
 
--- each part that is there is digits
+-- each part of a time of the week, day, hour, minute and second, is all digits, if the time has the part
 abbrev pub HasDigits : Parts → Type 0
 HasDigits parts = AreDigits (digits_in parts.day) × AreDigits (digits_in parts.hour)
     × AreDigits (digits_in parts.minute) × AreDigits (digits_in parts.second)

@@ -13,7 +13,8 @@ use Rattle.script_lex.specs.declared.token.Symbol.{Symbol}
 use Rattle.script_lex.specs.declared.token.TokenKind.{TokenKind}
 use Rattle.script_lex.specs.declared.token.TokenKind.TheVariants as kinds
 
--- how a token is written, before its value is computed
+-- How a token is written, before its value is computed: a word, a name with its `(`, an int, a decimal number, a time
+-- of the week, a quoted text, `%wav` or a symbol. Digits are kept as bytes; a part that a time lacks is None.
 pub data Shape : Type 0 where
   AWord : List ℕ → Shape
   AnOpen : (name : List ℕ) → Shape
@@ -24,7 +25,7 @@ pub data Shape : Type 0 where
   AWav : Shape
   ASymbol : Symbol → Shape
 
--- each byte is a letter, `_` or a digit
+-- each byte of the list is a letter, `_` or a digit, as bytes of a name are behind its first
 abbrev pub AllWord : List ℕ → Type 0
 AllWord [] = Unit {0}
 AllWord (b ∷ bs) = (is_word b ≡ true) × AllWord bs
@@ -34,7 +35,7 @@ abbrev pub IsPart : List ℕ → Type 0
 IsPart [] = ⊥
 IsPart (b ∷ bs) = (is_letter b ≡ true) × AllWord bs
 
--- each of these is a part of a name
+-- each of these byte lists is a part of a dotted name: a letter or `_`, and then letters, `_` and digits
 abbrev pub AreParts : List (List ℕ) → Type 0
 AreParts [] = Unit {0}
 AreParts (p ∷ ps) = IsPart p × AreParts ps
@@ -49,13 +50,13 @@ abbrev pub IsDotted : List ℕ → Type 0
 IsDotted text = (part : List ℕ) × (parts : List (List ℕ)) × IsPart part × AreParts parts
     × (text ≡ part ++ behind_points parts)
 
--- the text of a part of a time, such as `12h`: its digits and the byte of its unit, or nothing if the time lacks the
--- part
+-- The text of one part of a time of the week, such as `12h`: its digits and the byte of its unit. A part that the time
+-- lacks has no text.
 abbrev pub part_text : Option (List ℕ) → ℕ → List ℕ
 part_text None unit = []
 part_text (Some digits) unit = digits ++ unit ∷ []
 
--- a part of a time has digits, if it is there
+-- the digits of one part of a time of the week, such as `12h`, are one digit or more; a part that the time lacks passes
 abbrev pub IsDigits : Option (List ℕ) → Type 0
 IsDigits None = Unit {0}
 IsDigits (Some digits) = IsNumeral 10 digits
@@ -80,28 +81,30 @@ pub record IsTimeText (day hour minute second : Option (List ℕ)) (text : List 
   pub some : text ≢ []
   pub spelled : (text ≡ time_text day hour minute second) ⊎ IsShortTime day hour minute second text
 
--- a character of a text: itself, or behind a backslash
+-- One character within a quoted text of a script: it stands for itself, or stands behind a backslash. A character is
+-- told by its number in Unicode.
 pub data TextPiece : Type 0 where
   PlainPiece : ℕ → TextPiece
   Escaped : ℕ → TextPiece
 
--- the bytes of a character of a text as they stand in the script
+-- the bytes by which one character of a quoted text is written in the script, with the backslash before it, if it has
+-- one
 abbrev pub written : TextPiece → List ℕ
 written (PlainPiece c) = encode_utf8 c
 written (Escaped c) = 92 ∷ c ∷ []
 
--- the bytes that a character of a text means
+-- the bytes that one character of a quoted text stands for, without the backslash before it
 abbrev pub meant_bytes : TextPiece → List ℕ
 meant_bytes (PlainPiece c) = encode_utf8 c
 meant_bytes (Escaped c) = c ∷ []
 
--- a character that may stand in a text with this quote: U+0020 to U+007E other than the backslash and the quote, or one
--- from U+0080 on; or a quote or a backslash behind a backslash
+-- A character may stand in a text between two of this quote. Behind a backslash that is a quote or a backslash. Alone
+-- it is U+0020 or above, and not U+007F, the backslash or this quote.
 abbrev pub IsPiece : ℕ → TextPiece → Type 0
 IsPiece quote (PlainPiece c) = IsScalar c × (32 ≤ c) × (c ≢ 127) × (c ≢ 92) × (c ≢ quote)
 IsPiece quote (Escaped c) = is_escapable c ≡ true
 
--- each of these may stand in a text with this quote
+-- each of these characters may stand in a text between two of this quote, `"` or `'`
 abbrev pub ArePieces : ℕ → List TextPiece → Type 0
 ArePieces quote [] = Unit {0}
 ArePieces quote (p ∷ ps) = IsPiece quote p × ArePieces quote ps
@@ -119,7 +122,7 @@ pub record IsQuotedText (value text : List ℕ) : Type 0 where
   pub spelled : text ≡ quote ∷ flat_map written pieces ++ quote ∷ []
   pub means : value ≡ flat_map meant_bytes pieces
 
--- the text is a spelling of the shape
+-- the bytes `text` write a token of this shape, whatever its numbers are; the bounds of numbers are checked later
 abbrev pub SpellsShape : Shape → List ℕ → Type 0
 SpellsShape (AWord word) text = IsDotted text × (word ≡ text)
 SpellsShape (AnOpen name) text = IsDotted name × (keyword_of name ≡ None) × (text ≡ name ++ 40 ∷ [])
@@ -130,12 +133,14 @@ SpellsShape (AText value) text = IsQuotedText value text
 SpellsShape AWav text = text ≡ codes "%wav"
 SpellsShape (ASymbol symbol) text = text ≡ symbol_text symbol
 
--- the number of a part of a time is at most `most`; a part that is lacking passes
+-- Whether the number of one part of a time of the week, such as the hour, is at most `most`. A part that the time lacks
+-- passes.
 abbrev pub is_up_to : ℕ → Option (List ℕ) → Bool
 is_up_to most None = true
 is_up_to most (Some digits) = nat_le (digits_value 10 digits) most
 
--- a shape is within the bounds of numbers and times
+-- Whether the numbers of a written token are within their bounds: an int up to 2^63 - 1, a decimal of at most six
+-- places up to 10^9, and the day, hour, minute and second of a time.
 abbrev pub is_within : Shape → Bool
 is_within (AnInt digits) = nat_le (digits_value 10 digits) 9223372036854775807
 is_within (ANumber whole fraction) = nat_le (length fraction) 6 && nat_le (millionths whole fraction) 1000000000000000
@@ -143,16 +148,16 @@ is_within (ATime day hour minute second) = is_up_to 7 day
     && (is_up_to 24 hour && (is_up_to 60 minute && is_up_to 60 second))
 is_within shape = true
 
--- the token that a word is: the keyword, if it is one, and else a name
+-- the token that a word is: the keyword that was found for it, and else a name
 abbrev pub kind_of_word : List ℕ → Option Keyword → TokenKind
 kind_of_word word None = kinds.Name word
 kind_of_word word (Some keyword) = kinds.Keyword keyword
 
--- the number that the digits of a part of a time write, where the time has the part
+-- the number that the digits of one part of a time of the week write; None where the time lacks the part
 abbrev pub values : Option (List ℕ) → Option ℕ
 values = option_map (λ digits. digits_value 10 digits)
 
--- the time that these digits mean
+-- the time of the week that these digits of its parts mean; None is a part that it lacks
 abbrev pub mark_of : (day hour minute second : Option (List ℕ)) → TimeMark
 mark_of day hour minute second = record {
   day = values day;
@@ -161,7 +166,8 @@ mark_of day hour minute second = record {
   second = values second;
 }
 
--- the token that a spelled shape stands for is `kind`: digits become their number, and a word a keyword or a name
+-- The token that a written shape stands for is `kind`. Digits become their number, and a word becomes a keyword or a
+-- name.
 abbrev pub Means : Shape → TokenKind → Type 0
 Means (AWord word) kind = kind ≡ kind_of_word word (keyword_of word)
 Means (AnOpen name) kind = kind ≡ kinds.NameOpen name
@@ -173,7 +179,8 @@ Means (AText value) kind = kind ≡ kinds.Str value
 Means AWav kind = kind ≡ kinds.Wav
 Means (ASymbol symbol) kind = kind ≡ kinds.Symbol symbol
 
--- the shape is spelled at the front of `bytes`, with `rest` behind it, and no longer front of `bytes` spells any shape
+-- A token of this shape is written at the beginning of `bytes`, with `rest` behind it. It is the longest: no more bytes
+-- from the beginning on write a token of any shape.
 pub record IsLongest (shape : Shape) (bytes rest : List ℕ) : Type 0 where
   pub text : List ℕ
   pub split : bytes ≡ text ++ rest
@@ -181,7 +188,8 @@ pub record IsLongest (shape : Shape) (bytes rest : List ℕ) : Type 0 where
   pub longest : (other : Shape) (more behind : List ℕ) → bytes ≡ more ++ behind → SpellsShape other more
       → length more ≤ length text
 
--- a token of this kind stands at the front of bytes, and rest is behind it
+-- The longest token that is written at the beginning of `bytes` is of this kind, and its numbers are within their
+-- bounds. `rest` are the bytes behind it.
 pub record IsToken (bytes : List ℕ) (kind : TokenKind) (rest : List ℕ) : Type 0 where
   pub shape : Shape
   pub longest : IsLongest shape bytes rest
@@ -195,14 +203,15 @@ pub data LexStop : Type 0 where
   OpenText : (left : ℕ) → LexStop
   Large : (left : ℕ) → LexStop
 
--- a number that passes its bound stands at the front of bytes
+-- The longest token that is written at the beginning of `bytes` is a number or a time past its bound.
 pub record IsTooLarge (bytes : List ℕ) : Type 0 where
   pub shape : Shape
   pub rest : List ℕ
   pub longest : IsLongest shape bytes rest
   pub past : is_within shape ≡ false
 
--- at the front of `bytes` a string opens that the end of the script cuts off; the last byte may be a backslash
+-- At the beginning of `bytes` a string opens that the end of the script cuts off, since no closing quote comes. What is
+-- cut may end with a lone backslash.
 pub record IsUnclosed (bytes : List ℕ) : Type 0 where
   pub quote : ℕ
   pub pieces : List TextPiece
@@ -212,15 +221,15 @@ pub record IsUnclosed (bytes : List ℕ) : Type 0 where
   pub spelled : bytes ≡ quote ∷ flat_map written pieces ++ last
   pub cut : (last ≡ []) ⊎ (last ≡ 92 ∷ [])
 
--- within a string with this quote, what stands at the front of `bytes` may not stand there: no allowed character, not
--- the closing quote, and not the end of the script
+-- Within a string between two of this quote, what comes next may not come there. `bytes`, from there on, begin with no
+-- allowed character and not with the closing quote, and are not cut by the end of the script.
 pub record BeginsNoPiece (quote : ℕ) (bytes : List ℕ) : Type 0 where
   pub no_piece : (p : TextPiece) (rest : List ℕ) → IsPiece quote p → bytes ≢ written p ++ rest
   pub no_quote : (rest : List ℕ) → bytes ≢ quote ∷ rest
   pub no_end : (bytes ≢ []) × (bytes ≢ 92 ∷ [])
 
--- a string opens at the front of `bytes`, and in it, `left` bytes from the end, stands something that no string may
--- hold
+-- At the beginning of `bytes` a string opens, and in it stands something that no string may hold. `left` counts the
+-- bytes from there to the end of the script.
 pub record IsBadInText (bytes : List ℕ) (left : ℕ) : Type 0 where
   pub quote : ℕ
   pub pieces : List TextPiece
@@ -231,13 +240,14 @@ pub record IsBadInText (bytes : List ℕ) (left : ℕ) : Type 0 where
   pub no_piece : BeginsNoPiece quote bad
   pub place : left ≡ length bad
 
--- no token is spelled at the front of `bytes`, no string opens there, and it is not the end
+-- the bytes are not at their end, and neither a token nor a string begins with them, so that the first byte is a fault
 pub record BeginsNothing (bytes : List ℕ) : Type 0 where
   pub some : bytes ≢ []
   pub no_shape : (shape : Shape) (text rest : List ℕ) → bytes ≡ text ++ rest → SpellsShape shape text → ⊥
   pub no_quote : (quote : ℕ) (rest : List ℕ) → IsQuote quote → bytes ≢ quote ∷ rest
 
--- the fault that stands at the front of bytes
+-- this fault of the lexer, of which `left` counts the bytes from its place to the end, is found where `bytes`, the rest
+-- of the script, begin
 abbrev pub FaultAt : LexStop → List ℕ → Type 0
 FaultAt (Bad left) bytes = (BeginsNothing bytes × (left ≡ length bytes)) ⊎ IsBadInText bytes left
 FaultAt (OpenText left) bytes = IsUnclosed bytes × (left ≡ length bytes)

@@ -4,20 +4,20 @@ use Rattle.rand_core.specs.Pcg32Seed.{pcg32_seed}
 use Rattle.rand_pcg.specs.Lcg.{Lcg}
 use Rattle.rand_pcg.specs.Pcg.{pcg32, pcg32_of_seed}
 
--- the generator of a seed after its first n words
+-- the state of the generator of random numbers that begins with this seed, after it gave its first n numbers
 unfoldable pub generator_after : (seed n : ℕ) → Lcg
 generator_after seed zero = pcg32_of_seed (pcg32_seed 16 seed)
 generator_after seed (suc n) = (pcg32 (generator_after seed n)).1
 
--- word n of a seed, counted from 0
+-- the random number, a word of 32 bits, that the generator with this seed gives after its first n
 abbrev pub word : (seed n : ℕ) → ℕ
 word seed n = (pcg32 (generator_after seed n)).0
 
--- what is left of the words of a seed: the next one, and the generator behind it
+-- What a seed still has to give of its random numbers: the next one, and the state of the generator behind it.
 pub record Unread : Type 0 where
   pub next : ℕ
   pub behind : Lcg
 
--- the words of a seed from word n on
+-- the random numbers that a seed has still to give after its first n
 abbrev pub words_from : (seed n : ℕ) → Unread
 words_from seed n = record { next = word seed n; behind = generator_after seed (suc n) }

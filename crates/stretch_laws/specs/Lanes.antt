@@ -8,8 +8,8 @@ use Rattle.stream_meaning.specs.Operators.{Work}
 use Rattle.stream_meaning.specs.Instants.{Setting, Moment, gives, moment_after, work_at}
 use Rattle.stretch_laws.specs.Stretches.{IsNode, IsStretch, lane}
 
--- A node i of a clock, seen over a stretch: a row of instants after a past, in which no track and no choice begins
--- behind the first. `sub` has the slots that sub-clocks made for crossfades.
+-- Node i of a clock, with all that decides what it does over a stretch. The stretch is a row of `instants` instants
+-- after `past`, in which nothing begins behind the first. `sub` has the slots that sub-clocks make for each crossfade.
 pub record NodeOver : Type 0 where
   pub setting : Setting
   pub sub : ℕ → ℕ → List Slot
@@ -22,18 +22,18 @@ pub record NodeOver : Type 0 where
   pub stretch : IsStretch setting sub clock past instants
   pub there : IsNode setting clock i node
 
--- what happens at the first instant of the stretch of a node: the slots, the choices and the demands
+-- what all nodes do at the first instant of the stretch: their slots, the children picked, and the demands
 abbrev pub first_over : NodeOver → Moment
 first_over over = moment_after over.setting over.sub over.clock over.past
 
--- whether the node has a cell and is demanded at the first instant of its stretch, so that it goes on
+-- whether the node gives at the first instant of its stretch: it offers a cell and is demanded, so that it goes on
 abbrev pub gives_over : NodeOver → Bool
 gives_over over = gives (first_over over) over.i
 
--- the work of the node of a stretch: what its operator does, as play a leaf, pick a child, mix or fade
+-- what the operator of the node does: play a leaf, pick a child, mix, fade or read a buffer
 abbrev pub work_over : NodeOver → Work
 work_over over = work_at over.setting over.i over.node
 
--- the cell, or none, that a node of the plan has j instants after the first instant of a stretch
+-- what the node of this number has in its slot, a cell or nothing, j instants after the first instant of the stretch
 abbrev pub lane_over : NodeOver → (j : ℕ) → ℕ → Slot
 lane_over over j = lane over.setting over.sub over.clock over.past j

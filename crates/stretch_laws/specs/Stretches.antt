@@ -15,27 +15,29 @@ use Rattle.stream_meaning.specs.Instants.{Setting, Moment, choices, gives_before
 use Rattle.stream_meaning.specs.Calls.{calls_of}
 use Rattle.stretch_laws.specs.Steady.{Follows, IsFree}
 
--- the past of a clock after j instants more: their moments, the latest first, and then `past`
+-- The past of a clock after j instants more: their moments, the latest first, and then `past`. A moment is what all
+-- nodes do at one instant. `sub` has the slots that sub-clocks make for each crossfade.
 abbrev pub going_on : Setting → (sub : ℕ → ℕ → List Slot) → NodeClock → ℕ → List Moment → List Moment
 going_on setting sub clock zero past = past
 going_on setting sub clock (suc j) past =
     let later = going_on setting sub clock j past in moment_after setting sub clock later ∷ later
 
--- node i of the plan is this one and lies in this clock
+-- `node` is node i of the plan of `setting`, and it goes on with this clock
 pub record IsNode (setting : Setting) (clock : NodeClock) (i : ℕ) (node : Node) : Type 0 where
   pub there : slice_get setting.plan.nodes i ≡ Some node
   pub inside : lies_in setting clock i ≡ true
 
--- a later instant is like a first one: the same nodes offer, are demanded and give, those that are demanded pick the
--- same child, and none that gives begins a track
+-- A later moment, which is what all nodes do at one instant, is like the first one of a stretch. The same nodes offer,
+-- are demanded and give, those demanded pick the same child, and none that gives begins a track.
 pub record IsLike (first later : Moment) : Type 0 where
   pub demands : later.demands ≡ first.demands
   pub slots : (i : ℕ) → Follows (offer first i) (offer later i)
   pub picks : (i : ℕ) → demanded first i ≡ true → (part_at later.parts i).pick ≡ (part_at first.parts i).pick
   pub inner : (i : ℕ) → gives first i ≡ true → is_inner (offer later i) ≡ true
 
--- a leaf, a crossfade or a reader has this title j instants after the first one of a stretch; nodes that only pass on
--- the cells of their children need nothing. The title is the number of the file from which a cell came.
+-- Node i, which does this work, has this title j instants into a stretch; the title is the number of the file from
+-- which a cell came. A node that only passes on cells of its children needs nothing. `past` is what was before, and
+-- `sub` the slots of sub-clocks.
 abbrev pub KeepsTitle : Setting → (sub : ℕ → ℕ → List Slot) → List Moment → (i : ℕ) → Work → (j title : ℕ) → Type 0
 KeepsTitle setting sub past i (Plays leaf) j title = title_of (leaf_slot setting.library leaf (gives_before past i + j))
     ≡ title
@@ -46,9 +48,9 @@ KeepsTitle setting sub past i (Reads buffer) j title =
     title_of (reader_slot (read_by j
     (reading_at setting buffer (length past) (reading_after setting i buffer past)).reader)) ≡ title
 
--- The next `instants` instants of a clock are a stretch: after the first one no node that gives begins a track or
--- changes its title, no predicate changes, and no tick begins for a reader, so that the first instant decides the
--- others. `past` is what went before.
+-- The next `instants` instants of a clock are decided by their first one: after it no node that gives begins a track or
+-- changes its title, no predicate changes, and no tick begins for a reader. `past` is what was before. `sub` has the
+-- slots that sub-clocks make for each crossfade.
 pub record IsStretch (setting : Setting) (sub : ℕ → ℕ
     → List Slot) (clock : NodeClock) (past : List Moment) (instants : ℕ) : Type 0 where
   -- leaves that give go on with their track
@@ -92,8 +94,8 @@ pub record IsStretch (setting : Setting) (sub : ℕ → ℕ
       (title_of (offer (moment_after setting sub clock past) i))
 
 -- What the nodes of a clock go by, j instants into a stretch, follows from its first instant: how many cells a leaf
--- gave, which child was picked, how many choices were made, and where a crossfade and a reader stand. `later` is the
--- past by then.
+-- gave, which child was picked, how many choices were made, and where crossfades and readers are. `later` is the past
+-- by then, and `past` that before the stretch.
 pub record IsOn (setting : Setting) (sub : ℕ → ℕ
     → List Slot) (clock : NodeClock) (past : List Moment) (j : ℕ) (later : List Moment) : Type 0 where
   pub long : length later ≡ length past + j
@@ -120,8 +122,8 @@ pub record IsOn (setting : Setting) (sub : ℕ → ℕ
       → (reading_after setting i buffer later).reader
       ≡ (reading_at setting buffer (length past) (reading_after setting i buffer past)).reader
 
--- the slots of a sub-clock for crossfade k, from slot n on, are `count` cells of this title that begin no track; each
--- m cells more are the first m of them
+-- The slots that a sub-clock makes for crossfade k, behind its first n, are `count` cells of one title that begin no
+-- track. `sub` gives the first slots of each sub-clock, as many as are asked for. The title is the number of a file.
 pub record AreFilled (setting : Setting) (sub : ℕ → ℕ → List Slot) (k n count title : ℕ) : Type 0 where
   pub cells : List Cell
   pub inner : AllInner cells
@@ -129,12 +131,14 @@ pub record AreFilled (setting : Setting) (sub : ℕ → ℕ → List Slot) (k n 
   pub long : length cells ≡ count
   pub filled : (m : ℕ) → m ≤ count → sub k (n + m) ≡ sub k n ++ map Some (take m cells)
 
--- the cell, or none, that node i has j instants after the first instant that follows `past`
+-- What node i has in its slot, a cell or nothing, j instants after the first instant that follows `past`. `sub` has the
+-- slots that sub-clocks make for each crossfade.
 abbrev pub lane : Setting → (sub : ℕ → ℕ → List Slot) → NodeClock → List Moment → (j i : ℕ) → Slot
 lane setting sub clock past j i = offer (moment_after setting sub clock (going_on setting sub clock j past)) i
 
--- Node i goes on as at the instant `moment` for `rest` instants more: what it plays begins no track, by its work.
--- `begins` says whether the child that a selection used last begins a track there.
+-- Node i, which does this work, goes on as at the instant `moment` for `rest` instants more, so that what it plays
+-- begins no track. `past` is what was before, and `sub` the slots of sub-clocks. `begins`: the child that a selection
+-- used last begins a track.
 abbrev pub NodeGoes : Setting → (sub : ℕ → ℕ → List Slot) → List Moment → Moment → (i : ℕ) → Work → (begins : Bool)
     → (rest : ℕ) → Type 0
 NodeGoes setting sub past moment i (Plays leaf) begins rest =
@@ -153,8 +157,8 @@ NodeGoes setting sub past moment i (Reads buffer) begins rest =
     → is_inner (reader_slot (read_by (suc j)
     (reading_at setting buffer (length past) (reading_after setting i buffer past)).reader)) ≡ true
 
--- node i, if it gives a cell at the instant `moment`, has the title of that cell for `rest` instants more, by its
--- work; the title is the number of the file from which a cell came
+-- If node i, which does this work, gives a cell at the instant `moment`, it has the title of that cell for `rest`
+-- instants more. The title is the number of a file. `past` is what was before, and `sub` has the slots of sub-clocks.
 abbrev pub NodeKeeps : Setting → (sub : ℕ → ℕ → List Slot) → List Moment → Moment → (i : ℕ) → Work → (rest : ℕ) → Type 0
 NodeKeeps setting sub past moment i (Plays leaf) rest =
     gives moment i ≡ true → (j : ℕ) → j < rest
@@ -169,8 +173,9 @@ NodeKeeps setting sub past moment i (Reads buffer) rest =
     → title_of (reader_slot (read_by (suc j)
     (reading_at setting buffer (length past) (reading_after setting i buffer past)).reader)) ≡ title_of (offer moment i)
 
--- over a stretch the sub-clocks of crossfades call no buffer: for each instant after the first they make only such
--- instants of their own as put nothing and take nothing
+-- Over a stretch of `instants` instants the sub-clocks of crossfades call no buffer. For each instant after the first
+-- they make only such instants of their own as put nothing and take nothing. `past` is what was before, and `sub` the
+-- slots of sub-clocks.
 pub record AreQuiet (setting : Setting) (sub : ℕ → ℕ
     → List Slot) (clock : NodeClock) (past : List Moment) (instants : ℕ) : Type 0 where
   pub each : (k : ℕ) (node : Node) (overlap i m : ℕ) → IsNode setting clock k node

@@ -10,11 +10,13 @@ use Rattle.typing_rules.specs.NameFaults.{first_fault, name_fault_in}
 use Rattle.typing_rules.specs.Scripts.{Entry, Places, IsTypedTo, HasTyping, IsClash, first_of}
 use Rattle.typing_rules.specs.Kinds.{said, target_at, read, blocks, IsLess, IsLessInside, AreKindsNumbered, IsOpen, Stands}
 
--- a script has a typing in which names mean, and have the kinds, that the uses say
+-- the script has a typing in which each name means what its use says and has the kinds, mono or stereo, that its use
+-- says
 abbrev pub IsTypedScript : Script → List Use → Type 0
 IsTypedScript script uses = (es : List Entry) × IsTypedTo (target_at uses) (read [] uses) [] script es
 
--- these are the uses of the script: what each name means, and its kinds, of which none could be less
+-- The script is typed by these uses, one for each name: what it means, and its kinds, mono or stereo. The kinds are
+-- mono only where they must be, and the kind variables of each def are exactly what is free in it.
 pub record IsTyped (script : Script) (uses : List Use) : Type 0 where
   -- all names and arguments match, and there is one use for each name, in the order of the tokens
   pub names : first_fault 1 [] script ≡ None
@@ -31,8 +33,8 @@ pub record IsTyped (script : Script) (uses : List Use) : Type 0 where
   pub least_inside : (kinds : Places) (es : List Entry) → IsTypedTo (target_at uses) kinds [] script es
       → IsLessInside (blocks [] script) uses es
 
--- f is the fault that is told of a script with a fault of names: in the first statement that has any fault; all
--- statements before it have a typing
+-- f is the fault that is told of a script with a fault of names or arguments. It stands in the first statement that has
+-- one, and all statements before have a typing.
 pub record IsNameFault (script : Script) (f : TypeFault) : Type 0 where
   pub stmt : ℕ
   pub inside : NameFault

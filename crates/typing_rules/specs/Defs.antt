@@ -24,9 +24,9 @@ def_at t (more (Stmt (BindPart b) semicolon) rest) = def_at t rest
 def_at t (more (Stmt (CallPart c) semicolon) rest) = def_at t rest
 def_at t (more (Stmt (IfPart i) semicolon) rest) = def_at t rest
 
--- A call at token `at` of the def at token t is well typed: the def stands among the entries es, the arguments gs fit
--- its parameters, and its text has the type g where it sees only the entries before it. `chain` has the calls around
--- this one, the last first.
+-- A call at token `at`, within the calls `chain` (last first), of the def whose name is token t is well typed with the
+-- result g. The def is among the entries es, gs fit its parameters, and its text sees the entries before it. `ts` says
+-- what names mean, and `kinds` the kinds of their uses.
 pub record Leads (ts : Targets) (kinds : Places) (es : List Entry) (chain : List ℕ) (at t : ℕ)
     (gs : List (GivenArgument Ground)) (g : Ground) : Type 0 where
   pub def : Tree ADef
@@ -37,11 +37,13 @@ pub record Leads (ts : Targets) (kinds : Places) (es : List Entry) (chain : List
   pub matched : Matched (params_of def) gs types
   pub has : DefHas (sight ts kinds before (at ∷ chain)) def types g
 
--- each def among the entries is one of the script's
+-- each def among the entries, which are what is bound at a place, is a statement of the script
 abbrev pub AreDefsOf : Script → List Entry → Type 0
 AreDefsOf script es = (d : Tree ADef) (before : List Entry) → Stands es d before → IsDefOf script d
 
--- a call leads to a def that the search by its token finds in the script, and all defs before it are the script's
+-- A call is well typed, and its def is the one that a search of the script by the token of its name finds. All defs
+-- before that one are the script's too. `chain` has the calls around, `at` is the call's token, t the def's, gs the
+-- arguments and g the type of the result.
 pub record LeadsInto (script : Script) (ts : Targets) (kinds : Places) (es : List Entry) (chain : List ℕ) (at t : ℕ)
     (gs : List (GivenArgument Ground)) (g : Ground) : Type 0 where
   pub call : Leads ts kinds es chain at t gs g

@@ -10,14 +10,14 @@ use Rattle.typing_rules.specs.Arguments.{Parameter, GivenArgument, left_over, fi
 pub use Rattle.typing_rules.specs.Arguments.{token_of}
 use Rattle.typing_rules.specs.Scoping.{Name, Scope, names, with_statement}
 
--- the token of a fault, by which the faults of a statement are ordered
+-- the token at which a fault of names stands; the faults of a statement are ordered by it
 abbrev pub token : NameFault → ℕ
 token (Unknown at) = at
 token (Missing at label) = at
 token (Extra at) = at
 token (Repeated at) = at
 
--- the number of a fault, by which those at one token are ordered
+-- the number of a sort of fault, by which two faults at one token are ordered; the lower one is told
 abbrev pub number : NameFault → ℕ
 number (Unknown at) = 1
 number (Missing at label) = 2
@@ -29,13 +29,14 @@ abbrev pub missing_at : ℕ → Option (List ℕ) → List NameFault
 missing_at at None = []
 missing_at at (Some label) = Missing at label ∷ []
 
--- the faults of the name at a token, by what it means and the arguments given: unknown, or a missing argument and
--- those that no parameter takes
+-- The faults of one use of a name at token `at`. If it means nothing, it is unknown. Else they are the first missing
+-- argument, if one is missing, and each argument of `given` that no parameter takes.
 abbrev pub faults_as : ℕ → Option (Target × List Parameter) → List (GivenArgument ℕ) → List NameFault
 faults_as at None given = Unknown at ∷ []
 faults_as at (Some x) given = missing_at at (first_missing x.1 given) ++ map (λ g. Extra g.1) (left_over x.1 given)
 
--- all faults of the names of a statement
+-- all faults of the uses of names in a statement: unknown names, missing arguments, and arguments that no parameter
+-- takes
 abbrev pub all_faults : List Name → List NameFault
 all_faults [] = []
 all_faults (n ∷ ns) = faults_as n.at n.meant n.given ++ all_faults ns
@@ -88,20 +89,21 @@ abbrev pub reported_fault : List NameFault → Option NameFault
 reported_fault [] = None
 reported_fault (f ∷ fs) = Some (earlier f (reported_fault fs))
 
--- a fault of names, in statement n
+-- a fault of names or arguments as a fault of typing, with the number n of its statement
 abbrev pub name_fault_in : ℕ → NameFault → TypeFault
 name_fault_in n (Unknown at) = fault.UnknownName n at
 name_fault_in n (Missing at label) = fault.MissingArgument n at label
 name_fault_in n (Extra at) = fault.ExtraArgument n at
 name_fault_in n (Repeated at) = fault.RepeatedName n at
 
--- the fault of statement n if it has one, or else that of a later statement
+-- the first fault of a script from statement n on: that of statement n if it has one, or else `later`, that of a later
+-- statement
 abbrev pub or_later : ℕ → Option NameFault → Option (ℕ × NameFault) → Option (ℕ × NameFault)
 or_later n None later = later
 or_later n (Some f) later = Some (n, f)
 
--- the first statement that has a fault of names, by its number, and the fault that is told of it; n is the number of
--- the first statement here
+-- The first statement that has a fault of names or arguments, by its number, and the fault that is told of it. `n` is
+-- the number of the first statement of this part of the script, and `sc` the scope before it.
 abbrev pub first_fault : ℕ → Scope → Script → Option (ℕ × NameFault)
 first_fault n sc none = None
 first_fault n sc (more s rest) = or_later n (reported_fault (faults_in sc s))

@@ -11,7 +11,7 @@ use Rattle.typing_rules.specs.declared.builtins.RowType.{RowType}
 use Rattle.typing_rules.specs.declared.builtins.RowType.TheVariants as row
 use Rattle.typing_rules.specs.Arguments.{Parameter}
 
--- a parameter of the program, as plain data
+-- a parameter as the program keeps it, as plain data: its name, and how its argument is given
 abbrev pub seen_parameter : AParameter → Parameter
 seen_parameter p = record { name = p.name.now; form = p.form }
 
@@ -19,7 +19,8 @@ seen_parameter p = record { name = p.name.now; form = p.form }
 abbrev pub seen_row : Row → List ℕ × Builtin
 seen_row r = (r.name.now, r.builtin)
 
--- a type of the table, in which the variable of each sort has the number 0
+-- the type of a parameter or a result in the program's table of builtins, as a term; a type that varies is type
+-- variable 0, and a kind that varies kind variable 0
 abbrev pub row_term : RowType → Term
 row_term row.Int = base_term base.Int
 row_term row.Text = base_term base.Text

@@ -7,45 +7,49 @@ use Rattle.typing_rules.specs.declared.uses.Target.TheVariants as target
 use Rattle.typing_rules.specs.Arguments.{Parameter, GivenArgument, parameters_of}
 use Rattle.typing_rules.specs.Table.{builtin_named, params_of_builtin}
 
--- what a name is bound to: a value or a def, by the token of the name that is bound
+-- What a name is bound to, with the token at which the name was bound: a value, or a def with its parameters.
 pub data Bound : Type 0 where
   bound_value : ℕ → Bound
   bound_function : ℕ → List Parameter → Bound
 
--- the names in scope, the newest first; a newer one hides an older one, of either sort, and a builtin
+-- The names in scope and what each is bound to, the newest first. A newer binding hides an older one of the same name,
+-- and a builtin of that name.
 abbrev pub Scope : Type 0
 Scope = List (List ℕ × Bound)
 
--- what binds a name, the latest binding first
+-- what this name is bound to in the scope, by its latest binding; None if nothing binds it
 abbrev pub bound : List ℕ → Scope → Option Bound
 bound name [] = None
 bound name (b ∷ bs) = cond (bytes_eq name b.0) (Some b.1) (bound name bs)
 
--- what a name outside a call means, by what binds it: the value; a def, or nothing, leaves it unknown
+-- What a name outside a call means, by what binds it: the value, told by the token at which it was bound. A name that
+-- is bound to a def, or to nothing, is unknown there.
 abbrev pub value_meant : Option Bound → Option Target
 value_meant (Some (bound_value t)) = Some (target.Slot t)
 value_meant (Some (bound_function t ps)) = None
 value_meant None = None
 
--- a builtin, as what a call means, with its parameters
+-- what a call means that names no def: the builtin found, with its parameters, or None if there is none
 abbrev pub builtin_meant : Option Builtin → Option (Target × List Parameter)
 builtin_meant None = None
 builtin_meant (Some b) = Some (target.Builtin b, params_of_builtin b)
 
--- what a call means: a def or a builtin, with its parameters; a name that binds a value hides both
+-- What a call of this name means, by what binds the name: a def or, if nothing binds it, a builtin, with its
+-- parameters. A name that is bound to a value hides both, and cannot be called.
 abbrev pub call_meant : List ℕ → Option Bound → Option (Target × List Parameter)
 call_meant name (Some (bound_value t)) = None
 call_meant name (Some (bound_function t ps)) = Some (target.Def t, ps)
 call_meant name None = builtin_meant (builtin_named name)
 
--- A name that is used, at a token: the parameters of what it means, and the arguments by their tokens. One outside a
--- call has neither. None: it is unknown.
+-- A use of a name at token `at`. `meant` is what the name means, with the parameters of that def or builtin, or None if
+-- the name is unknown. `given` are the arguments of a call, by their tokens. A name outside a call has neither
+-- parameters nor arguments.
 pub record Name : Type 0 where
   pub at : ℕ
   pub meant : Option (Target × List Parameter)
   pub given : List (GivenArgument ℕ)
 
--- what a name outside a call means, with no parameters beside it
+-- what a name outside a call means, with the empty list of parameters, so that it has the form of what a call means
 abbrev pub no_parameters : Option Target → Option (Target × List Parameter)
 no_parameters None = None
 no_parameters (Some t) = Some (t, [])
@@ -88,8 +92,8 @@ with_statement (Stmt (DefPart (Def at name ps equals is e)) semicolon) sc = (nam
 with_statement (Stmt (CallPart c) semicolon) sc = sc
 with_statement (Stmt (IfPart i) semicolon) sc = sc
 
--- The names that a tree uses; those of inner bindings, each in the scope of the ones before it; and those of
--- statements.
+-- All names that a tree of the grammar uses, in the order of tokens, each looked up in the scope at its place. In the
+-- body of a def each inner binding sees the parameters and the bindings before it.
 abbrev mutual
   pub names : {s : Sort} → Scope → Tree s → List Name
   names sc none = []
@@ -140,16 +144,16 @@ abbrev pub used : Scope → Script → List Name
 used sc none = []
 used sc (more s rest) = names sc s ++ used (with_statement s sc) rest
 
--- what a name means, without the parameters beside it
+-- what a name means, a value, a def or a builtin, without the parameters that stand beside it
 abbrev pub target_of : Option (Target × List Parameter) → Option Target
 target_of None = None
 target_of (Some x) = Some x.0
 
--- a token, and what the name there means
+-- the token at which a name is used, and what the name means there; None if it is unknown
 abbrev pub Meaning : Type 0
 Meaning = ℕ × Option Target
 
--- a name, by its token, and what it means
+-- the token of a use of a name, and what the name means there, without parameters and arguments
 abbrev pub meant : Name → Meaning
 meant n = (n.at, target_of n.meant)
 
@@ -158,6 +162,6 @@ abbrev pub target_in : List Meaning → ℕ → Option Target
 target_in [] at = None
 target_in (m ∷ ms) at = cond (nat_eq m.0 at) m.1 (target_in ms at)
 
--- all names of a script, with what they mean
+-- all uses of names in a script, in the order of tokens, each with what the name means there
 abbrev pub meanings_of : Script → List Meaning
 meanings_of script = map meant (used [] script)

@@ -8,28 +8,31 @@ use Rattle.typing_rules.specs.Arguments.{Parameter, GivenArgument, Matched, para
 use Rattle.typing_rules.specs.Scoping.{target_in, meanings_of}
 use Rattle.typing_rules.specs.Typing.{TypesByToken, Sight, Has, DefHas}
 
--- what a script's statements bind: the type of a value by its token, and the text of a def; the newest first, so that
--- what stands behind a def is its environment
+-- What a statement of a script binds: the type of a value, with the token of its name, or the text of a def. In lists
+-- the newest stands first, so that what stands behind a def is what its text sees.
 pub data Entry : Type 0 where
   value : ℕ → Ground → Entry
   function : Tree ADef → Entry
 
--- the types of bindings, by their tokens
+-- the types of the values that a script's statements bind, each by the token of its name; defs are left out
 abbrev pub types_of : List Entry → TypesByToken
 types_of [] = []
 types_of (value t g ∷ es) = (t, g) ∷ types_of es
 types_of (function d ∷ es) = types_of es
 
--- What names mean, by token.
+-- For the token of each name: what the name means there, a value, a def or a builtin. None: it is unknown.
 abbrev pub Targets : Type 0
 Targets = ℕ → Option Target
 
--- The kinds at the places of the expansion. A place is a use, by its token, with the tokens of the calls that lead to
--- it, the last one first.
+-- The kinds, mono or stereo, of each use of a name once all calls of defs are expanded. The first argument has the
+-- tokens of the calls that lead to the use, the last call first. The second is the token of the name. None: they are
+-- not known.
 abbrev pub Places : Type 0
 Places = List ℕ → ℕ → Option (List Kind)
 
--- the kinds of uses as seen from inside a chain of calls: the chain is added behind the calls of each place
+-- The kinds of the uses of names within one call of a def, when all calls are expanded. `chain` has the tokens of this
+-- call and of those around it, the last first. `kinds` looks a use up by all calls that lead to it, and the result by
+-- the calls within this one alone.
 abbrev pub behind : List ℕ → Places → Places
 behind chain kinds = λ c. kinds (c ++ chain)
 
@@ -41,8 +44,9 @@ def_token (Def at name ps equals is e) = at
 abbrev pub params_of : Tree ADef → List Parameter
 params_of (Def at name ps equals is e) = parameters_of ps
 
--- A call at token `at` of the def with token t, behind a chain of calls, may with these arguments have the type g. What
--- the def's text sees is what stands before the def, and its own calls are behind a chain longer by this one.
+-- A call at token `at`, within the calls `chain` (last first), of the def whose name is token t may have the type g
+-- with the arguments gs. The def is one of the entries, the latest first, and its text sees those behind it. The text
+-- is typed anew for each call: `kinds` gives its kinds, by the calls that lead there.
 abbrev pub calls_behind : Targets → Places → List Entry → List ℕ → ℕ → ℕ → List (GivenArgument Ground) → Ground → Type 0
 calls_behind target kinds [] chain at t gs g = ⊥
 calls_behind target kinds (value u h ∷ es) chain at t gs g = calls_behind target kinds es chain at t gs g
@@ -57,7 +61,9 @@ calls_behind target kinds (function d ∷ es) chain at t gs g =
       | false ↦ calls_behind target kinds es chain at t gs g
     ]
 
--- what is known where a statement is typed: what names mean, their types and kinds, and what calls make
+-- What typing knows at a place: `target` says what names mean, `kinds` the kinds of their uses, and `es` what is bound
+-- there, the latest first. `chain` has the calls around the place, the last first; in a statement of the script itself
+-- it is empty.
 abbrev pub sight : Targets → Places → List Entry → List ℕ → Sight
 sight target kinds es chain = record {
   target = target;
@@ -66,13 +72,14 @@ sight target kinds es chain = record {
   call = calls_behind target kinds es chain;
 }
 
--- a def has some typing, at kinds of its own, whether it is called or not
+-- A def has some typing, called or not: for some kinds of the uses in it, some types ts of its parameters and some type
+-- g of its result. `es` is what is bound before it, and `target` says what names mean.
 abbrev pub HasSome : Targets → List Entry → Tree ADef → Type 0
 HasSome target es d = (kinds : Places) × (ts : List Ground) × (g : Ground) × DefHas (sight target kinds es []) d ts g
 
--- The statements of a script have types, one after another, and each def has some typing. es is what was bound before
--- them, fs what is bound after them, the latest first; `target` says what names mean, and `kinds` the kinds of each
--- use.
+-- The statements of a script have types, one after another, and each def has some typing. `es` is what was bound before
+-- them, `fs` what is bound after them, the latest first. `target` says what names mean, and `kinds` which kinds, mono
+-- or stereo, their uses have.
 abbrev pub IsTypedTo : Targets → Places → List Entry → Script → List Entry → Type 0
 IsTypedTo target kinds es none fs = fs ≡ es
 IsTypedTo target kinds es (more (Stmt (BindPart (Bind at name f)) semicolon) rest) fs = (g : Ground)
@@ -84,7 +91,8 @@ IsTypedTo target kinds es (more (Stmt (CallPart c) semicolon) rest) fs = ((g : G
 IsTypedTo target kinds es (more (Stmt (IfPart i) semicolon) rest) fs = ((g : Ground)
     × Has (sight target kinds es []) i g) × IsTypedTo target kinds es rest fs
 
--- a script has a typing, where names have these meanings
+-- A script has some typing: there are kinds of its uses and types of what it binds that fit all its statements.
+-- `target` says what each name means.
 abbrev pub HasTyping : Targets → Script → Type 0
 HasTyping target script = (kinds : Places) × (es : List Entry) × IsTypedTo target kinds [] script es
 
@@ -99,8 +107,8 @@ abbrev pub statement_count : Script → ℕ
 statement_count none = 0
 statement_count (more s rest) = 1 + statement_count rest
 
--- types clash in statement n of a script and not before: the first n statements have no typing, the first n - 1 have
--- one
+-- types clash in statement n of a script, counted from 1, and not before: the first n - 1 statements have a typing, and
+-- the first n have none
 pub record IsClash (script : Script) (n : ℕ) : Type 0 where
   pub first : 0 < n
   pub last : n ≤ statement_count script

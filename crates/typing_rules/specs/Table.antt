@@ -15,19 +15,20 @@ use Rattle.typing_rules.specs.Arguments.{Parameter, GivenArgument, Matched}
 abbrev pub TypedParameter : Type 0
 TypedParameter = Parameter × Term
 
--- The parameters of a builtin, and the type of its call. The types are over variables of the row's own, from 0: so many
--- type variables, and so many kind variables, which are the open kinds.
+-- The type of a builtin: its parameters and the result of a call, as terms with variables that each call may set anew.
+-- `types` is how many type variables there are, and `kinds` how many kind variables, which stand for mono or stereo;
+-- both are numbered from 0.
 pub record Signature : Type 0 where
   pub params : List TypedParameter
   pub result : Term
   pub types : ℕ
   pub kinds : ℕ
 
--- a parameter without a label
+-- a parameter of this name and type that is given by its place, without a label
 abbrev pub plain_parameter : List ℕ → Term → TypedParameter
 plain_parameter name t = (record { name = name; form = InPlace }, t)
 
--- a parameter with a label and a default
+-- a parameter of this name and type that is given by label and may be left out, since it has a default
 abbrev pub labelled : List ℕ → Term → TypedParameter
 labelled name t = (record { name = name; form = Perhaps }, t)
 
@@ -47,11 +48,11 @@ int = base_term base.Int
 abbrev pub decimal : Term
 decimal = base_term base.Decimal
 
--- the type of what has no value
+-- the type of the value `()`, which calls have that are made for their effect, as `set`
 abbrev pub unit : Term
 unit = base_term base.Unit
 
--- a source of the open kind
+-- the type of a source whose kind, mono or stereo, is variable 0 of a builtin's type
 abbrev pub source_k : Term
 source_k = source_term (Var 0)
 
@@ -59,15 +60,16 @@ source_k = source_term (Var 0)
 abbrev pub id_param : TypedParameter
 id_param = labelled (codes "id") text
 
--- a source call with one open kind
+-- the type of a builtin that takes `id` and these parameters and makes a source; its one kind variable is that of the
+-- source, mono or stereo
 abbrev pub source_call : List TypedParameter → Signature
 source_call params = record { params = id_param ∷ params; result = source_k; types = 0; kinds = 1 }
 
--- a parameter that is a list of sources of the open kind
+-- the parameter that is a list of sources, all of the kind, mono or stereo, that the builtin's result has
 abbrev pub sources_param : TypedParameter
 sources_param = plain_parameter (codes "sources") (list_term source_k)
 
--- a parameter that is a source of the open kind
+-- the parameter that is a source, of the kind, mono or stereo, that is variable 0 of the builtin's type
 abbrev pub source_param : TypedParameter
 source_param = plain_parameter (codes "s") source_k
 
@@ -146,13 +148,14 @@ builtin_named name = named_in name builtin_names
 abbrev pub params_of_builtin : Builtin → List Parameter
 params_of_builtin b = map (λ p. p.0) (signature b).params
 
--- the kinds that f gives to the kind variables 0 to n - 1, in order
+-- the kinds, mono or stereo, that an assignment f gives to the kind variables 0 to n - 1, in order
 abbrev pub first_kinds : (ℕ → Kind) → ℕ → List Kind
 first_kinds f zero = []
 first_kinds f (suc n) = first_kinds f n ++ f n ∷ []
 
--- A call of the builtin with arguments of these types and with these open kinds may have the type g. Each call may read
--- the row's variables anew.
+-- A call of builtin b with arguments of the types gs may have the type g. Some assignment `at` of the variables makes
+-- the builtin's type fit. `ks` are the kinds, mono or stereo, that it gives to the kind variables, and each call has an
+-- assignment of its own.
 pub record IsCallOf (b : Builtin) (gs : List (GivenArgument Ground)) (ks : List Kind) (g : Ground) : Type 0 where
   pub types : List Ground
   pub matched : Matched (params_of_builtin b) gs types

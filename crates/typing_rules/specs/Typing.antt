@@ -13,7 +13,7 @@ use Rattle.typing_rules.specs.Arguments.{GivenArgument}
 pub use Rattle.typing_rules.specs.Arguments.{token_of}
 use Rattle.typing_rules.specs.Table.{IsCallOf}
 
--- types of bindings by their tokens
+-- the types of values in scope, each with the token of the name that is bound to it
 abbrev pub TypesByToken : Type 0
 TypesByToken = List (ℕ × Ground)
 
@@ -30,36 +30,41 @@ pub record Sight : Type 1 where
 abbrev pub truth : Ground
 truth = base_type base.Bool
 
--- the type of a number
+-- the type of a number in a script: int, or decimal if it has a point
 abbrev pub literal_type : Literal → Ground
 literal_type (literal.Int n) = base_type base.Int
 literal_type (literal.Number d) = base_type base.Decimal
 
--- the type that is bound at a token
+-- the type of the value whose name was bound at token t; None if there is none
 abbrev pub type_at : ℕ → TypesByToken → Option Ground
 type_at t [] = None
 type_at t (b ∷ bs) = cond (nat_eq b.0 t) (Some b.1) (type_at t bs)
 
--- a name outside a call that means this may have the type g
+-- A name that is used outside a call, and means this target, may have the type g. It must be bound to a value of that
+-- type; a def or a builtin has no type without a call.
 abbrev pub NameHas : Sight → Option Target → Ground → Type 0
 NameHas s (Some (target.Slot t)) g = type_at t s.types ≡ Some g
 NameHas s (Some (target.Def t)) g = ⊥
 NameHas s (Some (target.Builtin b)) g = ⊥
 NameHas s None g = ⊥
 
--- a call at a token, of what its name means, may with these arguments have the type g
+-- A call at token `at` may have the type g with the arguments gs. Its name means this target, which must be a def or a
+-- builtin. `s` is what is known there: the kinds of the call, and which calls of defs are well typed.
 abbrev pub Applied : Sight → ℕ → Option Target → List (GivenArgument Ground) → Ground → Type 0
 Applied s at (Some (target.Slot t)) gs g = ⊥
 Applied s at (Some (target.Def t)) gs g = (ks : List Kind) × (s.kinds at ≡ Some ks) × s.call at t gs g
 Applied s at (Some (target.Builtin b)) gs g = (ks : List Kind) × (s.kinds at ≡ Some ks) × IsCallOf b gs ks g
 Applied s at None gs g = ⊥
 
--- the demand P, made only where a chain of operators has operands behind the first
+-- The demand P is made only where a chain of operators, as `a + b + c`, has operands behind the first. A single operand
+-- may have any type.
 abbrev pub IfAny : {s : Sort} → Tree (Many s) → Type 0 → Type 0
 IfAny none P = ⊤
 IfAny (more x xs) P = P
 
--- a tree has a type; each of a list has one type; each has its own; arguments have types
+-- The tree of an expression may have the type g, by cases on what it is. `s` is what is known there of names.
+-- `EachHas`: each of a list has the one type g. `HaveAll`: each has its own type. `AreGiven`: arguments have the types
+-- gs, by their labels.
 abbrev mutual
   pub Has : {s : Sort} → Sight → Tree s → Ground → Type 0
   Has s (Negative at n) g = g ≡ literal_type n
@@ -106,23 +111,25 @@ abbrev mutual
   AreGiven s (more (Arg at label f) rest) gs = (t : Ground) × (us : List (GivenArgument Ground))
       × (gs ≡ (label, t) ∷ us) × Has s f t × AreGiven s rest us
 
--- what is known in the body of a def: the types of its parameters and inner bindings, us, come before those outside
+-- what is known in the body of a def: the types `us` of its parameters and inner bindings, which hide those outside,
+-- and then all that `s` knows outside
 abbrev pub within : TypesByToken → Sight → Sight
 within us s = record s { types = us ++ s.types }
 
--- the types of the parameters of a def, each with the token of the parameter name
+-- the types ts of the parameters of a def, each with the token of the parameter's name
 abbrev pub typed_params : Tree (Many AParam) → List Ground → TypesByToken
 typed_params none ts = []
 typed_params (more p ps) [] = []
 typed_params (more p ps) (t ∷ ts) = (token_of p, t) ∷ typed_params ps ts
 
--- a parameter's default, if it has one, has the type of the parameter
+-- if a parameter has a default, this has the type t of the parameter; `s` is what is known before the def
 abbrev pub DefaultHas : Sight → Tree AParam → Ground → Type 0
 DefaultHas s (Param at name) t = ⊤
 DefaultHas s (Labelled at name) t = ⊤
 DefaultHas s (Optional at name d) t = Has s d t
 
--- each default has the type of its parameter
+-- each default of a def's parameters has the type of its parameter, and there are as many types as parameters; `s` is
+-- what is known before the def
 abbrev pub DefaultsHave : Sight → Tree (Many AParam) → List Ground → Type 0
 DefaultsHave s none ts = ts ≡ []
 DefaultsHave s (more p ps) [] = ⊥
@@ -135,8 +142,9 @@ InnersHave s none us vs = vs ≡ us
 InnersHave s (more (Inner (Bind at name f) semicolon) is) us vs = (t : Ground) × Has (within us s) f t
     × InnersHave s is (us ++ (at, t) ∷ []) vs
 
--- a def called with arguments of the types ts gives the type g: its defaults fit the parameters and do not see its
--- bindings, its inner bindings have types, and its result has the type g
+-- A def called with arguments of the types ts may give a result of the type g. Its defaults see only what is before the
+-- def (`s`), and fit the parameters. The bindings in its body have types, and its result, which sees them, has the type
+-- g.
 abbrev pub DefHas : Sight → Tree ADef → List Ground → Ground → Type 0
 DefHas s (Def at name ps equals is e) ts g = DefaultsHave s ps ts
     × ((us : TypesByToken) × InnersHave s is (typed_params ps ts) us × Has (within us s) e g)

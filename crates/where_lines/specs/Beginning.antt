@@ -20,7 +20,7 @@ use Rattle.where_lines.specs.Statements.{IsInStatement}
 use Rattle.where_lines.specs.Texts.{IsTextAt}
 use Rattle.where_lines.specs.Tokens.{IsTokenAt}
 
--- byte `at` is where statement `number` begins of the script that a text spells
+-- the script `text` has a statement of this number, and it begins at byte `at`
 pub record IsStatementAt (text : List ℕ) (number at : ℕ) : Type 0 where
   pub tokens : List Token
   pub are_tokens : AreTokens text tokens
@@ -38,7 +38,8 @@ abbrev pub beginning_of : ℕ → List Token → Option ℕ → Option ℕ
 beginning_of total tokens (Some first) = Some (start total tokens first)
 beginning_of total tokens None = None
 
--- what a line of output names (a byte, a token, a statement, a source, ..) begins at byte `at` of the script `text`
+-- The place in the script `text` that a line of output names begins at byte `at`. The line names a byte, a token, a
+-- statement, a source, a clash of types, a string or an output; the last two stand in the line itself.
 abbrev pub Begins : List ℕ → List ℕ → Named → ℕ → Type 0
 Begins line text (Byte n) at = at ≡ n
 Begins line text (NamedToken k) at = IsTokenAt text k at

@@ -11,7 +11,7 @@ use Rattle.where_lines.specs.declared.calls.Bracket.TheVariants as bracket
 use Rattle.where_lines.specs.declared.calls.Role.{Role}
 use Rattle.where_lines.specs.declared.calls.Role.TheVariants.{OpensCall, Opens, Closes, Neither}
 
--- a text from one byte up to another
+-- the bytes of a text from byte `from` on, up to and without byte `to`
 abbrev pub part : List ℕ → ℕ → ℕ → List ℕ
 part text from to = take (to - from) (drop from text)
 
@@ -25,14 +25,14 @@ symbol_role CloseSquare = Closes
 symbol_role CloseCurly = Closes
 symbol_role s = Neither
 
--- what a token does to the brackets that are open: it opens a call, opens or closes another bracket, or neither
+-- what a token does to the brackets that stand open: it opens that of a call, opens another, closes one, or neither
 abbrev pub role_of : TokenKind → Role
 role_of (kind.NameOpen name) = OpensCall
 role_of (kind.Symbol s) = symbol_role s
 role_of k = Neither
 
--- What is known behind some tokens of a statement: the texts of the calls whose bracket is closed, each whole and none
--- within another, a line for each; and the brackets that are still open, the newest last.
+-- What is known once some tokens of a statement were read. `texts` are the calls whose bracket is closed, each whole,
+-- none within another, and a line for each. `brackets` are those that still stand open, the newest last.
 pub record Closed : Type 0 where
   pub texts : List ℕ
   pub brackets : List Bracket
@@ -41,45 +41,51 @@ pub record Closed : Type 0 where
 abbrev pub newest : List Bracket → Option Bracket
 newest brackets = slice_get brackets (length brackets - 1)
 
--- the texts of closed calls, once a bracket is closed at byte `end`: if it opened a call, the text of the call takes
--- the place of those of its arguments, which stand behind the first `others` bytes
+-- The texts of closed calls, a line for each, once a bracket is closed just before byte `end` of the script `text`. If
+-- it opened a call, the call's own text takes the place of those of its arguments. These stand behind the first
+-- `others` bytes of `texts`.
 abbrev pub with_closed : List ℕ → (end : ℕ) → List ℕ → Option Bracket → List ℕ
 with_closed text end texts (Some (bracket.Call start others)) = take others texts ++ part text start end ++ (10 ∷ [])
 with_closed text end texts (Some bracket.Other) = texts
 with_closed text end texts None = texts
 
--- the texts of the calls that are closed, after one token more
+-- The texts of the calls that are closed, after one token more, which has this role for brackets. `texts` and
+-- `brackets` are the closed calls and the open brackets before it, and `text` is the script.
 abbrev pub texts_behind : List ℕ → Token → Role → List ℕ → List Bracket → List ℕ
 texts_behind text token OpensCall texts brackets = texts
 texts_behind text token Opens texts brackets = texts
 texts_behind text token Closes texts brackets = with_closed text token.end texts (newest brackets)
 texts_behind text token Neither texts brackets = texts
 
--- what stands open, after one token more
+-- The brackets that stand open, the newest last, after one token more, which has this role. Of a call it is kept where
+-- the call begins, and how many bytes of `texts`, the calls closed so far, stand before those of its arguments.
 abbrev pub brackets_behind : Token → Role → List ℕ → List Bracket → List Bracket
 brackets_behind token OpensCall texts brackets = brackets ++ bracket.Call token.start (length texts) ∷ []
 brackets_behind token Opens texts brackets = brackets ++ bracket.Other ∷ []
 brackets_behind token Closes texts brackets = take (length brackets - 1) brackets
 brackets_behind token Neither texts brackets = brackets
 
--- reads one token more: the closed calls and the open brackets after it, from those before it
+-- what is known of a statement's calls after one token more: the closed calls and the open brackets, from those before
+-- it; `text` is the script
 abbrev pub behind : List ℕ → Closed → Token → Closed
 behind text s token = record {
   texts = texts_behind text token (role_of token.kind) s.texts s.brackets;
   brackets = brackets_behind token (role_of token.kind) s.texts s.brackets;
 }
 
--- the calls that are closed and what stands open, after these tokens more
+-- the closed calls and the open brackets of a statement after these tokens more, from those known before; `text` is the
+-- script
 unfoldable pub calls_from : List ℕ → Closed → List Token → Closed
 calls_from text s [] = s
 calls_from text s (token ∷ tokens) = calls_from text (behind text s token) tokens
 
--- the calls that are closed among some tokens, and what stands open after them
+-- the calls that are closed among some tokens of the script `text`, and the brackets that still stand open behind them
 abbrev pub calls_of : List ℕ → List Token → Closed
 calls_of text tokens = calls_from text (record { texts = []; brackets = [] }) tokens
 
--- Types clash with a call of these tokens, which begins at byte `at`. With `front` and the calls that are closed before
--- it they do not clash; they do once the call takes the place of those of them that are its arguments.
+-- The call that begins at byte `at` is the one with which the types of a statement clash. `front` is the script before
+-- the statement. With it and the calls closed before this one nothing clashes; it does once this call takes the place
+-- of its arguments.
 pub record IsCaller (text front : List ℕ) (tokens : List Token) (at : ℕ) : Type 0 where
   -- the call's last token
   pub number : ℕ

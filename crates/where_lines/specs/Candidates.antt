@@ -7,13 +7,13 @@ use Rattle.where_lines.specs.declared.calls.Found.{Found}
 use Rattle.where_lines.specs.Calls.{calls_of, newest, part}
 use Rattle.where_lines.specs.Clashes.{Clashes}
 
--- `texts` are the texts of the calls that are closed among some tokens of `text`, and `brackets` those still open
--- behind them
+-- Among these tokens of a statement of the script `text`, `texts` are the calls whose bracket is closed, a line for
+-- each, and `brackets` are those that still stand open.
 abbrev pub AreCalls : List ℕ → List Token → List ℕ → List Bracket → Type 0
 AreCalls text tokens texts brackets = calls_of text tokens ≡ record { texts = texts; brackets = brackets }
 
--- what was found is a call that one of these tokens closes, with its first and last byte and the texts of the calls
--- closed before it
+-- What the search found is a call that one of these tokens of a statement closes: where it begins and ends, and the
+-- texts of the calls closed before it. Of these texts, those behind the first `others` bytes are its arguments.
 pub record IsCandidate (text : List ℕ) (tokens : List Token) (found : Found) : Type 0 where
   pub number : ℕ
   pub last : Token
@@ -22,8 +22,9 @@ pub record IsCandidate (text : List ℕ) (tokens : List Token) (found : Found) :
   pub texts_are : found.texts.items ≡ (calls_of text (take number tokens)).texts
   pub ends : found.end ≡ last.end
 
--- the types of the script up to here (`front`) clash with the call that was found, and do not clash with only the
--- calls before it; the call begins at byte `at`
+-- The call that was found begins at byte `at`, and with it the types clash. `front` is the script before its statement.
+-- With `front` and the calls closed before this one nothing clashes; it does once this call takes the place of its
+-- arguments.
 pub record IsCalled (text front : List ℕ) (found : Found) (at : ℕ) : Type 0 where
   pub begins : at ≡ found.start
   pub before : Clashes (front ++ found.texts.items) false

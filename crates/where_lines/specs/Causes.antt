@@ -8,12 +8,12 @@ use Rattle.plan_blames.specs.Needs.{IsCause}
 use Rattle.script_plan.specs.Plans.{IsPlan}
 use Rattle.where_lines.specs.Sources.{IsSourceAt}
 
--- the node of the plan that a sink plays, if the sink is the output of this name; a feed of a buffer is no output
+-- the node that a sink plays, if the sink is the output of this name; a feed of a buffer is no output
 abbrev pub node_named : List ℕ → SinkPlan → Option ℕ
 node_named name (Output other node fallible wide) = if bytes_eq other name then Some node else None
 node_named name (Feed buffer node) = None
 
--- the node of the first output found, or else the one found later
+-- the node of the first output with a name, if this sink is it, and else the one found among the later sinks
 abbrev pub or_next : Option ℕ → Option ℕ → Option ℕ
 or_next (Some node) next = Some node
 or_next None next = next
@@ -23,13 +23,15 @@ abbrev pub output_named : List ℕ → List SinkPlan → Option ℕ
 output_named name [] = None
 output_named name (sink ∷ sinks) = or_next (node_named name sink) (output_named name sinks)
 
--- byte `at` is the place of the source that is to be mended so that source `output` never falls silent
+-- A silence of node `output` of the plan is to be mended at one source, so that the node never falls silent. The call
+-- in the script `text` that makes this source begins at byte `at`.
 pub record IsCauseOf (text : List ℕ) (plan : Plan) (output at : ℕ) : Type 0 where
   pub source : ℕ
   pub cause : IsCause plan.nodes output source
   pub place : IsSourceAt text source at
 
--- the place of the source that is to be mended so that the output of this name never falls silent
+-- A silence of the output of this name is to be mended at one source, so that the output never falls silent. The call
+-- in the script `text` that makes this source begins at byte `at`.
 pub record IsCauseAt (text name : List ℕ) (at : ℕ) : Type 0 where
   pub plan : Plan
   pub is_plan : IsPlan text plan

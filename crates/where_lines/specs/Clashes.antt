@@ -7,7 +7,7 @@ use Rattle.script_plan.specs.declared.fault.ScriptFault.{ScriptFault}
 use Rattle.script_plan.specs.declared.fault.ScriptFault.TheVariants as fault
 use Rattle.script_plan.specs.Plans.{IsPlan, IsPlanFault}
 
--- the plan of a text or its fault, of which there is one
+-- the plan of a script or, if it has none, its fault
 abbrev pub IsAnswer : List ℕ → Result Plan ScriptFault → Type 0
 IsAnswer text (Ok plan) = IsPlan text plan
 IsAnswer text (Err f) = IsPlanFault text f
@@ -27,7 +27,7 @@ abbrev pub is_clash : Result Plan ScriptFault → Bool
 is_clash (Ok plan) = false
 is_clash (Err f) = is_clash_fault f
 
--- `told` says whether the types of a text clash
+-- `told` says whether the types of a script clash, so that it has no plan for this reason
 pub record Clashes (text : List ℕ) (told : Bool) : Type 0 where
   pub answer : Result Plan ScriptFault
   pub is_answer : IsAnswer text answer

@@ -13,11 +13,11 @@ use Rattle.script_plan.specs.Plans.{IsPlan, Spells}
 use Rattle.where_lines.specs.Causes.{output_named}
 use Rattle.where_lines.specs.Texts.{text_among}
 
--- a text has no tokens
+-- a script has no list of tokens, since it is too long or has a fault of the lexer
 abbrev pub HasNoTokens : List ℕ → Type 0
 HasNoTokens text = (tokens : List Token) → AreTokens text tokens → ⊥
 
--- the tokens of a text spell no script that has a statement of this number
+-- the text spells no script that has a statement of this number
 abbrev pub HasNoStatement : List ℕ → (number : ℕ) → Type 0
 HasNoStatement text number = (script : Script) → Spells text script → first_token script number ≡ None
 
@@ -26,7 +26,7 @@ abbrev pub HasNoStatementAmong : List Token → (number : ℕ) → Type 0
 HasNoStatementAmong tokens number = (script : Script) → spelling script ≡ kinds tokens → IsPlaced 0 script
     → IsShallow (kinds tokens) → first_token script number ≡ None
 
--- no token of a script is this string
+-- the script `text` has tokens, if it has any, among which no quoted text has the bytes `name`
 abbrev pub HasNoText : List ℕ → (name : List ℕ) → Type 0
 HasNoText text name = (tokens : List Token) → AreTokens text tokens → text_among name tokens ≡ None
 

@@ -4,7 +4,7 @@ use Rattle.plan_core.specs.declared.plan.Plan.{Plan}
 use Rattle.script_plan.specs.Sources.{HasSources}
 use Rattle.where_lines.specs.Tokens.{IsTokenAt}
 
--- byte `at` is where the call begins that makes source k of a text's plan
+-- the plan of the script `text` has a source k, and the call in the script that makes it begins at byte `at`
 pub record IsSourceAt (text : List ℕ) (k at : ℕ) : Type 0 where
   pub plan : Plan
   pub calls : List ℕ

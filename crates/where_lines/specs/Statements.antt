@@ -14,17 +14,17 @@ use Rattle.script_parse.specs.Answer.{IsShallow}
 use Rattle.script_places.specs.Starts.{start, first_token}
 use Rattle.where_lines.specs.Calls.{IsCaller}
 
--- the byte at which a token begins, by its number, if one is given; otherwise the end of the text, whose length is
--- `total`
+-- the byte at which the token of this number begins, if a number is given, and otherwise the end of the script, whose
+-- length is `total`
 abbrev pub begins_at : ℕ → List Token → Option ℕ → ℕ
 begins_at total tokens (Some first) = start total tokens first
 begins_at total tokens None = total
 
--- the byte at which a statement begins; for a number behind the last statement, the end of the text
+-- the byte at which statement `number` of a script begins; if there is no such statement, the end of the text
 abbrev pub beginning : List ℕ → List Token → Script → ℕ → ℕ
 beginning text tokens script number = begins_at (length text) tokens (first_token script number)
 
--- the text before a statement
+-- the bytes of a script before statement `number`; if there is no such statement, all of them
 abbrev pub before : List ℕ → List Token → Script → ℕ → List ℕ
 before text tokens script number = take (beginning text tokens script number) text
 
@@ -33,11 +33,11 @@ abbrev pub or_all : List Token → Option ℕ → ℕ
 or_all tokens (Some first) = first
 or_all tokens None = length tokens
 
--- the number of the first token of a statement; for a number behind the last statement, how many tokens there are
+-- the number of the first token of statement `number`; if there is no such statement, how many tokens there are
 abbrev pub first_of : List Token → Script → ℕ → ℕ
 first_of tokens script number = or_all tokens (first_token script number)
 
--- the tokens of a statement: from its first one up to the first one of the next
+-- the tokens of statement `number` of a script, from its first one up to the first one of the next
 abbrev pub tokens_of : List Token → Script → ℕ → List Token
 tokens_of tokens script number = drop (first_of tokens script number)
     (take (first_of tokens script (number + 1)) tokens)
@@ -52,23 +52,24 @@ abbrev pub is_def : TokenKind → Bool
 is_def (kind.Keyword word) = is_def_word word
 is_def k = false
 
--- whether a statement is a def
+-- whether the tokens of a statement begin with the word `def`, so that the statement is a def
 abbrev pub begins_def : List Token → Bool
 begins_def [] = false
 begins_def (token ∷ tokens) = is_def token.kind
 
--- what of a statement's tokens may hold calls: of a def, what stands behind its name, which opens no call
+-- Those of a statement's tokens that may hold calls. Of a def these stand behind `def` and its name, whose bracket
+-- opens no call.
 abbrev pub calling : List Token → List Token
 calling tokens = if begins_def tokens then drop 2 tokens else tokens
 
--- byte `at` may be shown for a statement whose types clash: where the statement begins, or where that call of it
--- begins with which the clash arises, behind the statements before it
+-- Byte `at` may be shown for statement `number` of the script, whose types clash. It is where the statement begins, or
+-- where the call in it begins with which the clash arises.
 abbrev pub IsShown : List ℕ → List Token → Script → ℕ → ℕ → Type 0
 IsShown text tokens script number at = (at ≡ beginning text tokens script number)
     ⊎ IsCaller text (before text tokens script number) (calling (tokens_of tokens script number)) at
 
--- byte `at` may be shown for statement `number` of the script that a text spells: its beginning, or that of the call
--- with which its types clash
+-- The script `text` has a statement of this number, and byte `at` may be shown for a clash of its types. It is where
+-- the statement begins, or where the call in it begins with which the clash arises.
 pub record IsInStatement (text : List ℕ) (number at : ℕ) : Type 0 where
   pub tokens : List Token
   pub are_tokens : AreTokens text tokens

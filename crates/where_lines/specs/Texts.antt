@@ -6,17 +6,17 @@ use Rattle.script_lex.specs.declared.token.Token.{Token}
 use Rattle.script_lex.specs.declared.token.TokenKind.{TokenKind}
 use Rattle.script_lex.specs.declared.token.TokenKind.TheVariants as kind
 
--- whether a token is this string
+-- whether a token is a quoted text that stands for the bytes `name`
 abbrev pub is_text : List ℕ → TokenKind → Bool
 is_text name (kind.Str text) = bytes_eq text name
 is_text name k = false
 
--- the byte at which the first token begins that is a quoted text of these characters
+-- the byte at which the first of these tokens begins that is a quoted text with the bytes `name`; None if there is none
 abbrev pub text_among : List ℕ → List Token → Option ℕ
 text_among name [] = None
 text_among name (token ∷ tokens) = if is_text name token.kind then Some token.start else text_among name tokens
 
--- the first token of a script that is this string begins at this byte
+-- in the script `text` the first quoted text with the bytes `name` begins at byte `at`
 pub record IsTextAt (text name : List ℕ) (at : ℕ) : Type 0 where
   pub tokens : List Token
   pub are_tokens : AreTokens text tokens
