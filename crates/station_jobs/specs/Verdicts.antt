@@ -54,8 +54,8 @@ abbrev pub has_name : (name : List ℕ) → SinkPlan → Bool
 has_name name (Output own node fallible wide) = bytes_eq own name
 has_name name (Feed buffer node) = false
 
--- Whether the cue file of this sink would overwrite an output: gives its name where an output among `all` sinks has the
--- same.
+-- The name of the cue file of this sink, where one of `all` sinks is an output to a file of that name: the cue file
+-- would overwrite it. Else `None`.
 abbrev pub cue_clash_at : (all : List SinkPlan) → SinkPlan → Option (List ℕ)
 cue_clash_at all (Output name node fallible wide) = if list_any (has_name (cue_name name)) all then Some (cue_name name)
     else None
@@ -94,8 +94,9 @@ pub record HasClash (files : Files) (rendering : Rendering) (name : List ℕ) : 
   pub has_plan : HasPlan files rendering.file plan
   pub clash : clash_of plan rendering.trace rendering.cues ≡ Some name
 
--- A rendering is refused for a fault of its plan, such as missing audio or clashing clocks: the script has a plan,
--- which writes no name twice and has this fault for so many ticks.
+-- A rendering is refused for a fault of its plan, such as missing audio or clashing clocks. The script has a plan, no
+-- two of its files would have one name, and the plan cannot be rendered for the ticks that are asked for, by this
+-- fault.
 pub record HasUnfitPlan (files : Files) (rendering : Rendering) (fault : StationFault) : Type 0 where
   pub plan : Plan
   pub has_plan : HasPlan files rendering.file plan
@@ -111,16 +112,16 @@ IsScriptFault files rendering (SameFile name) = HasClash files rendering name
 IsScriptFault files rendering (Fault.Station fault) = HasUnfitPlan files rendering fault
 IsScriptFault files rendering (Fault.Replay fault) = ⊥
 
--- The script of a rendering is accepted: it has this plan, no two of its files would have one name, and these are its
--- audio files and clocks.
+-- The script of a rendering is accepted: it has this plan, its outputs, cue files and trace have different names, and
+-- its audio files (`library`) and clocks are these.
 pub record IsPrepared (files : Files) (rendering : Rendering) (plan : Plan) (library : Sounds) (clocks : ClockMap) : Type
     0 where
   pub has_plan : HasPlan files rendering.file plan
   pub apart : clash_of plan rendering.trace rendering.cues ≡ None
   pub renderable : IsRenderable files plan rendering.ticks library clocks
 
--- A replay is refused: its script is accepted, but it cannot be rendered again by the trace in the file of this name,
--- for this fault.
+-- A replay is refused: its script is accepted, but the trace in the file named `trace` is missing or does not fit it,
+-- which `fault` says.
 pub record HasUntold (files : Files) (rendering : Rendering) (trace : List ℕ) (fault : Fault) : Type 0 where
   pub plan : Plan
   pub library : Sounds
@@ -145,8 +146,8 @@ abbrev pub way_in : (window : Option ℕ) → Way
 way_in None = InRounds
 way_in (Some window) = InWindows window
 
--- How an accepted script makes its ticks, by what is asked: a check (of no tick) in rounds on one thread, a rendering
--- as its options say, a workload by threads in windows of 16 ticks, a replay as its trace tells.
+-- How the ticks of an accepted script are made, by what is asked: of a check in rounds (it has no tick), of a rendering
+-- as its options say, of a workload by threads in windows of 16 ticks, of a replay as its trace tells.
 abbrev pub IsWayFor : Asked → Files → Plan → Sounds → ClockMap → Way → Type 0
 IsWayFor (Check file) files plan library clocks way = way ≡ InRounds
 IsWayFor (Render rendering window) files plan library clocks way = way ≡ way_in window
@@ -168,8 +169,8 @@ station_for rendering plan library clocks way = record {
   cues = rendering.cues;
 }
 
--- The script of a call is accepted, and this is its station: its plan with its audio files and clocks, how its ticks
--- are made, and the start, ticks, trace and cue files that are asked for.
+-- The script of a call is accepted, and `station` has all that its run rests on: the plan with its audio files and
+-- clocks, how its ticks are made, and the start, ticks, trace and cue files that are asked for.
 pub record IsStation (asked : Asked) (files : Files) (station : Station) : Type 0 where
   pub prepared : IsPrepared files (rendering_of asked) station.plan station.library station.clocks
   pub is_way : IsWayFor asked files station.plan station.library station.clocks station.way

@@ -11,23 +11,24 @@ use Rattle.trace_turns.specs.Thin.{AreKept}
 use Rattle.trace_records.specs.Traces.{text_of}
 use Rattle.trace_turns.specs.Turns.{AreSides, AreTold, chunks_of}
 
--- What a replay keeps of an accepted trace: the buffers with their answers, for each buffer the main clocks that feed
--- and that read it, and the turns, in each of which one clock makes some ticks.
+-- What a replay keeps of an accepted trace: the buffers with their answers, for each buffer the main clock that feeds
+-- it and the one that reads it, and the turns. In each turn one clock makes some ticks alone.
 pub record HeldTurns : Type 0 where
   pub buffers : List BufferState
   pub feeders : List ℕ
   pub readers : List ℕ
   pub turns : List TurnMade
 
--- A code of a turn (a clock, and the ticks that it comes to) as a number. A type with a code can be what contracts see.
+-- How a turn (a clock, and the tick to which it comes) is told as a pair of numbers and back. Contracts can see data of
+-- a type only if it has such a code.
 abbrev pub turn_coded : Coded TurnMade
 turn_coded = code_by (ℕ × ℕ) (coded× coded_ℕ coded_ℕ) (λ turn. (turn.clock, turn.ticks)) (λ p. record {
   clock = p.0;
   ticks = p.1;
 }) (λ _. refl)
 
--- A code of all that a replay keeps of a trace as a number, by way of nested pairs. A type with a code can be what
--- contracts see.
+-- How all that a replay keeps of a trace is told as nested pairs and back. Contracts can see data of a type only if it
+-- has such a code.
 abbrev pub held_coded : Coded HeldTurns
 held_coded = code_by (List BufferState
     × (List ℕ × (List ℕ × List TurnMade)))
