@@ -17,9 +17,9 @@ use Rattle.stations.specs.Reports.{report_of, check_report_of}
 use Rattle.station_jobs.specs.Summary.{SumsAsOneThread, summary_of}
 use Rattle.station_jobs.specs.Verdicts.{Verdict, Usage, Checked, Accepted, Made}
 
--- The ticks of a run have one order in which each chunk is accepted by a buffer in an earlier tick than the one that
--- gets it. It is said where the main clocks can be listed so that each buffer that joins two of them leads to a later
--- one.
+-- The ticks of a run can be put in one order, in which each chunk is put in an earlier tick than the one that gets it.
+-- It is promised if the main clocks can be listed so that each buffer that joins two of them is fed by the earlier one
+-- and read by the later one.
 abbrev pub IsOrderedOnward : Station → Run → Type 0
 IsOrderedOnward station run = (window : ℕ)
     (lawful : AreWindows (bare station) station.clocks.running window station.ticks run) (listing : List ℕ)
@@ -45,16 +45,17 @@ pub record Wrote (station : Station) (files : Files) (old new : ShelfTold) (repo
   pub ordered : IsOrderedOnward station run
   pub as_one_thread : HasNoJoin (bare station) station.clocks.running → RendersAsOneThread station run
 
--- What `check` did: the shelf of files was only read, and the report tells the clock of each output, and by `mark`
--- whether its node is infallible.
+-- What `check` did: the shelf was only read, from `old` to `new`, and the report tells the clock of each output and
+-- whether its node is infallible. `mark` says this of each node, and is no mark of a track.
 pub record Told (station : Station) (old new : ShelfTold) (report : List ℕ) : Type 0 where
   pub kept : OnlyRead old new
   pub mark : ℕ → Bool
   pub marking : IsMarking station.plan.nodes mark
   pub report_is : report ≡ check_report_of station mark
 
--- What `make` did: the shelf was only read, and the report is the summary of a run over the files of a workload. Rounds
--- on one thread have the same summary, so it rests on the station and its files alone.
+-- What `make` did: the shelf was only read, from `old` to `new`, and the report is the summary of a run over the files
+-- of a workload (`made`). Rounds on one thread have the same summary, so it follows from the station and its files
+-- alone.
 pub record Summed (made : Files) (station : Station) (old new : ShelfTold) (report : List ℕ) : Type 0 where
   pub kept : OnlyRead old new
   pub run : Run
@@ -64,7 +65,7 @@ pub record Summed (made : Files) (station : Station) (old new : ShelfTold) (repo
   pub as_one_thread : SumsAsOneThread made station report
 
 -- What was done for a verdict that is no refusal, with its report: a station was rendered to files, or checked, or the
--- rendering of a made workload was summed up.
+-- rendering of a made workload was summed up. `old` and `new` are what the shelf tells before and after.
 abbrev pub IsDone : Verdict → Files → (old new : ShelfTold) → (report : List ℕ) → Type 0
 IsDone verdict files old new report =
     ((station : Station) × (verdict ≡ Accepted station) × Wrote station files old new report)
@@ -82,13 +83,13 @@ pub record BrokeOff (station : Station) (device : Bool) (files : Files) (old new
       × (HasNoJoin (bare station) station.clocks.running → RendersAsOneThread station stopped.run))
   pub front : (run : Run) → CreatedFront (names_of station run) old new
 
--- The words ask for a rendering of an accepted station, and it broke off: by a failed `device`, or else for want of
--- memory. `old` and `new` tell the shelf of files before and after.
+-- The verdict is to render a station, and the rendering broke off: by a failed `device`, or else for want of memory.
+-- `old` and `new` are what the shelf tells before and after.
 abbrev pub IsBroken : Verdict → (device : Bool) → Files → (old new : ShelfTold) → Type 0
 IsBroken verdict device files old new = (station : Station) × (verdict ≡ Accepted station)
     × BrokeOff station device files old new
 
--- Memory was refused to a job, which is possible for any words with a form: the shelf of files was only read, or a
--- rendering broke off.
+-- Memory was refused to a job, which is possible for any words with a form: the shelf was only read, or a rendering
+-- broke off. `old` and `new` are what the shelf tells before and after.
 abbrev pub IsStarved : Verdict → Files → (old new : ShelfTold) → Type 0
 IsStarved verdict files old new = (verdict ≡ Usage → ⊥) × (OnlyRead old new ⊎ IsBroken verdict false files old new)

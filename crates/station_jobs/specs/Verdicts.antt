@@ -95,8 +95,8 @@ pub record HasClash (files : Files) (rendering : Rendering) (name : List ℕ) : 
   pub clash : clash_of plan rendering.trace rendering.cues ≡ Some name
 
 -- A rendering is refused for a fault of its plan, such as missing audio or clashing clocks. The script has a plan, no
--- two of its files would have one name, and the plan cannot be rendered for the ticks that are asked for, by this
--- fault.
+-- two of its files would have one name, and `fault` is why the plan cannot be rendered for the ticks that are asked
+-- for.
 pub record HasUnfitPlan (files : Files) (rendering : Rendering) (fault : StationFault) : Type 0 where
   pub plan : Plan
   pub has_plan : HasPlan files rendering.file plan
@@ -146,8 +146,9 @@ abbrev pub way_in : (window : Option ℕ) → Way
 way_in None = InRounds
 way_in (Some window) = InWindows window
 
--- How the ticks of an accepted script are made, by what is asked: of a check in rounds (it has no tick), of a rendering
--- as its options say, of a workload by threads in windows of 16 ticks, of a replay as its trace tells.
+-- How the ticks of an accepted script are made, by what is asked. A check, which has no tick, is in rounds on one
+-- thread. A rendering is made as its options say, a workload by threads in windows of 16 ticks, and a replay as its
+-- trace tells.
 abbrev pub IsWayFor : Asked → Files → Plan → Sounds → ClockMap → Way → Type 0
 IsWayFor (Check file) files plan library clocks way = way ≡ InRounds
 IsWayFor (Render rendering window) files plan library clocks way = way ≡ way_in window

@@ -19,16 +19,16 @@ pub record HeldTurns : Type 0 where
   pub readers : List ℕ
   pub turns : List TurnMade
 
--- How a turn (a clock, and the tick to which it comes) is told as a pair of numbers and back. Contracts can see data of
--- a type only if it has such a code.
+-- How a turn (a clock, and the tick to which it comes) is told as a pair of numbers and back. A type with such a code
+-- can be what contracts see.
 abbrev pub turn_coded : Coded TurnMade
 turn_coded = code_by (ℕ × ℕ) (coded× coded_ℕ coded_ℕ) (λ turn. (turn.clock, turn.ticks)) (λ p. record {
   clock = p.0;
   ticks = p.1;
 }) (λ _. refl)
 
--- How all that a replay keeps of a trace is told as nested pairs and back. Contracts can see data of a type only if it
--- has such a code.
+-- How all that a replay keeps of a trace is told as nested pairs and back. A type with such a code can be what
+-- contracts see.
 abbrev pub held_coded : Coded HeldTurns
 held_coded = code_by (List BufferState
     × (List ℕ × (List ℕ × List TurnMade)))

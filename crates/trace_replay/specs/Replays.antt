@@ -36,8 +36,8 @@ pub record HasReplayedAll {S : Type 0} (told : S → SinkTold) (base : Setting) 
 
 -- A replay of N ticks ended early, for the reason `end`: clock m made `made m` ticks, and one clock at most tried one
 -- more. Each output has the bytes of the ticks made, and then a prefix of those of the tick tried. `setting` is the
--- plan with its files and the chunks of the run. The engines went from `first` to `now`, and `told` gives what a sink
--- tells of itself.
+-- plan with its files, start and what its buffers answer. The engines went from `first` to `now`, and `told` gives what
+-- a sink tells of itself.
 pub record HasReplayedTo {S : Type 0} (told : S
     → SinkTold) (setting : Setting) (N : ℕ) (first now : List (ClockEngine S)) (end : End) : Type 0 where
   pub made : ℕ → ℕ
