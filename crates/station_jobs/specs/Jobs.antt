@@ -30,9 +30,10 @@ IsOrderedOnward station run = (window : ℕ)
 abbrev pub names_of : Station → Run → List (List ℕ)
 names_of station run = map (λ file. file.name) (files_of station run)
 
--- A run wrote all outputs, then the wanted cue files and trace. The shelf made and closed just these files, in this
--- order, each with room for its bytes, and this is the report. On one thread and in a replay there is no other run.
--- Where no buffer joins two clocks, one thread writes the same outputs and cue files and tells the same.
+-- A run wrote all outputs, then the wanted cue files and trace, to the shelf, which tells `old` before and `new` after
+-- it and had these files. It made and closed just those, in this order, each with room for its bytes, and printed the
+-- report. On one thread and in a replay there is no other run. Where no buffer joins two clocks, one thread writes the
+-- same outputs and cue files and tells the same.
 pub record Wrote (station : Station) (files : Files) (old new : ShelfTold) (report : List ℕ) : Type 0 where
   pub run : Run
   pub lawful : IsLawful station run
@@ -72,10 +73,10 @@ IsDone verdict files old new report =
     ⊎ ((station : Station) × (verdict ≡ Checked station) × Told station old new report)
     ⊎ ((made : Files) × (station : Station) × (verdict ≡ Made made station) × Summed made station old new report)
 
--- A rendering broke off. If it did so before its ticks or in them, its run begins that of one thread: on one thread,
--- and where no buffer joins two clocks. If it did so after them, there is no other run on one thread, and where no
--- buffer joins two clocks, it renders what one thread does. Its first files were made and closed, in their order, and
--- no other. `device` says that a device failed, and not memory.
+-- A rendering broke off: `device` says whether by a failed device or for want of memory. On one thread, and where no
+-- buffer joins two clocks, its run begins as that of one thread does; and if it made all ticks, it renders what that
+-- does. The first of its files were made and closed, in their order, and no other. The shelf had `files` before, and
+-- tells `old` before and `new` after it.
 pub record BrokeOff (station : Station) (device : Bool) (files : Files) (old new : ShelfTold) : Type 0 where
   pub left : ((stopped : StoppedInTicks station device files old new)
       × (IsDetermined station → BeginsAsOneThread station stopped.run))
