@@ -57,8 +57,8 @@ single kinds given m = do
   k ← one_kind kinds
   add (node (op.Single file.0) k []) m
 
--- Checks the `mode` of a playlist, of which "normal" is the only one: nothing is given, and any other is the fault of a
--- bad value at token `at`, the name of the call.
+-- Checks the `mode` of a playlist: it must be "normal", and any other is the fault of a bad value at token `at`, the
+-- name of the call.
 abbrev pub is_normal : ℕ → List ℕ → Result (Unit {0}) Stop
 is_normal at mode =
     elim (bytes_eq mode (codes "normal")) [

@@ -15,7 +15,7 @@ abbrev pub ◌>>=◌ : {A B : Type 0} → Result A Stop → (A → Result B Stop
 abbrev pub Outcome : Type 0
 Outcome = Result (Value × Machine) Stop
 
--- What a call at token `at` comes to, begun in the state m: as `made` says, but the sources that were made since are
--- noted as made by this call.
+-- What a call at token `at`, begun in state m, comes to, where `made` is what its body comes to. The sources that were
+-- made since are noted as made by this call, so that faults can show where.
 abbrev pub ascribed : ℕ → Machine → Outcome → Outcome
 ascribed at m made = made >>= λ x. Ok (x.0, noted_by at (length m.plan.nodes) x.1)

@@ -20,7 +20,7 @@ abbrev pub instance_params : Instance → List Term
 instance_params i = map term_of i.params.items
 
 -- A general type g was instantiated with new variables, by which the substitution s became s'. The call has these
--- parameters, result and open kinds (kinds that a def leaves to its callers). In each solution of s' they are an
+-- parameters, result and open kinds (kind variables that the text of a def names). In each solution of s' they are an
 -- instance of g (sound), and each instance of g is that of a solution of s' (complete).
 pub record Instantiates (s s' : Table) (g : Scheme) (params : List Term) (result : Term) (kinds : List KindTerm) : Type
     0 where

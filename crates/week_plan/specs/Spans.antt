@@ -12,8 +12,8 @@ is_in at span = nat_le span.from at && nat_lt at span.to
 abbrev pub is_in_some : List Span → (at : ℕ) → Bool
 is_in_some spans at = list_any (is_in at) spans
 
--- These spans are in order and apart: the first begins at `low` or later, none is empty, and a second lies between each
--- and the next.
+-- These spans are in order and do not touch: the first begins at `low` or later, none is empty, and a second at least
+-- lies between each and the next.
 abbrev pub AreApart : (low : ℕ) → List Span → Type 0
 AreApart low [] = ⊤
 AreApart low (span ∷ spans) = (low ≤ span.from) × (span.from < span.to) × AreApart (suc span.to) spans
@@ -33,7 +33,7 @@ some_case_holds preds at = list_any (λ pred. holds pred at) preds
 abbrev pub AreHoles : List Predicate → List Span → Type 0
 AreHoles preds spans = AreSpansOf (λ at. not (some_case_holds preds at)) spans
 
--- The test of seconds of the week has this answer for each second from `from` up to `to`, without `to`.
+-- The test of seconds of the week has the same `answer` for each second from `from` on and before `to`.
 abbrev pub IsFor : (ℕ → Bool) → (from to : ℕ) → Bool → Type 0
 IsFor test from to answer = (at : ℕ) → from ≤ at → at < to → test at ≡ answer
 
