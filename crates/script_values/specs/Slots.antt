@@ -14,6 +14,6 @@ abbrev pub value_at_token : ℕ → List SlotValue → Option Value
 value_at_token at [] = None
 value_at_token at (s ∷ ss) = cond (nat_eq s.0 at) (Some s.1) (value_at_token at ss)
 
--- an argument of a call: its label, if it has one, and its value
+-- An argument of a call: its label, if it has one, and its value.
 abbrev pub Argument : Type 0
 Argument = arguments.GivenArgument Value

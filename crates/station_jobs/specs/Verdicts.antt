@@ -49,7 +49,7 @@ pub record HasPlanFault (files : Files) (file : List ℕ) (fault : ScriptFault) 
   pub there : file_at files file ≡ Some script
   pub is_fault : IsPlanFault script fault
 
--- Whether a sink of the plan is an output to the file of this name. A feed of a buffer writes no file.
+-- Whether a sink of the plan is an output to the file of this name. A feed, which puts into a buffer, writes no file.
 abbrev pub has_name : (name : List ℕ) → SinkPlan → Bool
 has_name name (Output own node fallible wide) = bytes_eq own name
 has_name name (Feed buffer node) = false
@@ -71,8 +71,8 @@ abbrev pub cue_clash : Plan → (cues : Bool) → Option (List ℕ)
 cue_clash plan false = None
 cue_clash plan true = first_cue_clash plan.sinks plan.sinks
 
--- Whether this sink makes a file of this name: it is an output to it, or, where cue files are wanted, its cue file has
--- this name.
+-- Whether this sink of the plan makes a file of this name: an output to it does, and, where cue files are wanted
+-- (`cues`), an output whose cue file has this name.
 abbrev pub writes_to : (name : List ℕ) (cues : Bool) → SinkPlan → Bool
 writes_to name cues (Output own node fallible wide) = bytes_eq own name || (cues && bytes_eq name (cue_name own))
 writes_to name cues (Feed buffer node) = false
@@ -87,8 +87,8 @@ trace_clash plan (Some name) cues = if list_any (writes_to name cues) plan.sinks
 abbrev pub clash_of : Plan → (trace : Option (List ℕ)) (cues : Bool) → Option (List ℕ)
 clash_of plan trace cues = option_or (cue_clash plan cues) (trace_clash plan trace cues)
 
--- A rendering is refused, as it would write two files of this name: its script has a plan, and this is the first such
--- name.
+-- A rendering is refused because it would write two files of one name. The script in its file has a plan, and `name` is
+-- the first such name.
 pub record HasClash (files : Files) (rendering : Rendering) (name : List ℕ) : Type 0 where
   pub plan : Plan
   pub has_plan : HasPlan files rendering.file plan
@@ -103,8 +103,8 @@ pub record HasUnfitPlan (files : Files) (rendering : Rendering) (fault : Station
   pub apart : clash_of plan rendering.trace rendering.cues ≡ None
   pub is_fault : IsStationFault files plan rendering.ticks fault
 
--- The first fault of the script of a rendering: the file is not there, it has no plan, it would write a name twice, or
--- the plan does not fit its files and clocks. Faults of a trace are not among these.
+-- This is the first fault of the script of a rendering: its file is not there, it has no plan, it would write a name
+-- twice, or its plan does not fit its files and clocks. Faults of a trace are not among these.
 abbrev pub IsScriptFault : Files → Rendering → Fault → Type 0
 IsScriptFault files rendering NoScript = file_at files rendering.file ≡ None
 IsScriptFault files rendering (Script fault) = HasPlanFault files rendering.file fault
@@ -132,7 +132,8 @@ pub record HasUntold (files : Files) (rendering : Rendering) (trace : List ℕ) 
   pub is_fault : IsReplayFault files trace (base_of plan library clocks rendering.start) clocks.running rendering.ticks
       untold
 
--- The fault of the trace of a replay, whose script is accepted. A call that asks for no replay has no such fault.
+-- This is the fault of the trace of a replay whose script is accepted. A call that asks for no replay has no such
+-- fault.
 abbrev pub IsTraceFault : Asked → Files → Fault → Type 0
 IsTraceFault (Check file) files fault = ⊥
 IsTraceFault (Render rendering window) files fault = ⊥
@@ -211,25 +212,25 @@ IsVerdictOn asked files verdict =
     ((fault : Fault) × (verdict ≡ Refused fault) × IsRefusal asked files fault)
     ⊎ ((station : Station) × (verdict ≡ verdict_for asked station) × IsStation asked (files_for asked files) station)
 
--- The words of a call have one of the forms of the usage line, and this is the verdict on what they ask for over these
--- files.
+-- The words of a call have one of the forms of the usage line, and `verdict` is the verdict on what they ask for over
+-- these files.
 pub record IsFormed (words : List (List ℕ)) (files : Files) (verdict : Verdict) : Type 0 where
   pub asked : Asked
   pub is_asked : IsAsked words asked
   pub is_verdict : IsVerdictOn asked files verdict
 
--- This is the verdict on the words of a call over these files: the usage line if the words have no form, and else that
--- on what they ask for.
+-- This is the verdict on the words of a call over these files: the usage line if they have none of its forms, and else
+-- the verdict on what they ask for.
 abbrev pub IsVerdict : List (List ℕ) → Files → Verdict → Type 0
 IsVerdict words files verdict = ((verdict ≡ Usage) × HasNoForm words) ⊎ IsFormed words files verdict
 
--- The words of a call over these files have one verdict and no other, and P holds of this verdict.
+-- The words of a call over these files have one verdict and no other, and the statement P holds of this verdict.
 pub record ForVerdict (words : List (List ℕ)) (files : Files) (P : Verdict → Type 0) : Type 0 where
   pub verdict : Verdict
   pub is_verdict : IsVerdict words files verdict
   pub only : (other : Verdict) → IsVerdict words files other → other ≡ verdict
   pub holds : P verdict
 
--- P holds of each verdict that the words of a call may have over these files.
+-- The statement P holds of each verdict that the words of a call may have over these files.
 abbrev pub ForEachVerdict : List (List ℕ) → Files → (Verdict → Type 0) → Type 0
 ForEachVerdict words files P = (verdict : Verdict) → IsVerdict words files verdict → P verdict

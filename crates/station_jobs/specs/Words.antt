@@ -44,8 +44,8 @@ rendering_of (Replay file start ticks trace) = rendering_by file start ticks Non
 abbrev pub texts : List (String Global) → List (List ℕ)
 texts words = map string_bytes words
 
--- the options of a rendering: whether it runs on one thread; how many ticks a window has, the second of the week at
--- which it begins, and the name of its trace, where these are said; and whether cue files are wanted
+-- The options of a rendering: whether it runs on one thread; how many ticks a window has, the second of the week at
+-- which it begins, and the name of its trace, each where a word says it; and whether cue files are wanted.
 pub record Options : Type 0 where
   pub one_thread : Bool
   pub window : Option ℕ
@@ -57,11 +57,12 @@ pub record Options : Type 0 where
 abbrev pub no_options : Options
 no_options = record { one_thread = false; window = None; start = None; trace = None; cues = false }
 
--- the second of the week at which a rendering with these options begins: 0 if they do not say it
+-- The second of the week at which a rendering with these options begins: 0 if they do not say it.
 abbrev pub start_in : Options → ℕ
 start_in options = unwrap_or options.start 0
 
--- how many ticks a window has with these options: 16 if they do not say it; `None` on one thread
+-- How many ticks a window of a rendering with these options has: 16 if they do not say it, and `None` on one thread,
+-- which has no windows.
 abbrev pub window_in : Options → Option ℕ
 window_in options = if options.one_thread then None else Some (unwrap_or options.window 16)
 

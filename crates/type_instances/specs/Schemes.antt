@@ -63,8 +63,8 @@ pub record IsInstance (s : Scheme) (a : Assignment) (ts : List Ground) (g : Grou
   pub result : meaning at s.result ≡ g
   pub opened : map at.kind_of (open_numbers 0 s.kinds) ≡ opens
 
--- The general type of a builtin, from its row in the table of builtins: its type variable may be any type, and its kind
--- variable either kind. No variable is outside of it.
+-- The general type of a builtin, from its row in the table of builtins: its type variable may become any type, and its
+-- kind variable mono or stereo. It uses no variable from outside.
 abbrev pub builtin_scheme : Builtin → Scheme
 builtin_scheme b = record {
   params = map (λ p. p.1) (signature b).params;
@@ -73,7 +73,8 @@ builtin_scheme b = record {
   kinds = replicate (signature b).kinds Open;
 }
 
--- The type variables of these types have numbers below m, and their kind variables numbers below n.
+-- These types use only variables that are there: type variables of numbers below m, and kind variables of numbers below
+-- n.
 abbrev pub AreAmong : ℕ → ℕ → List Term → Type 0
 AreAmong m n ts = InTerms (λ k. k < m) (λ k. k < n) (terms_of ts)
 

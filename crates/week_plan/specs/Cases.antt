@@ -9,8 +9,8 @@ use Rattle.week_plan.specs.declared.cases.Fate.TheVariants.{Chosen, Hidden, Neve
 use Rattle.week_plan.specs.Spans.{IsFor}
 use Rattle.week_plan.specs.Tables.{IsTableOf}
 
--- A case of a `switch` is sure to play at this second of the week: its predicate holds, and its source never falls
--- silent, which the flag beside the predicate says. No later case can be chosen then.
+-- At this second of the week a case of a `switch` has surely something to play: its predicate holds, and its source
+-- never falls silent, which the flag beside the predicate says. No later case can be chosen then.
 abbrev pub holds_surely : (at : ℕ) → Predicate × Bool → Bool
 holds_surely at case = holds case.0 at && case.1
 

@@ -41,7 +41,8 @@ abbrev pub goes_round : (end : ℕ) → List Round → Bool
 goes_round end rounds = nat_le 2 (length rounds)
     && (nat_eq (first_of rounds).from 0 && nat_eq (last_of rounds).last (end - 1))
 
--- One span that goes over the end of the day or of the week: it begins as the last of these and ends as the first.
+-- The one span that goes over the end of the day or of the week, in place of the last and the first of these: it begins
+-- as the last does and ends as the first does.
 abbrev pub over_end : List Round → Round
 over_end rounds = record { from = (last_of rounds).from; last = (first_of rounds).last }
 
@@ -51,7 +52,7 @@ abbrev pub joined : (end : ℕ) → List Round → List Round
 joined end rounds = if goes_round end rounds then drop 1 (slice_set rounds (length rounds - 1) (over_end rounds))
     else rounds
 
--- The comma and blank before span number k of a text; nothing before the first, number 0.
+-- The comma and blank before number k of the spans that are told in a text; nothing before the first, number 0.
 abbrev pub comma : (k : ℕ) → List ℕ
 comma zero = []
 comma (suc k) = codes ", "
