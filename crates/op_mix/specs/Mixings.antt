@@ -16,8 +16,8 @@ mixing_of Halves = mixing.Halves
 mixing_of Doubles = mixing.Doubles
 mixing_of Passes = mixing.Passes
 
--- What a node offers at the first instant of a run of which these are the cells: the first cell, or nothing where there
--- is none.
+-- The first of the cells that the children of a node offer at an instant, as a slot: what a node has at an instant,
+-- here nothing where no child offers a cell.
 abbrev pub front_of : List Cell → Slot
 front_of [] = None
 front_of (cell ∷ cells) = Some cell

@@ -26,7 +26,8 @@ IsOrderedOnward station run = (window : ℕ)
     → LeadOnward (bare station) station.clocks.running listing
     → IsOrdered (setting_of_run station run) station.clocks.running lawful.accepted station.ticks
 
--- The names of the files that a run writes, in the order in which it creates them. They follow from the station alone.
+-- The names of the files that a run of a station writes, in the order in which it creates them: its outputs, and the
+-- cue files and the trace that are wanted.
 abbrev pub names_of : Station → Run → List (List ℕ)
 names_of station run = map (λ file. file.name) (files_of station run)
 

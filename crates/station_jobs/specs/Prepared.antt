@@ -77,12 +77,12 @@ pub record IsOneOutcome (files : Files) (rendering : Rendering) (outcome : Outco
   pub holds : IsOutcome files rendering outcome
   pub only : (other : Outcome) → IsOutcome files rendering other → other ≡ outcome
 
--- What reading its script came to, for a job that is ready to run: its plan, with its audio files and clocks.
+-- What reading the script of a job came to, where the job is ready to run: its plan, with its audio files and clocks.
 abbrev pub outcome_of : Job → Outcome
 outcome_of job = Found job.plan job.ready.library job.ready.clocks
 
--- The script in `file` is accepted by a check, which renders no tick: it comes to this plan and these clocks, with some
--- audio files, and to nothing else.
+-- A check, which renders no tick, accepts the script in `file`: reading it comes to this plan and these clocks, with
+-- some audio files, and to nothing else.
 pub record IsChecked (files : Files) (file : List ℕ) (plan : Plan) (clocks : ClockMap) : Type 0 where
   pub library : Sounds
   pub one : IsOneOutcome files (rendering_by file 0 0 None false) (Found plan library clocks)
@@ -112,7 +112,8 @@ pub record TraceEnds {T : Type 0} (name : List ℕ) (base : Setting) (clocks N :
   pub read : IsErrOf result Read → Rose old.reads new.reads
   pub no_write : IsErrOf result Write → ⊥
 
--- Why a replay ended whose trace has this fault: for the fault itself, or because memory was refused to tell it.
+-- Why a replay ended (the `CallEnd`) whose trace has this fault: for the fault itself, or because there was no memory
+-- to tell it.
 abbrev pub IsUntold : ReplayFault → CallEnd → Type 0
 IsUntold fault halt = (halt ≡ refused_for (Fault.Replay fault)) ⊎ (halt ≡ Memory)
 

@@ -51,9 +51,9 @@ pub record IsReplaying {S : Type 0} (told : S
   pub run : HasRunTurns told calls n first now
   pub rooms : (left : ℕ) → n + left ≡ N → HaveTicksRoom told now.parts now.outs left
 
--- The engine of clock m, which went from `first` to `now` by `made` ticks, may go on to tick n of its N. For the trace
--- tells how the clock makes these ticks, and the chunks that it gets in them are in the buffers (`states`). `told`
--- gives what a sink tells of itself, and `score` has the plan, the answers of the trace and the chunks.
+-- The engine of clock m, which went from `first` to `now` by `made` ticks, may go on to tick n of its N. This means:
+-- the trace tells how the clock makes these ticks, and the chunks that it gets in them are in the buffers (`states`).
+-- `told` gives what a sink tells of itself, and `score` has the plan, the answers of the trace and the chunks.
 pub record MayReplay {S : Type 0} (told : S
     → SinkTold) (score : Score) (N m made n : ℕ) (first now : ClockEngine S) (states : List BufferState) : Type 0 where
   pub is : IsSetting score.base score.clocks
@@ -87,8 +87,8 @@ pub record HasSinkFailed {S : Type 0} (told : S → SinkTold) (sink : ℕ) (firs
   pub there : slice_get (outputs_of (setting_of first.parts) first.parts.clock) place ≡ Some (sink, node)
   pub rose : RoseAt told place first.outs now.outs
 
--- What a replay is to play: a plan with its clocks and files, the answers of each buffer that a trace tells (`text`),
--- how many ticks a window of the trace has, and how many ticks there are in all.
+-- What a replay is to play: a plan with its audio files (`base`) and its clocks, the answers of each buffer that the
+-- trace tells (`text`), how many ticks a window of the trace has, and how many ticks there are in all.
 pub record Tale : Type 0 where
   pub base : Setting
   pub clocks : ClockMap
@@ -166,7 +166,7 @@ abbrev pub MayPlayOn : {S : Type 0} → (told : S
 MayPlayOn told tale sides n first now rest states = MayPlay told tale sides now.parts.clock rest.made n
     (progress first now rest.marks.items) states
 
--- What a turn of clock m in a replay did: it came to n ticks, as `gone` says, and took the chunks in the buffers from
+-- What a turn of clock m in a replay did: it came to n ticks, as `gone` says, and changed the chunks put so far from
 -- those of `opening` to `next`. The buffers were `before` and are `states`, and none let go of a chunk that another
 -- clock still gets. `tale` is what is replayed, and `sides` tells which clocks feed and read each buffer. `told` gives
 -- what a sink tells of itself.
