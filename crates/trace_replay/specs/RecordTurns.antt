@@ -41,9 +41,9 @@ held_coded = code_by (List BufferState
       turns = p.1.1.1;
     }) (λ _. refl)
 
--- A replay of this trace may begin with what is `held`: the buffers have the answers of the trace and no chunk yet, and
--- in the turns, one after another, the clocks make all their ticks as the answers say, each with chunks that earlier
--- turns put. `base` is the plan with its audio files and start.
+-- A replay of this trace may begin with what is `held`: the buffers have the answers of the trace and no chunk yet. In
+-- the turns, one after another, the clocks make all their ticks as the answers say, each with chunks that earlier turns
+-- put. `base` is the plan with its audio files and start.
 pub record AreAllTurns (base : Setting) (clocks : ClockMap) (trace : TraceValue) (held : HeldTurns) : Type 0 where
   pub told : AreTold base (text_of trace.buffers) held.buffers
   pub sides : AreSides base held.feeders held.readers
