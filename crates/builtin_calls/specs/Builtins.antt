@@ -26,8 +26,8 @@ use Rattle.builtin_calls.specs.Times.{overlap_samples, track_of, samples_of, pit
 use Rattle.builtin_calls.specs.Sinks.{add_output}
 use Rattle.builtin_calls.specs.Settings.{setting}
 
--- A node of the plan from its three parts: its operator, its kind (mono or stereo), and the numbers of the nodes it
--- reads.
+-- A node of the plan from its three parts: its operator, its kind (mono or stereo), and its children, the numbers of
+-- the nodes that it plays from.
 abbrev pub node : Op → Kind → List ℕ → Node
 node o k children = record { op = o; kind = k; children = children }
 
@@ -57,8 +57,8 @@ single kinds given m = do
   k ← one_kind kinds
   add (node (op.Single file.0) k []) m
 
--- Checks the `mode` of a playlist: "normal" is the only one. Any other is a bad value, told at token `at`, the name of
--- the call.
+-- Checks the `mode` of a playlist: it must be "normal", and any other is the fault of a bad value at token `at`, the
+-- name of the call.
 abbrev pub is_normal : ℕ → List ℕ → Result (Unit {0}) Stop
 is_normal at mode =
     elim (bytes_eq mode (codes "normal")) [
@@ -145,8 +145,8 @@ switch kinds given m = do
   pairs ← few_pairs m.plan.nodes k sensitive.1
   add (node (op.Switch sensitive.0 pairs.0) k pairs.1) m
 
--- The seed of a `random`: the number n, which must not be below zero; otherwise a bad value at token `at`, the name of
--- the call.
+-- The seed of a `random` from the int n that a script gives. An n below zero is the fault of a bad value at token `at`,
+-- the name of the call.
 abbrev pub seed_of : ℕ → ℤ → Result ℕ Stop
 seed_of at n =
     elim (int_lt n (pos 0)) [

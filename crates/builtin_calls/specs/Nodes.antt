@@ -14,7 +14,8 @@ use Rattle.script_values.specs.declared.machine.Machine.{Machine}
 use Rattle.script_values.specs.Outcomes.{◌>>=◌, Outcome}
 use Rattle.script_values.specs.Values.{Source}
 
--- Checks a number against a limit: gives n where it is at most `most`, and else the fault that this limit was passed.
+-- Checks a number n against a bound: gives n where it is at most `most`, and else the fault that this limit, such as
+-- that on overlaps, was passed.
 abbrev pub at_most : ℕ → Limit → ℕ → Result ℕ Stop
 at_most most limit n =
     elim (nat_le n most) [
@@ -22,8 +23,8 @@ at_most most limit n =
       | false ↦ Err (TooLarge limit)
     ]
 
--- Checks how many sources a node gets: gives the list where it has at most 65535 children, and else the fault that they
--- are too many.
+-- Checks how many children a new node gets: gives the list of their numbers where it has at most 65535, and else the
+-- fault that they are too many.
 abbrev pub few : List ℕ → Result (List ℕ) Stop
 few children =
     elim (nat_le (length children) MAX_CHILDREN) [
@@ -31,8 +32,8 @@ few children =
       | false ↦ Err (TooLarge Children)
     ]
 
--- The most crossfades on a path that begins at a new crossfade of node `child` and goes down through children. The new
--- one counts too.
+-- How many crossfades one below the other there would be at most with a new crossfade over node `child`: on a path from
+-- it down through children, itself counted. Evaluation refuses more than 4.
 abbrev pub crossfades_with : ℕ → Plan → ℕ
 crossfades_with child plan = 1 + slice_index (crossfade_counts plan.nodes) child
 

@@ -12,8 +12,8 @@ use Rattle.script_values.specs.Outcomes.{◌>>=◌}
 use Rattle.script_values.specs.Slots.{Argument}
 use Rattle.script_values.specs.Values.{ValueTree, ManyValues, no_values, more_values, Value, Int, Number, TextValue, TruthValue, FormatValue, PredValue, Source, ListValue, TupleValue}
 
--- The first of the kinds (mono or stereo) that typing found for a call. A call that needs one has it, so an empty list
--- is stuck.
+-- The first of the kinds (mono or stereo) that typing found for a call. A call that needs a kind has one, so an empty
+-- list is the fault `Stuck`, to which no typed script comes.
 abbrev pub one_kind : List Kind → Result Kind Stop
 one_kind [] = Err Stuck
 one_kind (k ∷ ks) = Ok k
@@ -51,8 +51,8 @@ is_kind Mono Stereo = false
 is_kind Stereo Mono = false
 is_kind Stereo Stereo = true
 
--- Checks that node number n is there and of kind k, and gives n. `None` stands for no node. What fails the check is
--- stuck, for typing refuses it.
+-- Checks that node number n is of kind k (mono or stereo), and gives n. The node is given too, or `None` where the plan
+-- has none of this number. What fails the check is the fault `Stuck`, to which no typed script comes.
 abbrev pub of_kind : Kind → ℕ → Option Node → Result ℕ Stop
 of_kind k n None = Err Stuck
 of_kind k n (Some node) =
@@ -111,8 +111,8 @@ unfoldable pub pairs_of : List Node → Kind → Value → Result (List Predicat
 pairs_of nodes k (ListValue vs) = pairs_from nodes k vs [] []
 pairs_of nodes k v = Err Stuck
 
--- What a search for an argument found, which must be there: its value and the arguments left. Nothing is stuck, for
--- typing refuses it.
+-- The argument that a search for it found, as its value and the arguments left. If none was found, it is the fault
+-- `Stuck`, to which no typed script comes.
 abbrev pub needed : Option (Value × List Argument) → Result (Value × List Argument) Stop
 needed None = Err Stuck
 needed (Some x) = Ok x
@@ -167,8 +167,8 @@ plain_pairs nodes k given = do
   pairs ← pairs_of nodes k x.0
   Ok (pairs, x.1)
 
--- What an optional parameter gets from a search of the arguments: the value found, read as the type A, with the
--- arguments left; or its default, with all of them.
+-- The value of an optional parameter of type A. If a search of the arguments found one, `read` reads its value, and the
+-- arguments left are given with it. If not, it is `default`, with all arguments, which are `given`.
 abbrev pub or_default : {A : Type 0} → (Value → Result A Stop) → A → List Argument → Option (Value × List Argument)
     → Result (A × List Argument) Stop
 or_default read default given None = Ok (default, given)

@@ -8,8 +8,9 @@ use Rattle.script_values.specs.declared.machine.Machine.{Machine}
 use Rattle.script_values.specs.Outcomes.{◌>>=◌, Outcome}
 use Rattle.script_values.specs.Values.{Value, Int, Number, UnitValue}
 
--- Notes in the state that this statement makes a setting, or faults where none may stand. Settings come first: a
--- setting is a call of `set` at top level that holds no other call, with only settings before it.
+-- Notes in the state of evaluation that the statement at hand makes a setting, or is a fault where none may stand.
+-- Settings come first: a setting is a call of `set` at top level that holds no other call, with only settings before
+-- it.
 abbrev pub settings_opened : Machine → Result Machine Stop
 settings_opened m =
     elim m.settings.allowed [

@@ -11,7 +11,7 @@ use Rattle.script_values.specs.declared.machine.Machine.{Machine}
 use Rattle.script_values.specs.Outcomes.{Outcome}
 use Rattle.script_values.specs.Values.{UnitValue}
 
--- Whether a sink of the plan is an output to the file of this name. A feed of a buffer writes no file.
+-- Whether a sink of the plan is an output to the file of this name. A feed, which puts into a buffer, writes no file.
 abbrev pub is_named : List ℕ → SinkPlan → Bool
 is_named name (Output other node fallible wide) = bytes_eq name other
 is_named name (Feed buffer node) = false

@@ -12,8 +12,8 @@ pub record IsSound (m : Machine) : Type 0 where
   pub outputs : count_by is_output m.plan.sinks ≤ MAX_OUTPUTS
   pub feeds : length m.plan.sinks ≤ count_by is_output m.plan.sinks + length m.plan.nodes
 
--- What a step of evaluation from state m to state n keeps: a sound state stays sound, and each node of the plan stays,
--- under its number.
+-- What a step of evaluation, from state m to state n, never breaks: a sound state stays sound, and each node of the
+-- plan stays as it is, under its number.
 pub record Keeps (m n : Machine) : Type 0 where
   pub sound : IsSound m → IsSound n
   pub nodes : (i : ℕ) (node : Node) → slice_get m.plan.nodes i ≡ Some node → slice_get n.plan.nodes i ≡ Some node

@@ -5,7 +5,8 @@ use Rattle.fixed_text.specs.Texts.{samples_in}
 use Rattle.script_values.specs.declared.fault.Stop.{Stop}
 use Rattle.script_values.specs.declared.fault.Stop.TheVariants.{BadValue}
 
--- Checks that a time lasts at least one sample: gives n, or a bad value at token `at` where n is 0.
+-- Checks that a time of a script, n samples, is not empty: gives n, or where it is 0 the fault of a bad value at token
+-- `at`, the name of the call.
 abbrev pub some_samples : ℕ → ℕ → Result ℕ Stop
 some_samples at n =
     elim (nat_eq n 0) [
@@ -47,6 +48,7 @@ pitch_of at d =
       | false ↦ Ok d
     ]
 
--- How many whole chunks of `frame` samples, the samples of one tick, fit in so many samples; at least one.
+-- How many chunks a buffer holds that has room for so many samples: a chunk has `frame` samples, those of one tick.
+-- Only whole chunks count, and at least one.
 abbrev pub chunks : ℕ → ℕ → ℕ
 chunks samples frame = max 1 (samples / frame)

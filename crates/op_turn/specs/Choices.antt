@@ -5,13 +5,14 @@ use Rattle.seed_words.specs.Words.{Unread}
 use Rattle.op_select.specs.Selection.{plays_on}
 use Rattle.op_turn.specs.Turns.{random_pick, rotated}
 
--- The child that a new choice finds, from what a rotate or a random keeps: a random draws it by its next word of random
--- bits, and a rotate, which has no words, takes the next after `last`.
+-- The child that a new choice finds, by what the children offer (`slots`). A random draws it by the next of its random
+-- words. A rotate, which has no words (`None`), takes the next after `last`, the child used before.
 abbrev pub chosen_by : Option Unread → (last : Option ℕ) → List Slot → Option ℕ
 chosen_by None last slots = rotated slots last
 chosen_by (Some words) last slots = random_pick slots words.next
 
--- The child that a rotate or a random plays, from what it keeps: the one used last while it goes on with its track, or
--- else the one that a new choice finds.
+-- The child that a rotate or a random plays at an instant, by what the children offer (`slots`): the one used last
+-- while it goes on with its track, or else a newly chosen one. It keeps `last` and, if it is a random, its random
+-- words.
 abbrev pub used_by : Option Unread → (last : Option ℕ) → List Slot → Option ℕ
 used_by words last slots = if plays_on slots last then last else chosen_by words last slots

@@ -8,33 +8,33 @@ use Rattle.seed_words.specs.Words.{Unread, word, words_from}
 use Rattle.op_turn.specs.declared.turn.Turn.{Turn}
 use Rattle.op_turn.specs.declared.turn.Turn.TheVariants.{Random, Rotate}
 
--- The numbers of the children that offer a cell, in their order, by what each offers at an instant. The first of these
--- slots is that of child number `from`.
+-- The numbers of those children of a node that offer a cell at an instant, in their order. A slot is what a child
+-- offers, and the first of these slots is that of child number `from`.
 abbrev pub offering_from : List Slot → (from : ℕ) → List ℕ
 offering_from [] from = []
 offering_from (slot ∷ slots) from = if is_some slot then from ∷ offering_from slots (suc from)
     else offering_from slots (suc from)
 
--- The child that a rotate chooses: the next after the child used last that offers, going on at child 0 behind the last
--- one. Where none was used yet, the first that offers.
+-- The child that a rotate chooses, by what each child offers: the next after the one used `last` that offers a cell,
+-- going on at child 0 behind the last child. Where none was used yet, it is the first that offers.
 abbrev pub rotated : List Slot → (last : Option ℕ) → Option ℕ
 rotated slots None = slice_get (offering_from slots 0) 0
 rotated slots (Some last) =
     slice_get (offering_from (drop (suc last) slots) (suc last) ++ offering_from (take (suc last) slots) 0) 0
 
--- The child that a random chooses by a word w of random bits: of the m children that offer, the one of number w mod m,
--- from 0; none where m is 0.
+-- The child that a random chooses, by what each child offers and a word w of random bits. Of the m children that offer
+-- a cell it is number w mod m, from 0; none where m is 0.
 abbrev pub random_pick : List Slot → (w : ℕ) → Option ℕ
 random_pick slots w = slice_get (offering_from slots 0) (w % length (offering_from slots 0))
 
--- What the choice of a rotate or a random rests on: the child that it used when it last gave a cell, if any, and at how
--- many instants so far a child was newly chosen.
+-- What the choice of a rotate or a random rests on, in place of all that went before: the child that it used when it
+-- last gave a cell, if any, and at how many instants so far a child was newly chosen.
 pub record Past : Type 0 where
   pub last : Option ℕ
   pub choices : ℕ
 
--- The child that a new choice finds at an instant: a rotate takes the next after the one used last, and a random draws
--- one by the next word of its seed.
+-- The child that a new choice finds, by what each child offers: a rotate takes the next after the one used last, and a
+-- random draws one by its seed, by the random word whose number is that of the choices so far.
 abbrev pub chosen : Turn → Past → List Slot → Option ℕ
 chosen Rotate past slots = rotated slots past.last
 chosen (Random seed) past slots = random_pick slots (word seed past.choices)
@@ -83,8 +83,8 @@ abbrev pub words_left : Turn → (choices : ℕ) → Option Unread
 words_left Rotate choices = None
 words_left (Random seed) choices = Some (words_from seed choices)
 
--- What a node keeps is true to its past: it has the child that was used last, and has used up one word of its seed for
--- each choice.
+-- What a rotate or a random (`turn`) keeps as its state is true to its past: the child that was used last, and the
+-- random words of its seed that are left after one for each choice so far.
 pub record StandsFor (turn : Turn) (past : Past) (state : Turning) : Type 0 where
   pub last : state.last ≡ past.last
   pub words : state.words ≡ words_left turn past.choices

@@ -6,7 +6,7 @@ use Rattle.script_places.specs.declared.forms.Form.TheVariants as form
 use Rattle.script_places.specs.declared.named.Named.{Named}
 use Rattle.script_places.specs.declared.named.Named.TheVariants.{Byte, Token, Statement, Source, Clash, Text, Fallible}
 
--- Whether a line of a fault begins with these bytes.
+-- Whether a line of a fault begins with these words, told as bytes.
 abbrev pub begins : (line words : List ℕ) → Bool
 begins line words = bytes_eq words (take (length words) line)
 
@@ -58,17 +58,18 @@ form_of line =
 abbrev pub is_no_blank : ℕ → Bool
 is_no_blank b = not (b == 32)
 
--- The line ends in these words and, behind them, the number n in decimal digits.
+-- A line of a fault ends in these words and, behind them, the number n in decimal digits, as in `.. at token 5`.
 pub record EndsIn (words line : List ℕ) (n : ℕ) : Type 0 where
   pub front : List ℕ
   pub spelled : line ≡ front ++ (words ++ decimal n)
 
--- The text begins with the number n in decimal digits, and this byte behind it.
+-- The text begins with the number n in decimal digits and then this byte, such as the colon (58) of `5: ..`.
 pub record Leads (byte : ℕ) (text : List ℕ) (n : ℕ) : Type 0 where
   pub rest : List ℕ
   pub spelled : text ≡ decimal n ++ byte ∷ rest
 
--- The place `named` is the one that `place` makes of some number below 2^64 for which `Holds` is true, such as token 5.
+-- A line of a fault names a place of the script by a number: `named` is what `place` makes of it, such as token 5. The
+-- number is below 2^64, and `Holds` says that it stands in the line.
 pub record IsNumbered (place : ℕ → Named) (Holds : ℕ → Type 0) (named : Named) : Type 0 where
   pub number : ℕ
   pub small : number < 2 ^ 64

@@ -27,21 +27,23 @@ without_cr line = if bytes_eq (drop (length line - 1) line) (13 ∷ []) then tak
 abbrev pub blank_for : ℕ → ℕ
 blank_for b = if b == 9 then 9 else 32
 
--- The blanks that stand below these bytes, one for each character, so that what follows is below the place behind them.
+-- The blanks that stand below these bytes of a line, one for each character, so that a caret behind them is below what
+-- comes next.
 abbrev pub blanks_for : List ℕ → List ℕ
 blanks_for bytes = map blank_for (characters bytes)
 
--- The begin of the line that shows a place of a script, `FILE:LINE:COLUMN: `, by the bytes before the place.
+-- The begin of the line that shows a place of the script `file`: `FILE:LINE:COLUMN: `. The line and the column follow
+-- from `before`, the bytes of the script before the place.
 abbrev pub head : List ℕ → List ℕ → List ℕ
 head file before = file ++ codes ":" ++ decimal (line before) ++ codes ":" ++ decimal (column before) ++ codes ": "
 
--- What is shown of the line before byte `at` of the text: without its leading blanks, and control characters by their
--- numbers.
+-- The part before the place of a fault that is shown of its line: what stands there before byte `at` of the text,
+-- without leading blanks, and with control characters by their numbers.
 abbrev pub front : List ℕ → ℕ → List ℕ
 front text at = shown (trimmed (in_line (take at text)))
 
--- The end of the second line that shows byte `at`: a caret below it, and a word of advice where it is a byte order
--- mark.
+-- The end of the second line that shows byte `at` of the text: a caret below it, and a word of advice where it is a
+-- byte order mark.
 abbrev pub caret : List ℕ → ℕ → List ℕ
 caret text at = if (at == 0) && is_marked text then codes "^ a byte order mark: save the script without it\n"
     else codes "^\n"

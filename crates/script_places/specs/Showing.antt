@@ -19,8 +19,8 @@ has_control_next (b ∷ c ∷ bs) = is_control c
 abbrev pub is_marked : List ℕ → Bool
 is_marked bytes = bytes_eq (take 3 bytes) (0xEF ∷ 0xBB ∷ 0xBF ∷ [])
 
--- whether bytes begin with a character that is not shown as it is: a control byte, the byte order mark, or a control
--- character from U+0080 on, whose first byte is 194
+-- Whether these bytes begin with a character that a terminal is not shown as it is: a control byte, the byte order
+-- mark, or a control character from U+0080 on, whose first byte is 194.
 unfoldable pub is_hidden : List ℕ → Bool
 is_hidden [] = false
 is_hidden (b ∷ bs) = is_control b || (b == 194 && has_control_next (b ∷ bs)) || is_marked (b ∷ bs)

@@ -11,7 +11,7 @@ start total [] k = total
 start total (t ∷ ts) zero = t.start
 start total (t ∷ ts) (suc k) = start total ts k
 
--- The statements of a script before number k, from 0; `None` where it has no statement of this number.
+-- The first k statements of a script, those before number k (from 0); `None` where it has no statement of this number.
 abbrev pub before : Script → ℕ → Option Script
 before none k = None
 before (more s rest) zero = Some none

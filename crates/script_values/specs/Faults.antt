@@ -5,8 +5,8 @@ use Rattle.script_values.specs.declared.fault.Stop.TheVariants as inside
 use Rattle.script_values.specs.declared.fault.EvalFault.{EvalFault}
 use Rattle.script_values.specs.declared.fault.EvalFault.TheVariants as fault
 
--- the fault of a script whose statement of this number ends with this stop; nothing for a value of a wrong type, which
--- no typed script comes to
+-- The fault that a script has where evaluation of its statement number `stmt` stops for this reason. None for a value
+-- of a wrong type (`Stuck`), to which no typed script comes.
 abbrev pub fault_in : ℕ → Stop → Option EvalFault
 fault_in stmt inside.Memory = Some fault.Memory
 fault_in stmt inside.BadSetting = Some (fault.BadSetting stmt)

@@ -28,12 +28,12 @@ count_work steps m =
       | false ↦ Err TooMuchWork
     ]
 
--- For each source the token of the call that made it: those known so far (`calls`), and the call at token `at` for each
--- further source, up to `sources` in all.
+-- For each source the token of the call that made it, once there are so many `sources`: those known so far (`calls`),
+-- and the call at token `at` for each further source.
 abbrev pub filled : (at : ℕ) → (sources : ℕ) → List ℕ → List ℕ
 filled at sources calls = calls ++ replicate (sources - length calls) at
 
--- Notes in the state which call made which source: all sources from number `before` on were made by the call at token
--- `at`, also those that calls within it made.
+-- Notes in the state m which call made which source: all sources from number `before` on are noted as made by the call
+-- at token `at`, also those that calls within it made.
 abbrev pub noted_by : (at before : ℕ) → Machine → Machine
 noted_by at before m = record m { calls = filled at (length m.plan.nodes) (take before m.calls) }

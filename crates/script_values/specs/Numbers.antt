@@ -9,7 +9,8 @@ use Rattle.script_values.specs.declared.fault.Stop.{Stop}
 use Rattle.script_values.specs.declared.fault.Stop.TheVariants.{BadValue, Stuck}
 use Rattle.script_values.specs.Values.{Value, Int, Number, TruthValue}
 
--- The int n as a value of a script, or a bad value at token `at`, that of the operator, where n has more than 64 bits.
+-- The result n of an operator at token `at`, as an int of a script; the fault of a bad value at that token, where n has
+-- more than 64 bits.
 unfoldable pub int_at : ℕ → ℤ → Result Value Stop
 int_at at n =
     elim (int_le (negsuc 9223372036854775807) n && int_le n (pos 9223372036854775807)) [
@@ -17,8 +18,8 @@ int_at at n =
       | false ↦ Err (BadValue at)
     ]
 
--- The decimal number of m millionths, if both tests of its range are true, `low` for the lower bound and `high` for the
--- upper one; else `None`.
+-- The decimal number of m millionths, if it is in range, and else `None`. `low` says that m is not below the lower
+-- bound and `high` that it is not above the upper one; the last arguments prove what they say.
 abbrev pub decimal_by : (m : ℤ) (low high : Bool) → (T low → negsuc 999999999999999 ≤ℤ m)
     → (T high → m ≤ℤ pos 1000000000000000) → Option Decimal
 decimal_by m true true above below = Some (record { millionths = m; low = above tt; high = below tt })
@@ -30,14 +31,14 @@ unfoldable pub of_millionths : ℤ → Option Decimal
 of_millionths m = decimal_by m (int_le (negsuc 999999999999999) m) (int_le m (pos 1000000000000000))
     (λ t. record { le = t }) (λ t. record { le = t })
 
--- A decimal as a value of a script, or a bad value at token `at`, that of the operator, where the result is out of
--- range (`None`).
+-- The result of an operator at token `at`, as a decimal of a script; the fault of a bad value at that token, where it
+-- is out of range (`None`).
 abbrev pub or_bad_value : ℕ → Option Decimal → Result Value Stop
 or_bad_value at (Some d) = Ok (Number d)
 or_bad_value at None = Err (BadValue at)
 
--- The decimal of m millionths as a value of a script, or a bad value at token `at`, that of the operator, where it is
--- out of range.
+-- The result of an operator at token `at`, m millionths, as a decimal of a script; the fault of a bad value at that
+-- token, where it is out of range.
 abbrev pub decimal_at : ℕ → ℤ → Result Value Stop
 decimal_at at m = or_bad_value at (of_millionths m)
 
@@ -71,8 +72,8 @@ quotient a b =
       | false ↦ Some (int_div a b)
     ]
 
--- The value that `made` gives for a quotient, or a bad value at the operator's token `at` where the divisor was 0
--- (`None`).
+-- The value of a division at token `at`, from its quotient, of which `made` makes an int or a decimal. It is the fault
+-- of a bad value at that token where the divisor was 0 (`None`).
 abbrev pub quotient_at : ℕ → (ℤ → Result Value Stop) → Option ℤ → Result Value Stop
 quotient_at at made None = Err (BadValue at)
 quotient_at at made (Some n) = made n

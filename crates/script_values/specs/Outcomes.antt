@@ -5,7 +5,7 @@ use Rattle.script_values.specs.declared.machine.Machine.{Machine}
 use Rattle.script_values.specs.Machines.{noted_by}
 use Rattle.script_values.specs.Values.{Value}
 
--- a step, and the next one over what it gives; the first fault ends them
+-- A step of evaluation, and then the next one over the value that it gives. A fault of the first is that of both.
 infixl 10 ◌>>=◌
 abbrev pub ◌>>=◌ : {A B : Type 0} → Result A Stop → (A → Result B Stop) → Result B Stop
 (Ok x) >>= f = f x
@@ -15,7 +15,7 @@ abbrev pub ◌>>=◌ : {A B : Type 0} → Result A Stop → (A → Result B Stop
 abbrev pub Outcome : Type 0
 Outcome = Result (Value × Machine) Stop
 
--- What a call at token `at` comes to, begun in the state m: as `made` says, but the sources that were made since are
--- noted as made by this call.
+-- What a call at token `at`, begun in state m, comes to: the value of `made`, which is what it comes to by itself, and
+-- its state, with a note that this call made all sources that were made since m.
 abbrev pub ascribed : ℕ → Machine → Outcome → Outcome
 ascribed at m made = made >>= λ x. Ok (x.0, noted_by at (length m.plan.nodes) x.1)

@@ -30,12 +30,12 @@ pub data ValueTree : ValueSort → Type 0 where
 abbrev pub Value : Type 0
 Value = ValueTree OneValue
 
--- A list of values as one tree, as it stands within a list or tuple of the script.
+-- Values as one tree, the form in which they stand within a list or tuple of a script.
 abbrev pub many : List Value → ValueTree ManyValues
 many [] = no_values
 many (v ∷ vs) = more_values v (many vs)
 
--- The values of a list or tuple of the script, from its tree, as a list.
+-- The values of a list or tuple of a script, from the tree in which they stand one behind the other, as a plain list.
 abbrev pub items : ValueTree ManyValues → List Value
 items no_values = []
 items (more_values v vs) = v ∷ items vs

@@ -17,22 +17,24 @@ use Rattle.stations.specs.Reports.{report_of, check_report_of}
 use Rattle.station_jobs.specs.Summary.{SumsAsOneThread, summary_of}
 use Rattle.station_jobs.specs.Verdicts.{Verdict, Usage, Checked, Accepted, Made}
 
--- The ticks of a run have one order in which each chunk is accepted by a buffer in an earlier tick than the one that
--- gets it. It is said where the main clocks can be listed so that each buffer that joins two of them leads to a later
--- one.
+-- The ticks of a run can be put in one order, in which each chunk is put in an earlier tick than the one that gets it.
+-- It is promised if the main clocks can be listed so that each buffer that joins two of them is fed by the earlier one
+-- and read by the later one.
 abbrev pub IsOrderedOnward : Station → Run → Type 0
 IsOrderedOnward station run = (window : ℕ)
     (lawful : AreWindows (bare station) station.clocks.running window station.ticks run) (listing : List ℕ)
     → LeadOnward (bare station) station.clocks.running listing
     → IsOrdered (setting_of_run station run) station.clocks.running lawful.accepted station.ticks
 
--- The names of the files that a run writes, in the order in which it creates them. They follow from the station alone.
+-- The names of the files that a run of a station writes, in the order in which it creates them: its outputs, and the
+-- cue files and the trace that are wanted.
 abbrev pub names_of : Station → Run → List (List ℕ)
 names_of station run = map (λ file. file.name) (files_of station run)
 
--- A run wrote all outputs, then the wanted cue files and trace. The shelf made and closed just these files, in this
--- order, each with room for its bytes, and this is the report. On one thread and in a replay there is no other run.
--- Where no buffer joins two clocks, one thread writes the same outputs and cue files and tells the same.
+-- A run wrote all outputs, then the wanted cue files and trace, to the shelf, which tells `old` before and `new` after
+-- it and had these files. It made and closed just those, in this order, each with room for its bytes, and printed the
+-- report. On one thread and in a replay there is no other run. Where no buffer joins two clocks, one thread writes the
+-- same outputs and cue files and tells the same.
 pub record Wrote (station : Station) (files : Files) (old new : ShelfTold) (report : List ℕ) : Type 0 where
   pub run : Run
   pub lawful : IsLawful station run
@@ -45,16 +47,17 @@ pub record Wrote (station : Station) (files : Files) (old new : ShelfTold) (repo
   pub ordered : IsOrderedOnward station run
   pub as_one_thread : HasNoJoin (bare station) station.clocks.running → RendersAsOneThread station run
 
--- What `check` did: the shelf of files was only read, and the report tells the clock of each output, and by `mark`
--- whether its node is infallible.
+-- What `check` did: the shelf was only read, from `old` to `new`, and the report tells the clock of each output and
+-- whether its node is infallible. `mark` says this of each node, and is no mark of a track.
 pub record Told (station : Station) (old new : ShelfTold) (report : List ℕ) : Type 0 where
   pub kept : OnlyRead old new
   pub mark : ℕ → Bool
   pub marking : IsMarking station.plan.nodes mark
   pub report_is : report ≡ check_report_of station mark
 
--- What `make` did: the shelf was only read, and the report is the summary of a run over the files of a workload. Rounds
--- on one thread have the same summary, so it rests on the station and its files alone.
+-- What `make` did: the shelf was only read, from `old` to `new`, and the report is the summary of a run over the files
+-- of a workload (`made`). Rounds on one thread have the same summary, so it follows from the station and its files
+-- alone.
 pub record Summed (made : Files) (station : Station) (old new : ShelfTold) (report : List ℕ) : Type 0 where
   pub kept : OnlyRead old new
   pub run : Run
@@ -64,17 +67,17 @@ pub record Summed (made : Files) (station : Station) (old new : ShelfTold) (repo
   pub as_one_thread : SumsAsOneThread made station report
 
 -- What was done for a verdict that is no refusal, with its report: a station was rendered to files, or checked, or the
--- rendering of a made workload was summed up.
+-- rendering of a made workload was summed up. `old` and `new` are what the shelf tells before and after.
 abbrev pub IsDone : Verdict → Files → (old new : ShelfTold) → (report : List ℕ) → Type 0
 IsDone verdict files old new report =
     ((station : Station) × (verdict ≡ Accepted station) × Wrote station files old new report)
     ⊎ ((station : Station) × (verdict ≡ Checked station) × Told station old new report)
     ⊎ ((made : Files) × (station : Station) × (verdict ≡ Made made station) × Summed made station old new report)
 
--- A rendering broke off. If it did so before its ticks or in them, its run begins that of one thread: on one thread,
--- and where no buffer joins two clocks. If it did so after them, there is no other run on one thread, and where no
--- buffer joins two clocks, it renders what one thread does. Its first files were made and closed, in their order, and
--- no other. `device` says that a device failed, and not memory.
+-- A rendering broke off: `device` says whether by a failed device or for want of memory. On one thread, and where no
+-- buffer joins two clocks, its run begins as that of one thread does; and if it made all ticks, it renders what that
+-- does. The first of its files were made and closed, in their order, and no other. The shelf had `files` before, and
+-- tells `old` before and `new` after it.
 pub record BrokeOff (station : Station) (device : Bool) (files : Files) (old new : ShelfTold) : Type 0 where
   pub left : ((stopped : StoppedInTicks station device files old new)
       × (IsDetermined station → BeginsAsOneThread station stopped.run))
@@ -82,13 +85,13 @@ pub record BrokeOff (station : Station) (device : Bool) (files : Files) (old new
       × (HasNoJoin (bare station) station.clocks.running → RendersAsOneThread station stopped.run))
   pub front : (run : Run) → CreatedFront (names_of station run) old new
 
--- The words ask for a rendering of an accepted station, and it broke off: by a failed `device`, or else for want of
--- memory. `old` and `new` tell the shelf of files before and after.
+-- The verdict is to render a station, and the rendering broke off: by a failed `device`, or else for want of memory.
+-- `old` and `new` are what the shelf tells before and after.
 abbrev pub IsBroken : Verdict → (device : Bool) → Files → (old new : ShelfTold) → Type 0
 IsBroken verdict device files old new = (station : Station) × (verdict ≡ Accepted station)
     × BrokeOff station device files old new
 
--- Memory was refused to a job, which is possible for any words with a form: the shelf of files was only read, or a
--- rendering broke off.
+-- Memory was refused to a job, which is possible for any words with a form: the shelf was only read, or a rendering
+-- broke off. `old` and `new` are what the shelf tells before and after.
 abbrev pub IsStarved : Verdict → Files → (old new : ShelfTold) → Type 0
 IsStarved verdict files old new = (verdict ≡ Usage → ⊥) × (OnlyRead old new ⊎ IsBroken verdict false files old new)

@@ -53,8 +53,8 @@ pub record IsGranted (asked : Asked) (files : Files) (plan : Plan) (library : So
   pub prepared : IsPrepared files (rendering_of asked) plan library clocks
   pub is_way : IsWayFor asked files plan library clocks way
 
--- This is the decision on what a call asks for, over these files: it is granted with these parts, or denied for its
--- first fault.
+-- This is the decision on what a call asks for, over these files: it is granted with this plan, its audio files, its
+-- clocks and the way to render it, or denied for its first fault.
 abbrev pub IsRuling : Asked → Files → Ruling → Type 0
 IsRuling asked files (Granted plan library clocks way) = IsGranted asked (files_for asked files) plan library clocks way
 IsRuling asked files (Denied fault) = IsRefusal asked files fault
@@ -77,33 +77,34 @@ pub record IsOneOutcome (files : Files) (rendering : Rendering) (outcome : Outco
   pub holds : IsOutcome files rendering outcome
   pub only : (other : Outcome) → IsOutcome files rendering other → other ≡ outcome
 
--- What reading its script came to, for a job that is ready to run: its plan, with its audio files and clocks.
+-- What reading the script of a job came to, where the job is ready to run: its plan, with its audio files and clocks.
 abbrev pub outcome_of : Job → Outcome
 outcome_of job = Found job.plan job.ready.library job.ready.clocks
 
--- The script in `file` is accepted by a check, which renders no tick: it comes to this plan and these clocks, with some
--- audio files, and to nothing else.
+-- A check, which renders no tick, accepts the script in `file`: reading it comes to this plan and these clocks, with
+-- some audio files, and to nothing else.
 pub record IsChecked (files : Files) (file : List ℕ) (plan : Plan) (clocks : ClockMap) : Type 0 where
   pub library : Sounds
   pub one : IsOneOutcome files (rendering_by file 0 0 None false) (Found plan library clocks)
 
--- What the error of a step says that only reads the script of a rendering: a fault is the one to which the script
--- comes; a failed read rose the count of failed reads; and no write failed.
+-- What the error of a step says that only reads the script of a rendering. A fault is the one to which the script
+-- comes. After a failed read the shelf's count of failed reads is higher in `new` than in `old`. No write failed.
 pub record EndsFor {T : Type 0} (rendering : Rendering) (old new : ShelfTold) (result : Result T CallEnd) : Type 0 where
   pub fault : (fault : Fault) → result ≡ Err (refused_for fault)
       → ForSome old.files (λ files. IsOneOutcome files rendering (Lost fault))
   pub read : IsErrOf result Read → Rose old.reads new.reads
   pub no_write : IsErrOf result Write → ⊥
 
--- The trace in the file of this name cannot be replayed over N ticks of so many clocks, for this fault. `base` is the
--- plan with its audio files, clocks and start.
+-- A replay is refused for this fault of its trace, the file named `name`: it cannot be replayed over N ticks of so many
+-- clocks. `base` is the plan with its audio files and start.
 pub record HasFaultOf (files : Files) (name : List ℕ) (base : Setting) (clocks N : ℕ) (fault : Fault) : Type 0 where
   pub untold : ReplayFault
   pub fault_is : fault ≡ Fault.Replay untold
   pub is_fault : IsReplayFault files name base clocks N untold
 
--- What the error of reading the trace of this name says: a fault is one that the trace has over N ticks; a failed read
--- rose the count of failed reads; and no write failed.
+-- What the error of reading the trace of this name says. A fault is one that the trace has over N ticks of so many
+-- clocks. After a failed read the shelf's count of failed reads is higher in `new` than in `old`. No write failed.
+-- `base` is the plan with its audio files and start.
 pub record TraceEnds {T : Type 0} (name : List ℕ) (base : Setting) (clocks N : ℕ) (old new : ShelfTold)
     (result : Result T CallEnd) : Type 0 where
   pub fault : (fault : Fault) → result ≡ Err (refused_for fault)
@@ -111,36 +112,38 @@ pub record TraceEnds {T : Type 0} (name : List ℕ) (base : Setting) (clocks N :
   pub read : IsErrOf result Read → Rose old.reads new.reads
   pub no_write : IsErrOf result Write → ⊥
 
--- Why a replay ended whose trace has this fault: for the fault itself, or because memory was refused to tell it.
+-- Why a replay ended (the `CallEnd`) whose trace has this fault: for the fault itself, or because there was no memory
+-- to tell it.
 abbrev pub IsUntold : ReplayFault → CallEnd → Type 0
 IsUntold fault halt = (halt ≡ refused_for (Fault.Replay fault)) ⊎ (halt ≡ Memory)
 
--- What the error of a test of file names says, where `clash` is the first name that two files would have: a fault names
--- it, and no read or write failed.
+-- What the result says of a test whether a rendering writes two files of one name. A fault says that it does, and names
+-- the first such name, which is `clash`. No read and no write failed.
 pub record ClashEnds {T : Type 0} (clash : Option (List ℕ)) (result : Result T CallEnd) : Type 0 where
   pub fault : (fault : Fault) → result ≡ Err (refused_for fault)
       → (name : List ℕ) × (fault ≡ SameFile name) × (clash ≡ Some name)
   pub no_read : IsErrOf result Read → ⊥
   pub no_write : IsErrOf result Write → ⊥
 
--- What is asked for has one verdict over these files and no other, and P holds of this verdict.
+-- What is asked for has one verdict over these files and no other, and the statement P holds of this verdict.
 pub record ForOne (asked : Asked) (files : Files) (P : Verdict → Type 0) : Type 0 where
   pub verdict : Verdict
   pub is_verdict : IsVerdictOn asked files verdict
   pub only : (other : Verdict) → IsVerdictOn asked files other → other ≡ verdict
   pub holds : P verdict
 
--- P holds of each verdict that what is asked for may have over these files.
+-- The statement P holds of each verdict that what is asked for may have over these files.
 abbrev pub ForEach : Asked → Files → (Verdict → Type 0) → Type 0
 ForEach asked files P = (verdict : Verdict) → IsVerdictOn asked files verdict → P verdict
 
--- Where the shelf tells which files it has: what is asked for has one verdict over them, and P holds of the files and
--- the verdict.
+-- If the shelf tells which files it has, what is asked for has one verdict over them and no other, and P holds of the
+-- files and this verdict.
 abbrev pub ForOneOf : Asked → ShelfTold → (Files → Verdict → Type 0) → Type 0
 ForOneOf asked shelf P = ForSome shelf.files (λ files. ForOne asked files (P files))
 
--- How a job may end, by what the shelf tells before and after it: with the report of what was done, or with the fault
--- that is the verdict. Or a read failed, and the shelf was only read; or a write failed; or memory was refused.
+-- How a job may end, by what the shelf tells before (`old`) and after it (`new`): with the report of what was done, or
+-- with the fault for which it is refused. Or a read failed, and the shelf was only read; or a write failed; or memory
+-- was refused.
 abbrev pub Ended : (asked : Asked) (old new : ShelfTold) → Result (String Global) CallEnd → Type 0
 Ended asked old new (Ok report) = ForOneOf asked old
     (λ files verdict. IsDone verdict files old new (string_bytes report))
@@ -152,16 +155,16 @@ Ended asked old new (Err Write) = Rose old.writes new.writes
 Ended asked old new (Err Memory) = ForSome old.files
     (λ files. ForEach asked files (λ verdict. IsStarved verdict files old new))
 
--- The job, ready to run, is the one for this rendering: it has its start, its number of ticks, and its wishes for a
--- trace and cue files.
+-- The job, ready to run, is the one for this rendering: both have the same start, number of ticks and name of a trace,
+-- if one is wanted, and both want cue files or neither does.
 pub record IsJobFor (rendering : Rendering) (job : Job) : Type 0 where
   pub start_is : rendering.start ≡ job.start.second
   pub ticks_are : rendering.ticks ≡ job.ticks
   pub trace_is : rendering.trace ≡ name_in job
   pub cues_are : rendering.cues ≡ job.cues
 
--- What a call asks for writes outputs to the shelf, as a rendering and a replay do: any station that is granted for it
--- is accepted to be rendered.
+-- What a call asks for is a rendering or a replay, which write outputs to the shelf: its verdict, if its script is
+-- accepted, is to render the station.
 abbrev pub IsToRender : Asked → Type 0
 IsToRender asked = (station : Station) → verdict_for asked station ≡ Accepted station
 

@@ -10,7 +10,7 @@ use Rattle.stations.specs.Stations.{Way, Again}
 use Rattle.refusal_lines.specs.declared.replay_lines.ReplayFault.{ReplayFault}
 use Rattle.refusal_lines.specs.declared.replay_lines.ReplayFault.TheVariants.{NoTrace, TraceTooLarge, NotATrace, DoesNotFit}
 
--- The size of the largest trace that is read: 2^28 bytes.
+-- The size of the largest trace file that a replay reads: 2^28 bytes.
 abbrev pub most_bytes : ℕ
 most_bytes = 2 ^ 28
 
@@ -38,29 +38,29 @@ pub record HasNoTrace (files : Files) (name : List ℕ) (line : ℕ) : Type 0 wh
   pub has : HasText files name text
   pub stops : StopsAt text line
 
--- The file of this name is a trace that can be replayed for N ticks of these clocks: it is of a lawful run of them,
+-- The file of this name is a trace that can be replayed for N ticks of so many clocks: a lawful run of them has it,
 -- whose ticks can be put in one order. `base` is the plan with its audio files and start.
 pub record HasFitting (files : Files) (name : List ℕ) (base : Setting) (clocks N : ℕ) (trace : TraceValue) : Type 0
   where
     pub has : HasTrace files name trace
     pub fits : IsAccepted base clocks N trace
 
--- The file of this name is a trace that cannot be replayed here: no lawful run of N ticks of these clocks, whose ticks
--- can be put in one order, has it. `base` is the plan with its audio files and start.
+-- The file of this name is a trace that cannot be replayed here: no lawful run of N ticks of so many clocks, whose
+-- ticks can be put in one order, has it. `base` is the plan with its audio files and start.
 pub record HasUnfitting (files : Files) (name : List ℕ) (base : Setting) (clocks N : ℕ) : Type 0 where
   pub trace : TraceValue
   pub has : HasTrace files name trace
   pub unfit : IsAccepted base clocks N trace → ⊥
 
--- The way of a replay: the file of this name is a trace that fits N ticks of these clocks, and the script is rendered
--- again as it tells.
+-- The way of a replay, which makes ticks as a trace tells: the file of this name is a trace that fits N ticks of so
+-- many clocks. `base` is the plan with its audio files and start.
 pub record IsWayOf (files : Files) (name : List ℕ) (base : Setting) (clocks N : ℕ) (way : Way) : Type 0 where
   pub trace : TraceValue
   pub fitting : HasFitting files name base clocks N trace
   pub way_is : way ≡ Again trace
 
 -- Why a script is not replayed by the trace of this name: there is no such file, it is too large, a line is not in the
--- form of a trace, or the trace is not of N ticks of these clocks.
+-- form of a trace, or it is of no run of N ticks of so many clocks. `base` is the plan with its audio files and start.
 abbrev pub IsReplayFault : Files → (name : List ℕ) (base : Setting) (clocks N : ℕ) → ReplayFault → Type 0
 IsReplayFault files name base clocks N (NoTrace told) = (told ≡ name) × (file_at files name ≡ None)
 IsReplayFault files name base clocks N (TraceTooLarge told) = (told ≡ name) × HasMore files name

@@ -19,7 +19,8 @@ sum_of bytes = fold ◌+ℤ◌ (pos 0) (samples_from (drop 44 bytes))
 abbrev pub sum_at : Files → (name : List ℕ) → ℤ
 sum_at files name = sum_of (unwrap_or (file_at files name) [])
 
--- The last part of an output's line in the summary of a workload: ` sum `, the sum of its samples, and a line feed.
+-- The end of an output's line in the summary of a workload: ` sum `, the sum of all samples of the output, and a line
+-- feed.
 abbrev pub sum_part : (sum : ℤ) → List ℕ
 sum_part sum = codes " sum " ++ signed_decimal sum ++ codes "\n"
 
@@ -42,8 +43,8 @@ abbrev pub summary_of : Files → Station → Run → List ℕ
 summary_of files station run = summed_lines station run (with_outputs files (output_files station run))
     station.plan.sinks
 
--- This is the summary that one thread has: rounds on one thread have exactly one record, and the summary of that record
--- is this one.
+-- This is the summary that one thread prints of a workload: rounds on one thread have exactly one record of what the
+-- buffers answered (`alone`), and the summary of that run is this one. `files` are those of the workload.
 pub record SumsAsOneThread (files : Files) (station : Station) (summary : List ℕ) : Type 0 where
   pub alone : Run
   pub rounds : IsRounds (bare station) station.clocks.running station.ticks alone

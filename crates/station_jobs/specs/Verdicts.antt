@@ -49,13 +49,13 @@ pub record HasPlanFault (files : Files) (file : List ℕ) (fault : ScriptFault) 
   pub there : file_at files file ≡ Some script
   pub is_fault : IsPlanFault script fault
 
--- Whether a sink of the plan is an output to the file of this name. A feed of a buffer writes no file.
+-- Whether a sink of the plan is an output to the file of this name. A feed, which puts into a buffer, writes no file.
 abbrev pub has_name : (name : List ℕ) → SinkPlan → Bool
 has_name name (Output own node fallible wide) = bytes_eq own name
 has_name name (Feed buffer node) = false
 
--- Whether the cue file of this sink would overwrite an output: gives its name where an output among `all` sinks has the
--- same.
+-- The name of the cue file of this sink, where one of `all` sinks is an output to a file of that name: the cue file
+-- would overwrite it. Else `None`.
 abbrev pub cue_clash_at : (all : List SinkPlan) → SinkPlan → Option (List ℕ)
 cue_clash_at all (Output name node fallible wide) = if list_any (has_name (cue_name name)) all then Some (cue_name name)
     else None
@@ -71,8 +71,8 @@ abbrev pub cue_clash : Plan → (cues : Bool) → Option (List ℕ)
 cue_clash plan false = None
 cue_clash plan true = first_cue_clash plan.sinks plan.sinks
 
--- Whether this sink makes a file of this name: it is an output to it, or, where cue files are wanted, its cue file has
--- this name.
+-- Whether this sink of the plan makes a file of this name: an output to it does, and, where cue files are wanted
+-- (`cues`), an output whose cue file has this name.
 abbrev pub writes_to : (name : List ℕ) (cues : Bool) → SinkPlan → Bool
 writes_to name cues (Output own node fallible wide) = bytes_eq own name || (cues && bytes_eq name (cue_name own))
 writes_to name cues (Feed buffer node) = false
@@ -87,23 +87,24 @@ trace_clash plan (Some name) cues = if list_any (writes_to name cues) plan.sinks
 abbrev pub clash_of : Plan → (trace : Option (List ℕ)) (cues : Bool) → Option (List ℕ)
 clash_of plan trace cues = option_or (cue_clash plan cues) (trace_clash plan trace cues)
 
--- A rendering is refused, as it would write two files of this name: its script has a plan, and this is the first such
--- name.
+-- A rendering is refused because it would write two files of one name. The script in its file has a plan, and `name` is
+-- the first such name.
 pub record HasClash (files : Files) (rendering : Rendering) (name : List ℕ) : Type 0 where
   pub plan : Plan
   pub has_plan : HasPlan files rendering.file plan
   pub clash : clash_of plan rendering.trace rendering.cues ≡ Some name
 
--- A rendering is refused for a fault of its plan, such as missing audio or clashing clocks: the script has a plan,
--- which writes no name twice and has this fault for so many ticks.
+-- A rendering is refused for a fault of its plan, such as missing audio or clashing clocks. The script has a plan, no
+-- two of its files would have one name, and `fault` is why the plan cannot be rendered for the ticks that are asked
+-- for.
 pub record HasUnfitPlan (files : Files) (rendering : Rendering) (fault : StationFault) : Type 0 where
   pub plan : Plan
   pub has_plan : HasPlan files rendering.file plan
   pub apart : clash_of plan rendering.trace rendering.cues ≡ None
   pub is_fault : IsStationFault files plan rendering.ticks fault
 
--- The first fault of the script of a rendering: the file is not there, it has no plan, it would write a name twice, or
--- the plan does not fit its files and clocks. Faults of a trace are not among these.
+-- This is the first fault of the script of a rendering: its file is not there, it has no plan, it would write a name
+-- twice, or its plan does not fit its files and clocks. Faults of a trace are not among these.
 abbrev pub IsScriptFault : Files → Rendering → Fault → Type 0
 IsScriptFault files rendering NoScript = file_at files rendering.file ≡ None
 IsScriptFault files rendering (Script fault) = HasPlanFault files rendering.file fault
@@ -111,16 +112,16 @@ IsScriptFault files rendering (SameFile name) = HasClash files rendering name
 IsScriptFault files rendering (Fault.Station fault) = HasUnfitPlan files rendering fault
 IsScriptFault files rendering (Fault.Replay fault) = ⊥
 
--- The script of a rendering is accepted: it has this plan, no two of its files would have one name, and these are its
--- audio files and clocks.
+-- The script of a rendering is accepted: it has this plan, its outputs, cue files and trace have different names, and
+-- its audio files (`library`) and clocks are these.
 pub record IsPrepared (files : Files) (rendering : Rendering) (plan : Plan) (library : Sounds) (clocks : ClockMap) : Type
     0 where
   pub has_plan : HasPlan files rendering.file plan
   pub apart : clash_of plan rendering.trace rendering.cues ≡ None
   pub renderable : IsRenderable files plan rendering.ticks library clocks
 
--- A replay is refused: its script is accepted, but it cannot be rendered again by the trace in the file of this name,
--- for this fault.
+-- A replay is refused: its script is accepted, but the trace in the file named `trace` is missing or does not fit it,
+-- which `fault` says.
 pub record HasUntold (files : Files) (rendering : Rendering) (trace : List ℕ) (fault : Fault) : Type 0 where
   pub plan : Plan
   pub library : Sounds
@@ -131,7 +132,8 @@ pub record HasUntold (files : Files) (rendering : Rendering) (trace : List ℕ) 
   pub is_fault : IsReplayFault files trace (base_of plan library clocks rendering.start) clocks.running rendering.ticks
       untold
 
--- The fault of the trace of a replay, whose script is accepted. A call that asks for no replay has no such fault.
+-- This is the fault of the trace of a replay whose script is accepted. A call that asks for no replay has no such
+-- fault.
 abbrev pub IsTraceFault : Asked → Files → Fault → Type 0
 IsTraceFault (Check file) files fault = ⊥
 IsTraceFault (Render rendering window) files fault = ⊥
@@ -145,8 +147,9 @@ abbrev pub way_in : (window : Option ℕ) → Way
 way_in None = InRounds
 way_in (Some window) = InWindows window
 
--- How an accepted script makes its ticks, by what is asked: a check (of no tick) in rounds on one thread, a rendering
--- as its options say, a workload by threads in windows of 16 ticks, a replay as its trace tells.
+-- How the ticks of an accepted script are made, by what is asked. A check, which has no tick, is in rounds on one
+-- thread. A rendering is made as its options say, a workload by threads in windows of 16 ticks, and a replay as its
+-- trace tells.
 abbrev pub IsWayFor : Asked → Files → Plan → Sounds → ClockMap → Way → Type 0
 IsWayFor (Check file) files plan library clocks way = way ≡ InRounds
 IsWayFor (Render rendering window) files plan library clocks way = way ≡ way_in window
@@ -168,8 +171,8 @@ station_for rendering plan library clocks way = record {
   cues = rendering.cues;
 }
 
--- The script of a call is accepted, and this is its station: its plan with its audio files and clocks, how its ticks
--- are made, and the start, ticks, trace and cue files that are asked for.
+-- The script of a call is accepted, and `station` has all that its run rests on: the plan with its audio files and
+-- clocks, how its ticks are made, and the start, ticks, trace and cue files that are asked for.
 pub record IsStation (asked : Asked) (files : Files) (station : Station) : Type 0 where
   pub prepared : IsPrepared files (rendering_of asked) station.plan station.library station.clocks
   pub is_way : IsWayFor asked files station.plan station.library station.clocks station.way
@@ -209,25 +212,25 @@ IsVerdictOn asked files verdict =
     ((fault : Fault) × (verdict ≡ Refused fault) × IsRefusal asked files fault)
     ⊎ ((station : Station) × (verdict ≡ verdict_for asked station) × IsStation asked (files_for asked files) station)
 
--- The words of a call have one of the forms of the usage line, and this is the verdict on what they ask for over these
--- files.
+-- The words of a call have one of the forms of the usage line, and `verdict` is the verdict on what they ask for over
+-- these files.
 pub record IsFormed (words : List (List ℕ)) (files : Files) (verdict : Verdict) : Type 0 where
   pub asked : Asked
   pub is_asked : IsAsked words asked
   pub is_verdict : IsVerdictOn asked files verdict
 
--- This is the verdict on the words of a call over these files: the usage line if the words have no form, and else that
--- on what they ask for.
+-- This is the verdict on the words of a call over these files: the usage line if they have none of its forms, and else
+-- the verdict on what they ask for.
 abbrev pub IsVerdict : List (List ℕ) → Files → Verdict → Type 0
 IsVerdict words files verdict = ((verdict ≡ Usage) × HasNoForm words) ⊎ IsFormed words files verdict
 
--- The words of a call over these files have one verdict and no other, and P holds of this verdict.
+-- The words of a call over these files have one verdict and no other, and the statement P holds of this verdict.
 pub record ForVerdict (words : List (List ℕ)) (files : Files) (P : Verdict → Type 0) : Type 0 where
   pub verdict : Verdict
   pub is_verdict : IsVerdict words files verdict
   pub only : (other : Verdict) → IsVerdict words files other → other ≡ verdict
   pub holds : P verdict
 
--- P holds of each verdict that the words of a call may have over these files.
+-- The statement P holds of each verdict that the words of a call may have over these files.
 abbrev pub ForEachVerdict : List (List ℕ) → Files → (Verdict → Type 0) → Type 0
 ForEachVerdict words files P = (verdict : Verdict) → IsVerdict words files verdict → P verdict

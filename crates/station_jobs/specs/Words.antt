@@ -40,12 +40,12 @@ rendering_of (Render rendering window) = rendering
 rendering_of (Make seed size) = rendering_by made_script 0 500 None false
 rendering_of (Replay file start ticks trace) = rendering_by file start ticks None false
 
--- The words of a call as lists of bytes, which the specification reads.
+-- The words of a call, each as its bytes: the form of them that specifications read.
 abbrev pub texts : List (String Global) → List (List ℕ)
 texts words = map string_bytes words
 
--- the options of a rendering: whether it runs on one thread; how many ticks a window has, the second of the week at
--- which it begins, and the name of its trace, where these are said; and whether cue files are wanted
+-- The options of a rendering: whether it runs on one thread; how many ticks a window has, the second of the week at
+-- which it begins, and the name of its trace, each where a word says it; and whether cue files are wanted.
 pub record Options : Type 0 where
   pub one_thread : Bool
   pub window : Option ℕ
@@ -57,11 +57,12 @@ pub record Options : Type 0 where
 abbrev pub no_options : Options
 no_options = record { one_thread = false; window = None; start = None; trace = None; cues = false }
 
--- the second of the week at which a rendering with these options begins: 0 if they do not say it
+-- The second of the week at which a rendering with these options begins: 0 if they do not say it.
 abbrev pub start_in : Options → ℕ
 start_in options = unwrap_or options.start 0
 
--- how many ticks a window has with these options: 16 if they do not say it; `None` on one thread
+-- How many ticks a window of a rendering with these options has: 16 if they do not say it, and `None` on one thread,
+-- which has no windows.
 abbrev pub window_in : Options → Option ℕ
 window_in options = if options.one_thread then None else Some (unwrap_or options.window 16)
 
@@ -138,12 +139,12 @@ abbrev pub AreOptions : (before : Options) → List (List ℕ) → (all : Option
 AreOptions before [] all = all ≡ before
 AreOptions before (word ∷ words) all = (after : Options) × IsOption word before after × AreOptions after words all
 
--- The options go together: `--one-thread` stands beside neither a window nor a trace, which only threads have.
+-- The options go together: with `--one-thread` neither a window nor a trace is said, as only threads have these.
 abbrev pub AreApart : Options → Type 0
 AreApart options = options.one_thread ≡ true → (options.window ≡ None) × (options.trace ≡ None)
 
--- The words behind `render` are a FILE, a number N and options that go together, and ask for a rendering of N ticks, at
--- most 1000000000.
+-- The words behind `render` are a FILE, a `number` N and options (`words`) that go together. They ask for a rendering
+-- of N ticks, at most 1000000000: this is `asked`.
 pub record IsRendering (file number : List ℕ) (words : List (List ℕ)) (asked : Asked) : Type 0 where
   pub options : Options
   pub ticks : ℕ
@@ -154,7 +155,7 @@ pub record IsRendering (file number : List ℕ) (words : List (List ℕ)) (asked
   pub options_are : AreOptions no_options words options
   pub apart : AreApart options
 
--- The words behind the verb `render` have the form FILE N and options, and ask for this.
+-- The words behind the verb `render` are FILE, N and options, and what they ask for is `asked`.
 abbrev pub IsRender : List (List ℕ) → Asked → Type 0
 IsRender [] asked = ⊥
 IsRender (file ∷ []) asked = ⊥
@@ -177,7 +178,7 @@ pub record IsWorkload (seed_word size_word : List ℕ) (asked : Asked) : Type 0 
   pub some : 1 ≤ size
   pub few : size ≤ 100
 
--- The words behind the verb `make` have the form SEED SIZE, and ask for this.
+-- The words behind the verb `make` are SEED and SIZE, and what they ask for is `asked`.
 abbrev pub IsMake : List (List ℕ) → Asked → Type 0
 IsMake [] asked = ⊥
 IsMake (seed ∷ []) asked = ⊥
@@ -191,7 +192,8 @@ IsOnlyStart [] start = start ≡ 0
 IsOnlyStart (word ∷ []) start = IsStart word start
 IsOnlyStart (word ∷ more ∷ words) start = ⊥
 
--- The words behind `replay` are FILE, N, TRACE and maybe a start, and ask for a replay of N ticks, at most 1000000000.
+-- The words behind `replay` are a FILE, a `number` N, a TRACE and maybe a start (`words`). They ask for a replay of N
+-- ticks, at most 1000000000: this is `asked`.
 pub record IsReplaying (file number trace : List ℕ) (words : List (List ℕ)) (asked : Asked) : Type 0 where
   pub start : ℕ
   pub ticks : ℕ
@@ -200,14 +202,15 @@ pub record IsReplaying (file number trace : List ℕ) (words : List (List ℕ)) 
   pub few : ticks ≤ 10 ^ 9
   pub start_is : IsOnlyStart words start
 
--- The words behind the verb `replay` have the form FILE N TRACE and maybe a start, and ask for this.
+-- The words behind the verb `replay` are FILE, N, TRACE and maybe a start, and what they ask for is `asked`.
 abbrev pub IsReplayAsked : List (List ℕ) → Asked → Type 0
 IsReplayAsked [] asked = ⊥
 IsReplayAsked (file ∷ []) asked = ⊥
 IsReplayAsked (file ∷ number ∷ []) asked = ⊥
 IsReplayAsked (file ∷ number ∷ trace ∷ words) asked = IsReplaying file number trace words asked
 
--- The words of a call have one of the four forms (`check`, `render`, `make` or `replay`), and ask for this.
+-- The words of a call have one of the four forms (`check`, `render`, `make` or `replay`), and what they ask for is
+-- `asked`.
 abbrev pub IsAsked : List (List ℕ) → Asked → Type 0
 IsAsked [] asked = ⊥
 IsAsked (verb ∷ words) asked =
@@ -228,7 +231,7 @@ TakesThreads (Render rendering (Some window)) = ⊤
 TakesThreads (Make seed size) = ⊤
 TakesThreads (Replay file start ticks trace) = ⊥
 
--- The words of a call have a form, and ask for something that is run by threads.
+-- The words of a call have a form, and what they ask for is run by threads, so that the program has to start some.
 pub record NeedsThreads (words : List (List ℕ)) : Type 0 where
   pub asked : Asked
   pub is_asked : IsAsked words asked

@@ -11,22 +11,23 @@ use Rattle.trace_turns.specs.Thin.{AreKept}
 use Rattle.trace_records.specs.Traces.{text_of}
 use Rattle.trace_turns.specs.Turns.{AreSides, AreTold, chunks_of}
 
--- What a replay keeps of an accepted trace: the buffers with their answers, for each buffer the main clocks that feed
--- and that read it, and the turns, in each of which one clock makes some ticks.
+-- What a replay keeps of an accepted trace: the buffers with their answers, for each buffer the main clock that feeds
+-- it and the one that reads it, and the turns. In each turn one clock makes some ticks alone.
 pub record HeldTurns : Type 0 where
   pub buffers : List BufferState
   pub feeders : List ℕ
   pub readers : List ℕ
   pub turns : List TurnMade
 
--- A code of a turn (a clock, and the ticks that it comes to) as a number. A type with a code can be what contracts see.
+-- How a turn (a clock, and the tick to which it comes) is told as a pair of numbers and back. A type with such a code
+-- can be what contracts see.
 abbrev pub turn_coded : Coded TurnMade
 turn_coded = code_by (ℕ × ℕ) (coded× coded_ℕ coded_ℕ) (λ turn. (turn.clock, turn.ticks)) (λ p. record {
   clock = p.0;
   ticks = p.1;
 }) (λ _. refl)
 
--- A code of all that a replay keeps of a trace as a number, by way of nested pairs. A type with a code can be what
+-- How all that a replay keeps of a trace is told as nested pairs and back. A type with such a code can be what
 -- contracts see.
 abbrev pub held_coded : Coded HeldTurns
 held_coded = code_by (List BufferState
@@ -40,8 +41,9 @@ held_coded = code_by (List BufferState
       turns = p.1.1.1;
     }) (λ _. refl)
 
--- A replay may begin with this: the buffers have the answers of the trace and hold no chunk yet, and in these turns,
--- one after another, the clocks make all their ticks as the answers say, each with chunks that earlier turns put.
+-- A replay of this trace may begin with what is `held`: the buffers have the answers of the trace and no chunk yet. In
+-- the turns, one after another, the clocks make all their ticks as the answers say, each with chunks that earlier turns
+-- put. `base` is the plan with its audio files and start.
 pub record AreAllTurns (base : Setting) (clocks : ClockMap) (trace : TraceValue) (held : HeldTurns) : Type 0 where
   pub told : AreTold base (text_of trace.buffers) held.buffers
   pub sides : AreSides base held.feeders held.readers

@@ -31,8 +31,10 @@ use Rattle.trace_turns.specs.Thin.{AreFull, AreKept, AreUnlost, NoneLost}
 use Rattle.trace_records.specs.Traces.{text_of}
 use Rattle.trace_turns.specs.Timed.{timed}
 
--- The state of a replay between two ticks: clock m has made the first n of its N ticks, which brought its engine from
--- `first` to `now`, and the buffers, which hold the chunks in `full`, are as its calls left them.
+-- The state of a replay between two ticks: clock m has made the first n of its N ticks, by `calls` on the buffers.
+-- These took its engine from `first` to `now`. The buffers are `states`, and `full` the same with all chunks that they
+-- ever had. `told` gives what a sink tells of itself, and `score` has the plan and the answers and chunks by which the
+-- clock plays.
 pub record IsReplaying {S : Type 0} (told : S
     → SinkTold) (score : Score) (N m n : ℕ) (first now : ClockEngine S) (states : List BufferState) : Type 0 where
   pub calls : List Call
@@ -49,8 +51,9 @@ pub record IsReplaying {S : Type 0} (told : S
   pub run : HasRunTurns told calls n first now
   pub rooms : (left : ℕ) → n + left ≡ N → HaveTicksRoom told now.parts now.outs left
 
--- The condition on which the engine of clock m may go on from `made` ticks to n of its N: the trace tells that the
--- clock makes these ticks, and the chunks that it gets in them are in the buffers.
+-- The engine of clock m, which went from `first` to `now` by `made` ticks, may go on to tick n of its N. This means:
+-- the trace tells how the clock makes these ticks, and the chunks that it gets in them are in the buffers (`states`).
+-- `told` gives what a sink tells of itself, and `score` has the plan, the answers of the trace and the chunks.
 pub record MayReplay {S : Type 0} (told : S
     → SinkTold) (score : Score) (N m made n : ℕ) (first now : ClockEngine S) (states : List BufferState) : Type 0 where
   pub is : IsSetting score.base score.clocks
@@ -62,8 +65,9 @@ pub record MayReplay {S : Type 0} (told : S
   pub taken : ℕ → ℕ → Bool
   pub whole : HasReplayed score.base score.text window N m n score.chunks given taken
 
--- How a replay of clock m ends at a fault: in a tick below n, after the calls of the ticks before and the first calls
--- of its own (`made`). These begin the calls that the clock makes in n ticks as the trace tells.
+-- A replay of clock m, from engine `first` to `now`, ended at a fault in a tick below n. It made the calls of the ticks
+-- before (`calls`) and the first ones of this tick (`made`). These are a prefix of what the trace tells of n ticks of
+-- N. `told` gives what a sink tells of itself, and `score` has the plan and the answers of the trace.
 pub record IsBrokenOff {S : Type 0} (told : S
     → SinkTold) (score : Score) (N m n : ℕ) (first now : ClockEngine S) : Type 0 where
   pub tick : ℕ
@@ -75,16 +79,16 @@ pub record IsBrokenOff {S : Type 0} (told : S
       → IsFront (calls ++ made) (first_calls (answered score.base given) taken m n)
   pub part : HasRunPart told (world (setting_of first.parts) (calls ++ made)) tick (suc tick) first now
 
--- The sink of this number, to which an output of this engine's clock writes, failed: its count of faults is higher
--- `now` than at `first`.
+-- The sink of this number failed: the engine's clock has an output to it, and `now` it tells of more faults than at
+-- `first`. `told` gives what a sink tells of itself.
 pub record HasSinkFailed {S : Type 0} (told : S → SinkTold) (sink : ℕ) (first now : ClockEngine S) : Type 0 where
   pub place : ℕ
   pub node : ℕ
   pub there : slice_get (outputs_of (setting_of first.parts) first.parts.clock) place ≡ Some (sink, node)
   pub rose : RoseAt told place first.outs now.outs
 
--- What a replay is to play: a plan with its clocks and files, the answers of each buffer that a trace tells (`text`),
--- how many ticks a window of the trace has, and how many ticks there are in all.
+-- What a replay is to play: a plan with its audio files (`base`) and its clocks, the answers of each buffer that the
+-- trace tells (`text`), how many ticks a window of the trace has, and how many ticks there are in all.
 pub record Tale : Type 0 where
   pub base : Setting
   pub clocks : ClockMap
@@ -102,24 +106,27 @@ tale_at station trace = record {
   ticks = trace.ticks;
 }
 
--- What a clock plays by in a replay: the plan, clocks and answers of the tale, with the chunks that the buffers `full`
--- hold now.
+-- What a clock plays by in a replay: the plan, clocks and answers of the tale, with the chunks of the buffers. `full`
+-- has each buffer with all chunks that were put so far, also those that were let go.
 abbrev pub score_over : Tale → (full : List BufferState) → Score
 score_over tale full = record { base = tale.base; clocks = tale.clocks; text = tale.text; chunks = chunks_of full }
 
--- How far a clock came in a replay: its engine at first and as it is now, and for each buffer the mark up to which its
--- calls were made.
+-- How far a clock came in a replay: its engine at first and as it is now. Then for each buffer how many puts and takes
+-- it has made there, and how many chunks it got (`marks`, which are no marks of tracks).
 pub record Progress (S : Type 0) : Type 0 where
   pub first : ClockEngine S
   pub now : ClockEngine S
   pub marks : List Mark
 
--- How far a clock came in a replay, from its parts: its engine at first and now, and its marks on the buffers.
+-- How far a clock came in a replay, from its parts: its engine at first and now, and for each buffer how many puts and
+-- takes it has made there.
 abbrev pub progress : {S : Type 0} → (first now : ClockEngine S) → List Mark → Progress S
 progress first now marks = record { first = first; now = now; marks = marks }
 
--- The state of clock m between two of its turns in a replay: its engine made n ticks, and stands at its marks of the
--- buffers, which with all chunks are `full`. Each lawful run with the answers of the trace makes these calls.
+-- Clock m rests between two turns of a replay: its engine made n ticks, and in `gone` is how far it came. Each lawful
+-- run with the answers of the trace makes the same calls till there. `tale` is what is replayed, and `sides` tells
+-- which clocks feed and read each buffer. The buffers are `states`, and `full` the same with all their chunks. `told`
+-- gives what a sink tells of itself.
 pub record IsResting {S : Type 0} (told : S
     → SinkTold) (tale : Tale) (sides : Sides) (m n : ℕ) (gone : Progress S) (full states : List BufferState)
     : Type 0 where
@@ -133,8 +140,9 @@ pub record IsResting {S : Type 0} (told : S
   pub unlost : AreUnlost sides.readers.items m gone.marks states
   pub many : length gone.marks ≡ length states
 
--- The condition on which clock m may take a turn of a replay, from `made` ticks to n: it rests after `made`, all clocks
--- stand as the trace tells, and the answers of the trace lead to the chunks `next`.
+-- Clock m may take a turn of a replay, from `made` ticks to n. It rests after `made`, as `gone` says, all clocks stand
+-- as the trace tells, and by its answers the turn leaves the chunks `next` in the buffers, now `states`. `tale` is what
+-- is replayed, and `sides` tells which clocks feed and read each buffer. `told` gives what a sink tells of itself.
 pub record MayPlay {S : Type 0} (told : S
     → SinkTold) (tale : Tale) (sides : Sides) (m made n : ℕ) (gone : Progress S) (states : List BufferState)
     : Type 0 where
@@ -151,15 +159,17 @@ pub record MayPlay {S : Type 0} (told : S
   pub next : ℕ → List (List Cell)
   pub come : HasCome tale.base tale.window tale.ticks tale.text m n (chunks_of full) next
 
--- The condition on which an engine, that has gone from `first` to `now`, may take a turn of a replay from where it
--- rests, up to n ticks.
+-- An engine that went from `first` to `now` may take a turn of a replay up to n ticks, from where it rests. `tale` is
+-- what is replayed, `sides` tells which clocks feed and read each buffer, and `told` what a sink tells of itself.
 abbrev pub MayPlayOn : {S : Type 0} → (told : S
     → SinkTold) → Tale → Sides → (n : ℕ) → (first now : ClockEngine S) → Rest → List BufferState → Type 0
 MayPlayOn told tale sides n first now rest states = MayPlay told tale sides now.parts.clock rest.made n
     (progress first now rest.marks.items) states
 
--- What a turn of clock m in a replay did: it came to n ticks, the buffers went from the chunks of `opening` to those of
--- `full`, which are `next`, and none was let go that another clock still gets.
+-- What a turn of clock m in a replay did: it came to n ticks, as `gone` says, and changed the chunks put so far from
+-- those of `opening` to `next`. The buffers were `before` and are `states`, and none let go of a chunk that another
+-- clock still gets. `tale` is what is replayed, and `sides` tells which clocks feed and read each buffer. `told` gives
+-- what a sink tells of itself.
 pub record HasPlayed {S : Type 0} (told : S
     → SinkTold) (tale : Tale) (sides : Sides) (m n : ℕ) (gone : Progress S) (opening before states : List BufferState)
     (next : ℕ → List (List Cell)) : Type 0 where
@@ -172,8 +182,9 @@ pub record HasPlayed {S : Type 0} (told : S
   pub unlost : (k : ℕ) (other : List Mark) → (k ≡ m → ⊥) → AreUnlost sides.readers.items k other before
       → AreUnlost sides.readers.items k other states
 
--- The state of a whole replay between two turns: each engine has made some of its ticks and rests, the buffers have the
--- chunks put so far, and these turns are left.
+-- A whole replay between two turns: each engine went from `first` to `now` and rests (`rests`), the buffers (`states`)
+-- have the chunks that were put so far, and `turns` are those left. `tale` is what is replayed, and `sides` tells which
+-- clocks feed and read each buffer. `told` gives what a sink tells of itself.
 pub record ArePlaying {S : Type 0} (told : S
     → SinkTold) (tale : Tale) (sides : Sides) (turns : List TurnMade) (first now : List (ClockEngine S))
     (rests : List Rest) (states : List BufferState) : Type 0 where
@@ -191,8 +202,9 @@ pub record ArePlaying {S : Type 0} (told : S
       → slice_get now k ≡ Some after → slice_get rests k ≡ Some rest
       → IsResting told tale sides k (made k) (progress before after rest.marks.items) full states
 
--- The condition on which a replay may begin: the engines have made no tick, the buffers have the answers of the trace
--- and no chunk, and in these turns the clocks make all ticks of the record that the trace tells.
+-- A replay may begin: the engines `running` have made no tick, the buffers (`states`) have the answers of the trace and
+-- no chunk, and in the turns of `list` the clocks make all ticks that the trace tells. The sides `of` tell which clocks
+-- feed and read each buffer. `tells` gives what a sink tells of itself.
 pub record MayPlayAll {S : Type 0} (tells : S
     → SinkTold) (station : Station) (of : Sides) (list : List TurnMade) (trace : TraceValue)
     (running : List (ClockEngine S)) (states : List BufferState) : Type 0 where
@@ -208,15 +220,15 @@ pub record MayPlayAll {S : Type 0} (tells : S
   pub turns : AreTurns (base_at station) station.clocks.now.running trace.window trace.ticks (text_of trace.buffers)
       list no_ticks no_chunks
 
--- Where an engine rests before its first tick of a replay: no tick is made, and it has no mark on any of so many
+-- Where an engine rests before its first tick of a replay: it has made no tick, and no put or take on any of so many
 -- buffers.
 pub record IsNewRest (buffers : ℕ) (rest : Rest) : Type 0 where
   pub made : rest.made ≡ 0
   pub many : length rest.marks.items ≡ buffers
   pub none : (b : ℕ) (e : Mark) → b < buffers → slice_index_or rest.marks.items b e ≡ no_mark
 
--- Where each of `count` engines rests before its first tick of a replay: no tick is made, and it has no mark on any of
--- so many buffers.
+-- Where each of `count` engines rests before its first tick of a replay: it has made no tick, and no put or take on any
+-- of so many buffers.
 pub record AreNewRests (count buffers : ℕ) (rests : List Rest) : Type 0 where
   pub size : length rests ≡ count
   pub each : (k : ℕ) (rest : Rest) → slice_get rests k ≡ Some rest → IsNewRest buffers rest

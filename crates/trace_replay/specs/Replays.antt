@@ -15,16 +15,17 @@ use Rattle.trace_log.specs.Values.{TraceValue}
 use Rattle.trace_records.specs.Traces.{IsRecordOf}
 use Rattle.trace_turns.specs.Logs.{side_of}
 
--- How often the calls on a buffer had which answer, from its answers in each window: chunks accepted or refused as
--- full, and taken or missed as empty.
+-- How many calls on a buffer got which answer, from its answers in each window of a run: chunks accepted or refused as
+-- full, and chunks taken or missed as empty.
 abbrev pub counts_in : List Answers → Counts
 counts_in windows = counts_of (record {
   puts = flat_map (side_of true) windows;
   takes = flat_map (side_of false) windows;
 })
 
--- A replay made all ticks of the record of a trace: each engine went from `first` to `now` by them, with the chunks
--- that the record's takes got, and the counts and logs of the buffers are those of the record.
+-- A replay made all ticks of a run that the trace records: each engine went from `first` to `now`, with the chunks that
+-- the takes of the run got. The buffers' counts and logs of answers are those of the run. `base` is the plan with its
+-- audio files and start, `clocks` how many main clocks there are, and `told` gives what a sink tells of itself.
 pub record HasReplayedAll {S : Type 0} (told : S → SinkTold) (base : Setting) (clocks : ℕ) (trace : TraceValue)
     (first now : List (ClockEngine S)) (counts : List Counts) (logs : List (List Answers)) : Type 0 where
   pub run : Run
@@ -33,9 +34,10 @@ pub record HasReplayedAll {S : Type 0} (told : S → SinkTold) (base : Setting) 
   pub counts_are : counts ≡ counts_of_run run
   pub logs_are : logs ≡ logs_of_run run
 
--- How far a replay of N ticks came that ended early: clock m made `made m` ticks, and one clock at most tried one more.
--- Each output has the bytes of the ticks made, and then a front of those of the tick tried. A failed write is one of
--- the clock and sink that `end` names.
+-- A replay of N ticks ended early, for the reason `end`: clock m made `made m` ticks, and one clock at most tried one
+-- more. Each output has the bytes of the ticks made, and then a prefix of those of the tick tried. `setting` is the
+-- plan with its files, start and what its buffers answer. The engines went from `first` to `now`, and `told` gives what
+-- a sink tells of itself.
 pub record HasReplayedTo {S : Type 0} (told : S
     → SinkTold) (setting : Setting) (N : ℕ) (first now : List (ClockEngine S)) (end : End) : Type 0 where
   pub made : ℕ → ℕ
@@ -45,8 +47,9 @@ pub record HasReplayedTo {S : Type 0} (told : S
   pub part : HaveRunPart told (λ rest. setting) made tried first now
   pub write : (failed sink : ℕ) → end ≡ Write failed sink → IsWriteEnd told failed first now end
 
--- How far a replay of a trace came that ended early, for the reason `end`: it made some ticks of the record that the
--- trace tells, and no others.
+-- A replay ended early, for the reason `end`: its engines went from `first` to `now` by some ticks of a run that the
+-- trace records, and by no others. `base` is the plan with its audio files and start, `clocks` how many main clocks
+-- there are, and `told` gives what a sink tells of itself.
 pub record HasReplayedSome {S : Type 0} (told : S → SinkTold) (base : Setting) (clocks : ℕ) (trace : TraceValue)
     (first now : List (ClockEngine S)) (end : End) : Type 0 where
   pub run : Run

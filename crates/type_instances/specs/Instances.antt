@@ -9,18 +9,19 @@ use Rattle.type_terms.specs.declared.ty.KindTerm.{KindTerm}
 use Rattle.type_instances.specs.declared.instances.Instance.{Instance}
 use Rattle.type_instances.specs.Schemes.{AreAmong, Scheme, IsInstance}
 
--- The table of type variables s became s' without a loss: s' follows s, and each solution of s is, on the old
--- variables, one of s'.
+-- A substitution s (type and kind variables with their bindings) grew into s' without a loss: s' has all variables and
+-- bindings of s, and each solution of s is, on the old variables, that of a solution of s'.
 pub record Grows (s s' : Table) : Type 0 where
   pub follows : Follows s s'
   pub each : (a : Assignment) → Solves a s → (b : Assignment) × Solves b s' × Agrees s a b
 
--- The types of the parameters of a call, from the program's list, as terms of the specification.
+-- The types of the parameters of a call, read from the program's list, as terms of the specification.
 abbrev pub instance_params : Instance → List Term
 instance_params i = map term_of i.params.items
 
--- Between the tables s and s' the scheme g got new variables for its own, which made these parameters, result and open
--- kinds: each solution of s' makes them an instance of g, and each instance of g comes from one.
+-- A general type g was instantiated with new variables, by which the substitution s became s'. The call has these
+-- parameters, result and open kinds (kind variables that the text of a def names). In each solution of s' they are an
+-- instance of g (sound), and each instance of g is that of a solution of s' (complete).
 pub record Instantiates (s s' : Table) (g : Scheme) (params : List Term) (result : Term) (kinds : List KindTerm) : Type
     0 where
   pub params_over : AreAmong (length s'.types) (length s'.kinds) params

@@ -12,24 +12,28 @@ use Rattle.type_instances.specs.declared.general.KindParameter.{KindParameter}
 use Rattle.type_instances.specs.declared.general.KindParameter.TheVariants.{Open, Unread, Outer as OuterKind}
 use Rattle.type_instances.specs.Schemes.{MayBe, KindMayBe}
 
--- Each parameter of this list that is a type variable from outside of the scheme names a variable of the table s.
+-- Each of the parameters xs of a general type that is a type variable from outside of it names a variable of the
+-- substitution s.
 abbrev pub HasOuterTypes : Table → List TypeParameter → Type 0
 HasOuterTypes s xs = (i k : ℕ) → slice_get xs i ≡ Some (OuterType k) → k < length s.types
 
--- Each parameter of this list that is a kind variable from outside of the scheme names a variable of the table s.
+-- Each of the parameters xs of a general type that is a kind variable from outside of it names a variable of the
+-- substitution s.
 abbrev pub HasOuterKinds : Table → List KindParameter → Type 0
 HasOuterKinds s xs = (i k : ℕ) → slice_get xs i ≡ Some (OuterKind k) → k < length s.kinds
 
--- If the parameter x is a type variable from outside of the scheme, it is in the table s.
+-- If the parameter x of a general type is a type variable from outside of it, it names a variable of the substitution
+-- s.
 abbrev pub HasOuterType : Table → TypeParameter → Type 0
 HasOuterType s x = (k : ℕ) → x ≡ OuterType k → k < length s.types
 
--- If the parameter x is a kind variable from outside of the scheme, it is in the table s.
+-- If the parameter x of a general type is a kind variable from outside of it, it names a variable of the substitution
+-- s.
 abbrev pub HasOuterKind : Table → KindParameter → Type 0
 HasOuterKind s x = (k : ℕ) → x ≡ OuterKind k → k < length s.kinds
 
--- Type variable n of the table s', which grew from s, stands for the parameter x of a scheme: in each solution it is
--- what x may be, and each such type is its value in some solution.
+-- Type variable n stands for the parameter x of a general type that is instantiated, by which the substitution s grew
+-- to s'. In each solution it is a type that x may be, and each such type is its value in some solution.
 pub record IsNewType (s s' : Table) (x : TypeParameter) (n : ℕ) : Type 0 where
   pub inside : n < length s'.types
   pub follows : Follows s s'
@@ -37,8 +41,9 @@ pub record IsNewType (s s' : Table) (x : TypeParameter) (n : ℕ) : Type 0 where
   pub complete : (a : Assignment) → Solves a s → (g : Ground) → MayBe a x g
       → (b : Assignment) × Solves b s' × Agrees s a b × (b.type_of n ≡ g)
 
--- Kind variable n of the table s', which grew from s, stands for the parameter x of a scheme: in each solution it is
--- what x may be, and each such kind is its value in some solution.
+-- Kind variable n stands for the parameter x of a general type that is instantiated, by which the substitution s grew
+-- to s'. In each solution it is a kind (mono or stereo) that x may be, and each such kind is its value in some
+-- solution.
 pub record IsNewKind (s s' : Table) (x : KindParameter) (n : ℕ) : Type 0 where
   pub inside : n < length s'.kinds
   pub follows : Follows s s'
@@ -46,8 +51,8 @@ pub record IsNewKind (s s' : Table) (x : KindParameter) (n : ℕ) : Type 0 where
   pub complete : (a : Assignment) → Solves a s → (k : Kind) → KindMayBe a x k
       → (b : Assignment) × Solves b s' × Agrees s a b × (b.kind_of n ≡ k)
 
--- The kind variables, by their numbers ns, that stand for those of the parameters xs which are open, that is, named in
--- the text of a def.
+-- The kinds of a call of a def that its text names (open kinds), as terms: of the kind variables, by their numbers ns,
+-- those whose parameter at the same place of xs is open.
 abbrev pub open_terms : List KindParameter → List ℕ → List KindTerm
 open_terms [] ns = []
 open_terms (x ∷ xs) [] = []
@@ -55,8 +60,9 @@ open_terms (Open ∷ xs) (n ∷ ns) = Var n ∷ open_terms xs ns
 open_terms (Unread ∷ xs) (n ∷ ns) = open_terms xs ns
 open_terms (OuterKind k ∷ xs) (n ∷ ns) = open_terms xs ns
 
--- Each type variable of ns, in the table s' that grew from s, stands for the parameter of xs at its place: in each
--- solution they are what these may be, and each such choice of types is reached by a solution.
+-- The type variables ns stand, place by place, for the parameters xs of a general type that is instantiated, by which
+-- the substitution s grew to s'. In each solution they are types that these may be, and each such choice is reached by
+-- one.
 pub record AreNewTypes (s s' : Table) (xs : List TypeParameter) (ns : List ℕ) : Type 0 where
   pub many : length ns ≡ length xs
   pub inside : (i n : ℕ) → slice_get ns i ≡ Some n → n < length s'.types
@@ -67,8 +73,9 @@ pub record AreNewTypes (s s' : Table) (xs : List TypeParameter) (ns : List ℕ) 
       → ((i : ℕ) (x : TypeParameter) → slice_get xs i ≡ Some x → MayBe a x (f i)) →
       (b : Assignment) × Solves b s' × Agrees s a b × ((i n : ℕ) → slice_get ns i ≡ Some n → b.type_of n ≡ f i)
 
--- Each kind variable of ns, in the table s' that grew from s, stands for the parameter of xs at its place: in each
--- solution they are what these may be, and each such choice of kinds is reached by a solution.
+-- The kind variables ns stand, place by place, for the parameters xs of a general type that is instantiated, by which
+-- the substitution s grew to s'. In each solution they are kinds that these may be, and each such choice is reached by
+-- one.
 pub record AreNewKinds (s s' : Table) (xs : List KindParameter) (ns : List ℕ) : Type 0 where
   pub many : length ns ≡ length xs
   pub inside : (i n : ℕ) → slice_get ns i ≡ Some n → n < length s'.kinds

@@ -29,30 +29,32 @@ scheme_of g = record {
   kinds = g.kinds.items;
 }
 
--- The type g is one that a type variable of a scheme may stand for, by its parameter: any type, a number type, or the
--- value that the assignment `a` gives to a variable outside of the scheme.
+-- The type g is one to which the type variable of a general type may be instantiated, by its parameter. That is any
+-- type, a number type, or for a variable from outside of the general type the value that the assignment `a` gives to
+-- it.
 abbrev pub MayBe : Assignment → TypeParameter → Ground → Type 0
 MayBe a Any g = ⊤
 MayBe a Number g = IsNumber g
 MayBe a (OuterType k) g = g ≡ a.type_of k
 
--- The kind k (mono or stereo) is one that a kind variable of a scheme may stand for, by its parameter: either, or the
--- value that the assignment `a` gives to a variable outside of the scheme.
+-- The kind k (mono or stereo) is one to which the kind variable of a general type may be instantiated, by its
+-- parameter. That is either kind, or for a variable from outside of it the value that the assignment `a` gives to it.
 abbrev pub KindMayBe : Assignment → KindParameter → Kind → Type 0
 KindMayBe a Open k = ⊤
 KindMayBe a Unread k = ⊤
 KindMayBe a (OuterKind n) k = k ≡ a.kind_of n
 
--- The numbers of those kind variables of a scheme that are open, that is, named in the text of a def. The first of this
--- list has the number n.
+-- The numbers of those kind variables of a general type that are open, that is, named in the text of its def. The first
+-- variable of this list has the number n.
 abbrev pub open_numbers : ℕ → List KindParameter → List ℕ
 open_numbers n [] = []
 open_numbers n (Open ∷ ks) = n ∷ open_numbers (suc n) ks
 open_numbers n (Unread ∷ ks) = open_numbers (suc n) ks
 open_numbers n (OuterKind k ∷ ks) = open_numbers (suc n) ks
 
--- A call of what has the scheme s may have parameters of the types ts, the result g and these open kinds: some values
--- of the scheme's variables make them so, where outer variables are as in the assignment `a`.
+-- The scheme s (a general type) can be instantiated to parameters of the types ts and the result g, where its open kind
+-- variables, those that the text of its def names, become `opens`. Variables from outside of s are as in the assignment
+-- `a`.
 pub record IsInstance (s : Scheme) (a : Assignment) (ts : List Ground) (g : Ground) (opens : List Kind) : Type 0 where
   pub at : Assignment
   pub types : (i : ℕ) (x : TypeParameter) → slice_get s.types i ≡ Some x → MayBe a x (at.type_of i)
@@ -61,8 +63,8 @@ pub record IsInstance (s : Scheme) (a : Assignment) (ts : List Ground) (g : Grou
   pub result : meaning at s.result ≡ g
   pub opened : map at.kind_of (open_numbers 0 s.kinds) ≡ opens
 
--- The general type of a builtin, from its row in the table of builtins: its type variable may be any type, and its kind
--- variable either kind. No variable is outside of it.
+-- The general type of a builtin, from its row in the table of builtins: its type variable may become any type, and its
+-- kind variable mono or stereo. It uses no variable from outside.
 abbrev pub builtin_scheme : Builtin → Scheme
 builtin_scheme b = record {
   params = map (λ p. p.1) (signature b).params;
@@ -71,12 +73,13 @@ builtin_scheme b = record {
   kinds = replicate (signature b).kinds Open;
 }
 
--- The type variables of these types have numbers below m, and their kind variables numbers below n.
+-- These types use only variables that are there: type variables of numbers below m, and kind variables of numbers below
+-- n.
 abbrev pub AreAmong : ℕ → ℕ → List Term → Type 0
 AreAmong m n ts = InTerms (λ k. k < m) (λ k. k < n) (terms_of ts)
 
--- A scheme is sound over a table of variables: it says of each variable that its types use what it may stand for, and
--- the outer variables that it names are in the table.
+-- A scheme (a general type) is well formed over a table of type variables: it has a parameter for each variable of its
+-- own that its types use, and the outer variables that it names are in the table.
 pub record IsSchemeOver (table : Table) (s : Scheme) : Type 0 where
   pub params : AreAmong (length s.types) (length s.kinds) s.params
   pub result : InTerm (λ n. n < length s.types) (λ n. n < length s.kinds) s.result

@@ -9,8 +9,8 @@ use Rattle.week_plan.specs.declared.cases.Fate.TheVariants.{Chosen, Hidden, Neve
 use Rattle.week_plan.specs.Spans.{IsFor}
 use Rattle.week_plan.specs.Tables.{IsTableOf}
 
--- At this second of the week the case's predicate holds, and its source never falls silent (its flag). No later case of
--- a `switch` can be chosen then.
+-- At this second of the week a case of a `switch` has surely something to play: its predicate holds, and its source
+-- never falls silent, which the flag beside the predicate says. No later case can be chosen then.
 abbrev pub holds_surely : (at : ℕ) → Predicate × Bool → Bool
 holds_surely at case = holds case.0 at && case.1
 
@@ -19,7 +19,7 @@ holds_surely at case = holds case.0 at && case.1
 abbrev pub is_taken : List Predicate → (sure : List Bool) → (at : ℕ) → Bool
 is_taken preds sure at = list_any (holds_surely at) (zip preds sure)
 
--- The first of these predicates, if there is one, holds at this second of the week.
+-- Whether the first of these predicates holds at this second of the week; false where there is none.
 abbrev pub first_holds : List Predicate → (at : ℕ) → Bool
 first_holds [] at = false
 first_holds (pred ∷ preds) at = holds pred at
@@ -55,8 +55,8 @@ pub record AreFates (preds : List Predicate) (sure : List Bool) (fates : List Fa
   pub size : length fates ≡ length preds
   pub each : (case : ℕ) → case < length preds → IsFate preds sure case (get_or fates case Chosen)
 
--- While the cases of a `switch` are looked at in order, `table` has the seconds at which the predicate just before
--- number `case` holds, if there is one.
+-- A table kept while the cases of a `switch` are looked at in order, before case number `case`: it has the seconds at
+-- which the predicate of the case just before holds. Before case 0 it may be anything.
 abbrev pub IsKept : List SharedPred → (case : ℕ) → (table : List ℕ) → Type 0
 IsKept preds case table = (k : ℕ) (pred : SharedPred) → case ≡ k + 1 → pred ≡ get_or preds k pred
     → IsTableOf (holds (view_shared pred)) table

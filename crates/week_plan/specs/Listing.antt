@@ -9,21 +9,21 @@ abbrev pub is_whole : List Span → Bool
 is_whole [] = false
 is_whole (span ∷ spans) = nat_eq span.from 0 && nat_le 604800 span.to
 
--- A span as far as `end`, the end of the day or of the week, by its first and its last second; none if it begins at
--- `end` or later.
+-- The part of a span before `end`, the end of the day or of the week, as its first and last second (a `Round`, which
+-- may later go over that end). None if the span begins at `end` or later.
 abbrev pub round_before : (end : ℕ) → Span → List Round
 round_before end span = if nat_lt span.from end then record {
   from = span.from;
   last = min span.to end - 1;
 } ∷ [] else []
 
--- These spans as far as `end`, the end of the day or of the week, each by its first and its last second. Those that
--- begin at `end` or later are left out.
+-- The parts of these spans before `end`, the end of the day or of the week, each as its first and last second. Spans
+-- that begin at `end` or later are left out.
 abbrev pub rounds_before : (end : ℕ) → List Span → List Round
 rounds_before end [] = []
 rounds_before end (span ∷ spans) = round_before end span ++ rounds_before end spans
 
--- A span by its first and last second that stands for none, where a list of them is empty.
+-- A span that stands for none, where a list of them is empty: its first and last second are 0.
 abbrev pub no_round : Round
 no_round = record { from = 0; last = 0 }
 
@@ -35,13 +35,14 @@ first_of rounds = get_or rounds 0 no_round
 abbrev pub last_of : List Round → Round
 last_of rounds = get_or rounds (length rounds - 1) no_round
 
--- Whether the last of these spans goes on in the first one, over `end`, the end of the day or of the week: there are
--- two at least, the first begins at 0 and the last ends at `end`.
+-- Whether the last of these spans goes on in the first one over `end`, the end of the day or of the week: there are two
+-- at least, the first begins at 0, and the last has the second before `end` as its last.
 abbrev pub goes_round : (end : ℕ) → List Round → Bool
 goes_round end rounds = nat_le 2 (length rounds)
     && (nat_eq (first_of rounds).from 0 && nat_eq (last_of rounds).last (end - 1))
 
--- One span that goes over the end of the day or of the week: it begins as the last of these and ends as the first.
+-- The one span that goes over the end of the day or of the week, in place of the last and the first of these: it begins
+-- as the last does and ends as the first does.
 abbrev pub over_end : List Round → Round
 over_end rounds = record { from = (last_of rounds).from; last = (first_of rounds).last }
 
@@ -51,7 +52,7 @@ abbrev pub joined : (end : ℕ) → List Round → List Round
 joined end rounds = if goes_round end rounds then drop 1 (slice_set rounds (length rounds - 1) (over_end rounds))
     else rounds
 
--- The comma and blank before span number k of a text; nothing before the first, number 0.
+-- The comma and blank before number k of the spans that are told in a text; nothing before the first, number 0.
 abbrev pub comma : (k : ℕ) → List ℕ
 comma zero = []
 comma (suc k) = codes ", "
@@ -61,7 +62,7 @@ comma (suc k) = codes ", "
 abbrev pub round_text : (daily : Bool) → Round → List ℕ
 round_text daily round = span_text daily (min round.from 604799) (min round.last 604799)
 
--- The end of a list of spans of which not all are told: ` and N more`.
+-- The end of a list of spans of which only some are told: ` and N more`, where N is how many are left.
 abbrev pub more_text : ℕ → List ℕ
 more_text count = codes " and " ++ (decimal count ++ codes " more")
 
@@ -73,7 +74,8 @@ rounds_text daily k (round ∷ rounds) =
     if nat_eq k 8 then more_text (length (round ∷ rounds))
     else (comma k ++ round_text daily round) ++ rounds_text daily (k + 1) rounds
 
--- The second at which what comes back ends: 86400 for what is the same on each day, or 604800 for the week.
+-- After how many seconds the times that are told come again: 86400 if they are the same on each day (`daily`), and else
+-- 604800, a week.
 abbrev pub end_of_round : (daily : Bool) → ℕ
 end_of_round daily = if daily then 86400 else 604800
 

@@ -13,13 +13,13 @@ pub record IsLooked (looked : Looked) : Type 0 where
   pub holes : IsTableOf (λ at. not (some_case_holds (map view_shared looked.preds.now) at)) looked.seen.holes.items
   pub fates : AreFates (map view_shared looked.preds.now) looked.sure.items looked.seen.fates.items
 
--- This answer stands at this place, counted from 0, of the kept answers.
+-- This answer, what was found out about a `switch`, stands at this place, from 0, of the answers kept so far.
 pub record IsAt (kept : List Looked) (place : ℕ) (looked : Looked) : Type 0 where
   pub here : place < length kept
   pub there : looked ≡ get_or kept place looked
 
--- The kept answer at this place is right, and is about a `switch` with just these predicates and flags (`sure`: its
--- source never falls silent).
+-- The kept answer at this place is right, and is about a `switch` with just these predicates and flags, so that it can
+-- be used again. A flag of `sure` says that the source of a case never falls silent.
 pub record IsLookedAt (kept : List Looked) (place : ℕ) (preds : List Predicate) (sure : List Bool) : Type 0 where
   pub looked : Looked
   pub at : IsAt kept place looked

@@ -12,8 +12,8 @@ is_in at span = nat_le span.from at && nat_lt at span.to
 abbrev pub is_in_some : List Span → (at : ℕ) → Bool
 is_in_some spans at = list_any (is_in at) spans
 
--- These spans are in order and apart: the first begins at `low` or later, none is empty, and a second lies between each
--- and the next.
+-- These spans are in order and do not touch: the first begins at `low` or later, none is empty, and a second at least
+-- lies between each and the next.
 abbrev pub AreApart : (low : ℕ) → List Span → Type 0
 AreApart low [] = ⊤
 AreApart low (span ∷ spans) = (low ≤ span.from) × (span.from < span.to) × AreApart (suc span.to) spans
@@ -25,7 +25,8 @@ pub record AreSpansOf (test : ℕ → Bool) (spans : List Span) : Type 0 where
   pub apart : AreApart 0 spans
   pub within : All (λ span. span.to ≤ 604800) spans
 
--- Whether some predicate of a `switch` holds at this second of the week, so that it may play a case.
+-- Whether the predicate of some case of a `switch` holds at this second of the week, so that the switch may play that
+-- case.
 abbrev pub some_case_holds : List Predicate → (at : ℕ) → Bool
 some_case_holds preds at = list_any (λ pred. holds pred at) preds
 
@@ -33,11 +34,12 @@ some_case_holds preds at = list_any (λ pred. holds pred at) preds
 abbrev pub AreHoles : List Predicate → List Span → Type 0
 AreHoles preds spans = AreSpansOf (λ at. not (some_case_holds preds at)) spans
 
--- The test of seconds of the week has this answer for each second from `from` up to `to`, without `to`.
+-- The test of seconds of the week has the same `answer` for each second from `from` on and before `to`.
 abbrev pub IsFor : (ℕ → Bool) → (from to : ℕ) → Bool → Type 0
 IsFor test from to answer = (at : ℕ) → from ≤ at → at < to → test at ≡ answer
 
--- These spans, and behind them one from the second `from` up to `to`, unless it is empty.
+-- These spans, and behind them one more that begins at second `from` and ends before `to`; none more where that is
+-- empty.
 abbrev pub with_span : List Span → (from to : ℕ) → List Span
 with_span spans from to = if nat_lt from to then spans ++ record { from = from; to = to } ∷ [] else spans
 

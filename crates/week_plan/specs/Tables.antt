@@ -23,8 +23,8 @@ pub record IsTableOf (test : ℕ → Bool) (words : List ℕ) : Type 0 where
   pub table : IsTable words
   pub same : (at : ℕ) → at < 604800 → is_told words at ≡ test at
 
--- Whether a second is in the set that two tables make together, by whether it is in each: in both, in either, or in the
--- first without the other.
+-- Whether a second is in the set that two tables make together, by whether it is in the `one` and in the `other`: in
+-- both, in either, or in the one without the other.
 abbrev pub joined : Way → (one other : Bool) → Bool
 joined Both one other = one && other
 joined Either one other = one || other
