@@ -17,18 +17,22 @@ use Rattle.typing_rules.specs.Scripts.{Entry, Targets, Places, def_token, sight}
 use Rattle.typing_rules.specs.Scripts as entry
 use Rattle.typing_rules.specs.Kinds.{kinds_of}
 
--- a kind of a use in the text of a def: over variables, or an open kind of the def by its number
+-- A kind (mono or stereo) at which the text of a def uses a name. `of_term` is a kind over the variables of
+-- unification. `of_def` is a kind that the def's type was generalised over, by its number: each call of the def gives
+-- it anew.
 pub data Pending : Type 0 where
   of_term : KindTerm → Pending
   of_def : ℕ → Pending
 
--- a use of a name in the text of a def: its token, what it means, and its kinds
+-- a use of a name in the text of a def: the index of its token (`at`), what the name means (`target`), and the kinds at
+-- which its type is instantiated there
 pub record TextUse : Type 0 where
   pub at : ℕ
   pub target : Target
   pub kinds : List Pending
 
--- a use of a name in the expression that is being typed: its token, what it means, and its kinds
+-- a use of a name in the expression whose type is being inferred: the index of its token (`at`), what the name means
+-- (`target`), and the kinds, over variables, at which its type is instantiated there
 pub record Found : Type 0 where
   pub at : ℕ
   pub target : Target
@@ -39,8 +43,8 @@ pub data Known : Type 0 where
   value : ℕ → Term → Known
   function : Tree ADef → List TextUse → Known
 
--- What is seen: what names mean, what statements have bound, the newest first, and the parameters and inner bindings of
--- the def around.
+-- What an expression sees in inference: what names mean (`targets`), what statements have bound, the newest first
+-- (`before`), and the parameters and inner bindings of the def around it, each with its type by its token (`inner`).
 pub record Env : Type 0 where
   pub targets : Targets
   pub before : List Known
@@ -76,11 +80,12 @@ abbrev pub settled : Assignment → Pending → KindOf
 settled a (of_term k) = Fixed (kind_meaning a k)
 settled a (of_def j) = Given j
 
--- a use of a name in the text of a def, once the variables have their values by the assignment
+-- a use of a name in the text of a def, once the variables have their values by the assignment a
 abbrev pub settled_use : Assignment → TextUse → Use
 settled_use a u = record { at = u.at; target = u.target; kinds = map (settled a) u.kinds }
 
--- what statements have bound under an assignment: values with their types, and defs
+-- what statements have bound, once the variables have their values by the assignment a: values with their types, and
+-- defs
 abbrev pub entries_under : Assignment → List Known → List Entry
 entries_under a [] = []
 entries_under a (value t u ∷ ks) = entry.value t (meaning a u) ∷ entries_under a ks
@@ -90,7 +95,8 @@ entries_under a (function d us ∷ ks) = entry.function d ∷ entries_under a ks
 abbrev pub types_under : Assignment → List (ℕ × Term) → TypesByToken
 types_under a ts = map (λ x. (x.0, meaning a x.1)) ts
 
--- what an expression sees under an assignment, with these kinds at the places
+-- what an expression sees, once the variables have their values by the assignment a; `kinds` has the kinds that stand
+-- at the places of the uses of names
 abbrev pub sight_under : Env → Assignment → Places → Sight
 sight_under env a kinds = within (types_under a env.inner) (sight env.targets kinds (entries_under a env.before) [])
 
@@ -100,28 +106,32 @@ sight_under env a kinds = within (types_under a env.inner) (sight env.targets ki
 abbrev pub Texts : Type 0
 Texts = List (ℕ × List Use)
 
--- the uses in the texts of the defs under an assignment, each text by the token of its def
+-- the uses in the texts of the defs, once the variables have their values by the assignment a; each text stands under
+-- the token of its def's name
 abbrev pub texts_under : Assignment → List Known → Texts
 texts_under a [] = []
 texts_under a (value t u ∷ ks) = texts_under a ks
 texts_under a (function d us ∷ ks) = (def_token d, map (settled_use a) us) ∷ texts_under a ks
 
--- A use of a name at token `at`, reached by a chain of calls, has the open kinds ks at its place: a builtin's are
--- these, a call of a def has them and goes on to the places of its text (by `calls`), and a value has none.
+-- A use of a name at token `at` has the kinds ks in `kinds`, which has kinds for each place: a token with the `chain`
+-- of calls that led there. A builtin has ks at its place. A call of a def has kinds there, and goes on into the def's
+-- text, by `calls`. A value has none.
 abbrev pub Takes : (List ℕ → ℕ → List Kind → Type 0) → Places → List ℕ → ℕ → Target → List Kind → Type 0
 Takes calls kinds chain at (target.Slot t) ks = ⊤
 Takes calls kinds chain at (target.Def t) ks = (js : List Kind) × (kinds chain at ≡ Some js) × calls (at ∷ chain) t ks
 Takes calls kinds chain at (target.Builtin b) ks = kinds chain at ≡ Some ks
 
--- Each use in the text of a def has its kinds at its place, reached by a chain of calls, where the open kinds of the
--- def are `given`; `calls` says what a call of a def asks for.
+-- Each use in the text of a def has its kinds at its place in `kinds`: its token, reached by the `chain` of calls.
+-- `given` has the kinds that this call gives for those over which the def's type is general. `calls` says what a call
+-- of a def asks for.
 abbrev pub TextTakes : (List ℕ → ℕ → List Kind → Type 0) → Places → List ℕ → List Kind → List Use → Type 0
 TextTakes calls kinds chain given [] = ⊤
 TextTakes calls kinds chain given (u ∷ us) = ((ks : List Kind) × (kinds_of given u.kinds ≡ Some ks)
     × Takes calls kinds chain u.at u.target ks) × TextTakes calls kinds chain given us
 
--- A call of the def at token t, at the end of this chain of calls, has the open kinds ks: the places in the text of
--- the def have the kinds of its uses. A def that is not among the texts cannot be called.
+-- A call of the def at token t, by this `chain` of calls, gives ks for the kinds over which the def's type is general:
+-- the uses in the text of the def have their kinds at their places in `kinds`. A def that is not among the texts cannot
+-- be called.
 abbrev pub CallTakes : Texts → Places → List ℕ → ℕ → List Kind → Type 0
 CallTakes [] kinds chain t ks = ⊥
 CallTakes (x ∷ xs) kinds chain t ks =
@@ -130,7 +140,8 @@ CallTakes (x ∷ xs) kinds chain t ks =
       | false ↦ CallTakes xs kinds chain t ks
     ]
 
--- each use that was found has its kinds at its place, at the assignment a; xs has the uses in the texts of the defs
+-- Each use that inference has found has its kinds, once the variables have their values by the assignment a, at its
+-- place in `kinds`. xs has the uses in the texts of the defs, which a call goes into.
 abbrev pub EachTakes : Texts → Places → Assignment → List Found → Type 0
 EachTakes xs kinds a [] = ⊤
 EachTakes xs kinds a (f ∷ fs) = Takes (CallTakes xs kinds) kinds [] f.at f.target (map (kind_meaning a) f.kinds)
