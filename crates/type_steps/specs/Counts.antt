@@ -9,18 +9,19 @@ use Rattle.typing_rules.specs.Table.{signature}
 use Rattle.type_instances.specs.Schemes.{Scheme, open_numbers}
 use Rattle.type_steps.specs.Environment.{Found, Known, Pending, TextUse, function, of_def, of_term, value}
 
--- the number of an open kind in the text of a def, one that each call gives, as a list; empty for a kind that is a
--- term
+-- The number of a kind that each call of a def gives anew (an open kind), as a list. The list is empty for a kind that
+-- is a term over the variables of unification.
 abbrev pub open_in : Pending → List ℕ
 open_in (of_term k) = []
 open_in (of_def j) = j ∷ []
 
--- the numbers of the open kinds in a text, in its order
+-- the numbers of the open kinds (those that each call of the def gives anew) in the text of a def, in the order of its
+-- uses
 abbrev pub opens_in : List TextUse → List ℕ
 opens_in us = flat_map (λ u. flat_map open_in u.kinds) us
 
--- how many open kinds the text of a def has, if each new one has the next number; nothing if they are numbered
--- otherwise
+-- how many open kinds (those that each call gives anew) the text of a def has, if they are numbered from 0 on as they
+-- first come; nothing if they are numbered otherwise
 abbrev pub text_count : List TextUse → Option ℕ
 text_count us = numbered_on 0 (opens_in us)
 
