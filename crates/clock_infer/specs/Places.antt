@@ -16,7 +16,7 @@ place_of nodes (Some (Id k)) = Main (id_at nodes k)
 place_of nodes (Some (Sub k)) = Under k
 place_of nodes (Some AnyMain) = Main (codes "main")
 
--- the clock of node i: the first that a node or sink asks for, for any node of its group; `group` has for each node the
--- least of those with which it shares a clock
+-- the clock of node i: the first that a node or sink asks for, for any node of its group, and else "main"; `group` has
+-- for each node the least of those with which it shares a clock
 abbrev pub clock_by : Plan → (group : ℕ → ℕ) → ℕ → Place
 clock_by plan group i = place_of plan.nodes (first_of (forced_on group (group i) (forcings plan)))

@@ -23,7 +23,7 @@ terms_before [] = []
 terms_before (value t u ∷ ks) = u ∷ terms_before ks
 terms_before (function d us ∷ ks) = terms_before ks
 
--- h are exactly the type variables that the types of the bound values (`before`) hold, so that a def's type may not be
+-- h are exactly the variables that the types of the bound values (`before`) hold, so that a def's type may not be
 -- generalised over them. The texts of the defs hold no others: where two solutions of s give the values the same types,
 -- the texts have the same uses.
 pub record HoldsBefore (s : Table) (before : List Known) (h : HeldVariables) : Type 0 where

@@ -114,8 +114,8 @@ texts_under a (value t u ∷ ks) = texts_under a ks
 texts_under a (function d us ∷ ks) = (def_token d, map (settled_use a) us) ∷ texts_under a ks
 
 -- A use of a name at token `at` has the kinds ks in `kinds`, which has kinds for each place: a token with the `chain`
--- of calls that led there. A builtin has ks at its place. A call of a def has kinds there, and goes on into the def's
--- text, by `calls`. A value has none.
+-- of calls that led there. A builtin has ks at its place. A call of a def has some kinds there, and goes on into the
+-- def's text, by `calls`. A value has none.
 abbrev pub Takes : (List ℕ → ℕ → List Kind → Type 0) → Places → List ℕ → ℕ → Target → List Kind → Type 0
 Takes calls kinds chain at (target.Slot t) ks = ⊤
 Takes calls kinds chain at (target.Def t) ks = (js : List Kind) × (kinds chain at ≡ Some js) × calls (at ∷ chain) t ks
