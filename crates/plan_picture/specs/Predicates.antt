@@ -18,12 +18,12 @@ mark_text mark = (part_text mark.day (codes "w") ++ part_text mark.hour (codes "
 abbrev pub interval_text : TimeMark → TimeMark → List ℕ
 interval_text from to = mark_text from ++ (codes "-" ++ mark_text to)
 
--- the bracket before the parts of a predicate that stands within another
+-- the bracket before a predicate made of several parts, if it stands within another predicate; else nothing
 abbrev pub opening : (within : Bool) → List ℕ
 opening true = codes "("
 opening false = []
 
--- the bracket after the parts of a predicate that stands within another
+-- the bracket behind a predicate made of several parts, if it stands within another predicate; else nothing
 abbrev pub closing : (within : Bool) → List ℕ
 closing true = codes ")"
 closing false = []

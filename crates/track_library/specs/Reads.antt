@@ -47,6 +47,7 @@ NodesRead rules files (node ∷ nodes) (Ok (walked, leaves)) read =
     LeafReads rules files node.op walked read
     ⊎ NodesRead rules files nodes (node_next rules files node (Ok (walked, leaves))) read
 
--- the loading of the audio files of a plan with these nodes reads the file `read`, once and before any fault
+-- the loading of the audio files of a plan with these nodes reads the file `read`, as far as it goes: before its first
+-- fault, or where that arises
 abbrev pub LoadReads : Rules → Files → List Node → List ℕ → Type 0
 LoadReads rules files nodes read = NodesRead rules files nodes (Ok (nothing_met, [])) read

@@ -83,15 +83,16 @@ pub record Keeps (rules : Rules) (told : Option Files) (old new : AudioFiles) : 
   pub same : new.keeps ≡ old.keeps
   pub kept : IsKept rules told old → IsKept rules told new
 
--- From `old` to `new`, two states of the audio files met, a name was looked up: no file was taken away. What the name
--- was `found` to be is a fault, or the number of a file that is used.
+-- From `old` to `new`, two states of the audio files met, a name was looked up: there are no fewer files than before.
+-- What the name was `found` to be is a fault, or the number of a file that is used.
 pub record Finds (old new : Heard) (found : Result ℕ Unusable) : Type 0 where
   pub heard : IsHeard new
   pub grew : length old.titles ≤ length new.titles
   pub number : IfOk found (λ number. number < length new.titles)
 
--- From `old` to `new`, two states of the audio files met, the files of one node were looked up: no file was taken away.
--- `leaf` has the numbers of the files that the node plays, each that of a file that is used, fewer than 2^32.
+-- From `old` to `new`, two states of the audio files met, the files of one node were looked up: there are no fewer
+-- files than before. `leaf` has the numbers of the files that the node plays, each that of a file that is used, fewer
+-- than 2^32.
 pub record Plays (old new : Heard) (leaf : List ℕ) : Type 0 where
   pub heard : IsHeard new
   pub grew : length old.titles ≤ length new.titles
