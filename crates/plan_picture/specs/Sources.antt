@@ -42,8 +42,8 @@ size_words plan buffer = option_map_or (λ size. prefill size plan.rate) (slice_
 abbrev pub reader_words : Plan → (buffer : ℕ) → List ℕ
 reader_words plan buffer = (codes "buffer " ++ decimal buffer) ++ size_words plan buffer
 
--- what stands in the box of source k of the plan: its operator, and below it the file that it plays, or the number by
--- which it works
+-- what stands in the box of source k of the plan: its operator, and below it the file that it plays, the number by
+-- which it works, or how it was set
 abbrev pub words : Plan → (k : ℕ) → Op → List ℕ
 words plan k (Single file) = codes "single\\n" ++ escaped file
 words plan k (Playlist file again) = playlist_words again ++ escaped file

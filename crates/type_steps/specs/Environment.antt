@@ -74,8 +74,8 @@ term_seen t env = or_else (term_at t env.inner) (term_before t env.before)
 
 -- ---- what is seen, under an assignment to the variables
 
--- a kind of a use in the text of a def, once the variables have their values: a fixed kind, or still the number of an
--- open kind of the def
+-- A kind of a use in the text of a def, once the variables have their values by the assignment a. It is fixed, or still
+-- the number of a kind that each call of the def gives anew.
 abbrev pub settled : Assignment → Pending → KindOf
 settled a (of_term k) = Fixed (kind_meaning a k)
 settled a (of_def j) = Given j
@@ -147,11 +147,14 @@ EachTakes xs kinds a [] = ⊤
 EachTakes xs kinds a (f ∷ fs) = Takes (CallTakes xs kinds) kinds [] f.at f.target (map (kind_meaning a) f.kinds)
     × EachTakes xs kinds a fs
 
--- the kinds that stand at the places of the uses fs are those that inference found for them, at the assignment a
+-- The uses fs of names have the kinds that inference found for them at their places in `kinds`, once the variables have
+-- their values by the assignment a. A place is a token with the calls that led there; env has the defs whose texts
+-- calls go into.
 abbrev pub AreFound : Env → Assignment → Places → List Found → Type 0
 AreFound env a kinds fs = EachTakes (texts_under a env.before) kinds a fs
 
--- the uses found so far with one more behind them: of the name at token `at`, which means t, with the kinds ks
+-- the uses of names found so far (fs) with one more behind them: of the name at token `at`, which means t, with the
+-- kinds ks at which its type is instantiated
 abbrev pub with_use : List Found → ℕ → Target → List KindTerm → List Found
 with_use fs at t ks = fs ++ record { at = at; target = t; kinds = ks } ∷ []
 
@@ -166,38 +169,41 @@ abbrev pub AreKindsOver : Table → List KindTerm → Type 0
 AreKindsOver s [] = ⊤
 AreKindsOver s (k ∷ ks) = IsKindOver s k × AreKindsOver s ks
 
--- the kinds of each use that was found have only variables of the substitution
+-- the kinds of each use of a name that inference has found have only variables of the substitution s
 abbrev pub AreUsesOver : Table → List Found → Type 0
 AreUsesOver s [] = ⊤
 AreUsesOver s (f ∷ fs) = AreKindsOver s f.kinds × AreUsesOver s fs
 
--- a kind of a use in a def's text has only variables of the substitution; an open kind has none
+-- A kind of a use in a def's text has only variables of the substitution s. A kind that each call of the def gives anew
+-- has none.
 abbrev pub IsPendingOver : Table → Pending → Type 0
 IsPendingOver s (of_term k) = IsKindOver s k
 IsPendingOver s (of_def j) = ⊤
 
--- each of these kinds of a use in a def's text has only variables of the substitution
+-- each of these kinds of a use in a def's text has only variables of the substitution s
 abbrev pub ArePendingOver : Table → List Pending → Type 0
 ArePendingOver s [] = ⊤
 ArePendingOver s (k ∷ ks) = IsPendingOver s k × ArePendingOver s ks
 
--- the kinds of each use in a text have only variables of the substitution
+-- the kinds of each use of a name in the text of a def have only variables of the substitution s
 abbrev pub IsTextOver : Table → List TextUse → Type 0
 IsTextOver s [] = ⊤
 IsTextOver s (u ∷ us) = ArePendingOver s u.kinds × IsTextOver s us
 
--- the types of values and the kinds in the texts of defs have only variables of the substitution
+-- the types of the values, and the kinds in the texts of the defs, that statements have bound have only variables of
+-- the substitution s
 abbrev pub AreKnownOver : Table → List Known → Type 0
 AreKnownOver s [] = ⊤
 AreKnownOver s (value t u ∷ ks) = IsOver s u × AreKnownOver s ks
 AreKnownOver s (function d us ∷ ks) = IsTextOver s us × AreKnownOver s ks
 
--- the types of parameters and inner bindings have only variables of the substitution
+-- the types of parameters and inner bindings have only variables of the substitution s
 abbrev pub AreTypesOver : Table → List (ℕ × Term) → Type 0
 AreTypesOver s [] = ⊤
 AreTypesOver s (x ∷ xs) = IsOver s x.1 × AreTypesOver s xs
 
--- all types and kinds that are seen have only variables of the substitution
+-- all types and kinds that an expression sees have only variables of the substitution s, so that the substitution has a
+-- value for each
 pub record IsEnvOver (s : Table) (env : Env) : Type 0 where
   pub before : AreKnownOver s env.before
   pub inner : AreTypesOver s env.inner

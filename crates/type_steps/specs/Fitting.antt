@@ -12,8 +12,8 @@ use Rattle.type_steps.specs.declared.arguments.Argument.{Argument}
 abbrev pub seen_argument : Argument → GivenArgument ℕ
 seen_argument g = (seen_label g.label, g.var)
 
--- The parameter p, whose type is t, takes what a call gives for it: an argument of this type, or no argument, where the
--- parameter has a default or otherwise needs none.
+-- The parameter p, whose type is t, takes what a call gives for it: an argument of this type, or no argument, if the
+-- parameter has a default.
 abbrev pub FitsOne : Parameter → Option Ground → Ground → Type 0
 FitsOne p None t = is_needed p.form ≡ false
 FitsOne p (Some g) t = g ≡ t

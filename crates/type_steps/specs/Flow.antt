@@ -22,18 +22,18 @@ pub record Reached (s s' : Table) (a : Assignment) (Q : Assignment → Type 0) :
   pub agrees : Agrees s a at
   pub holds : Q at
 
--- what inference found of an expression is right at assignment b: its term u means the type g, and the uses fs of
--- names in it have the kinds that stand at the places
+-- What inference found of an expression is right, once the variables have their values by the assignment b: its type
+-- term u means the type g. The uses fs of names in it have the kinds that stand in `kinds` at their places.
 abbrev pub FoundAs : Env → Places → Term → Ground → List Found → Assignment → Type 0
 FoundAs env kinds u g fs b = (meaning b u ≡ g) × AreFound env b kinds fs
 
--- the uses fs of names that inference has found are right at assignment b: they have the kinds that stand at the
--- places
+-- The uses fs of names that inference has found are right, once the variables have their values by the assignment b:
+-- they have the kinds that stand in `kinds` at their places.
 abbrev pub Uses : Env → Places → List Found → Assignment → Type 0
 Uses env kinds fs b = AreFound env b kinds fs
 
--- what inference found of several expressions is right at assignment b: their terms us mean the types gs, and the uses
--- fs of names in them have the kinds that stand at the places
+-- What inference found of several expressions is right, once the variables have their values by the assignment b: their
+-- type terms us mean the types gs. The uses fs of names in them have the kinds that stand in `kinds` at their places.
 abbrev pub AllAs : Env → Places → Terms → Grounds → List Found → Assignment → Type 0
 AllAs env kinds us gs fs b = (meanings b us ≡ gs) × AreFound env b kinds fs
 
@@ -50,7 +50,8 @@ pub record Infers (s s' : Table) (env : Env) {r : Sort} (e : Tree r) (u : Term) 
       → AreFound env a kinds old →
       Reached s s' a (FoundAs env kinds u g new)
 
--- at no solution of s, with kinds at the places as the old uses say, the expression has a type
+-- The expression e has no type at any solution of the substitution s, whatever kinds stand at the places of its uses of
+-- names. The uses found before it (`old`) have their kinds there.
 abbrev pub HasNoType : Table → Env → {r : Sort} → Tree r → List Found → Type 0
 HasNoType s env e old = (a : Assignment) → Solves a s → (kinds : Places) (g : Ground)
     → Has (sight_under env a kinds) e g → AreFound env a kinds old → ⊥
@@ -68,7 +69,8 @@ pub record InfersEach (s s' : Table) (env : Env) {r : Sort} (es : Tree (Many r))
       → AreFound env a kinds old →
       Reached s s' a (Uses env kinds new)
 
--- at no solution of s, with kinds at the places as the old uses say, these expressions all have the type u
+-- These expressions do not all have the type u at any solution of the substitution s, whatever kinds stand at the
+-- places of their uses of names. The uses found before them (`old`) have their kinds there.
 abbrev pub HaveNoType : Table → Env → {r : Sort} → Tree (Many r) → Term → List Found → Type 0
 HaveNoType s env es u old = (a : Assignment) → Solves a s → (kinds : Places)
     → EachHas (sight_under env a kinds) es (meaning a u) → AreFound env a kinds old → ⊥
@@ -87,7 +89,8 @@ pub record InfersAll (s s' : Table) (env : Env) (es : Tree (Many AFull)) (us : T
         → HaveAll (sight_under env a kinds) es gs → AreFound env a kinds old →
         Reached s s' a (AllAs env kinds us gs new)
 
--- at no solution of s, with kinds at the places as the old uses say, these expressions all have types
+-- These expressions do not all have types at any solution of the substitution s, whatever kinds stand at the places of
+-- their uses of names. The uses found before them (`old`) have their kinds there.
 abbrev pub HaveNoTypes : Table → Env → Tree (Many AFull) → List Found → Type 0
 HaveNoTypes s env es old = (a : Assignment) → Solves a s → (kinds : Places) (gs : Grounds)
     → HaveAll (sight_under env a kinds) es gs → AreFound env a kinds old → ⊥
@@ -96,8 +99,9 @@ HaveNoTypes s env es old = (a : Assignment) → Solves a s → (kinds : Places) 
 abbrev pub given_under : Assignment → List (GivenArgument ℕ) → List (GivenArgument Ground)
 given_under a gs = map (λ g. (g.0, a.type_of g.1)) gs
 
--- what inference found of a call's arguments is right at assignment b: their variables, gs, mean the types in hs, and
--- the uses fs of names in them have the kinds that stand at the places
+-- What inference found of a call's arguments is right, once the variables have their values by the assignment b: their
+-- type variables gs mean the types in hs. The uses fs of names in them have the kinds that stand in `kinds` at their
+-- places.
 abbrev pub GivenAs : Env → Places → List (GivenArgument ℕ) → List (GivenArgument Ground) → List Found → Assignment
     → Type 0
 GivenAs env kinds gs hs fs b = (given_under b gs ≡ hs) × AreFound env b kinds fs
@@ -121,7 +125,8 @@ pub record InfersGiven (s s' : Table) (env : Env) (es : Tree (Many AnArg)) (gs :
       → AreGiven (sight_under env a kinds) es hs → AreFound env a kinds old →
       Reached s s' a (GivenAs env kinds gs hs new)
 
--- at no solution of s, with kinds at the places as the old uses say, these arguments all have types
+-- These arguments of a call do not all have types at any solution of the substitution s, whatever kinds stand at the
+-- places of their uses of names. The uses found before them (`old`) have their kinds there.
 abbrev pub HaveNoGiven : Table → Env → Tree (Many AnArg) → List Found → Type 0
 HaveNoGiven s env es old = (a : Assignment) → Solves a s → (kinds : Places) (hs : List (GivenArgument Ground))
     → AreGiven (sight_under env a kinds) es hs → AreFound env a kinds old → ⊥
@@ -225,7 +230,7 @@ abbrev pub AreGivenOf : Table → Table → Env → Tree (Many AnArg) → List F
 AreGivenOf s s' env es old new None = HaveNoGiven s env es old
 AreGivenOf s s' env es old new (Some gs) = InfersGiven s s' env es gs old new
 
--- the number n of a type variable, as a step answers it that went well; nothing where it did not
+-- the number n of a type variable, as a step answers it that succeeded; nothing where the step did not
 abbrev pub if_yes : Bool → ℕ → Option ℕ
 if_yes true n = Some n
 if_yes false n = None
