@@ -15,7 +15,8 @@ use Rattle.clock_ticks.specs.Pieces.{GotBetween, GotPieces, RoseAt}
 use Rattle.buffer_ends.specs.declared.run_end.End.{End}
 use Rattle.buffer_ends.specs.declared.run_end.End.TheVariants.{Write, Memory as NoMemory}
 
--- the setting of a run in which each buffer answers what these calls got from it, and then what `rest` has for it
+-- the setting of a run (plan, files, clocks, start and the buffers' answers) in which each buffer answers what these
+-- calls got from it, and then what `rest` has for it
 abbrev pub world : Setting → List Call → (rest : ℕ → List Answer) → Setting
 world setting calls rest = with_rest setting (λ buffer. answers_in buffer calls) rest
 
@@ -167,7 +168,7 @@ pub record RoundsStopped {S : Type 0} (told : S → SinkTold) (got : List Call �
       first now
   pub cause : (end ≡ NoMemory) ⊎ IsWriteEnd told clock first now end
 
--- none of these engines keeps its marks, the places at which its tracks begin
+-- none of these engines keeps a list of the places at which its tracks begin, as is needed for a cue file
 pub record KeepNone {S : Type 0} (engines : List (ClockEngine S)) : Type 0 where
   pub each : (k : ℕ) (engine : ClockEngine S) → slice_get engines k ≡ Some engine → engine.parts.cues.keeping ≡ true → ⊥
 

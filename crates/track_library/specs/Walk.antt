@@ -92,7 +92,8 @@ abbrev pub count_of : {S : Type 0} → Result (S × ℕ) Unusable → Result ℕ
 count_of (Err fault) = Err fault
 count_of (Ok audio) = Ok audio.1
 
--- the sounds of the audio files of these names
+-- the sounds of the audio files of these names, at the rate of the rules, in order; no sound in place of a file that
+-- cannot be used
 abbrev pub sounds_named : Rules → Files → List (List ℕ) → List Sound
 sounds_named rules files names = map (λ name. sound_from (audio_at rules files name)) names
 
@@ -174,7 +175,7 @@ entry_next rules files name (Err fault) = Err fault
 entry_next rules files name (Ok (heard, leaf)) = entry_played leaf (use_audio rules files heard name)
 
 -- The files met, and the leaf of a playlist (the numbers of the files that it plays), after these entries of its list,
--- one after another.
+-- one after another. `played` has both before the first of them, or a fault, which stays.
 abbrev pub entries_played : Rules → Files → List (List ℕ) → Result (Heard × List ℕ) LoadFault
     → Result (Heard × List ℕ) LoadFault
 entries_played rules files [] played = played
@@ -235,19 +236,21 @@ leaf_of rules files (Playlist name again) walked = playlist_leaf rules files wal
     (use_list files walked.lists name)
 leaf_of rules files _ walked = Ok (walked, [])
 
--- adds the leaf of the next node (the numbers of the files that it plays) behind the leaves of the earlier nodes
+-- adds the leaf of the next node (the numbers of the files that it plays) behind `leaves`, those of the earlier nodes;
+-- a fault at the node stays
 abbrev pub leaf_added : List (List ℕ) → Result (Walked × List ℕ) LoadFault → Result (Walked × List (List ℕ)) LoadFault
 leaf_added leaves (Err fault) = Err fault
 leaf_added leaves (Ok (walked, leaf)) = Ok (walked, leaves ++ leaf ∷ [])
 
--- what was read, and the leaves of the nodes so far (for each the numbers of its files), after one more node of the
--- plan
+-- What was read, and the leaves of the nodes so far (for each the numbers of the files that it plays), after one more
+-- node of the plan. The last argument has both before the node, or a fault, which stays.
 abbrev pub node_next : Rules → Files → Node → Result (Walked × List (List ℕ)) LoadFault
     → Result (Walked × List (List ℕ)) LoadFault
 node_next rules files node (Err fault) = Err fault
 node_next rules files node (Ok (walked, leaves)) = leaf_added leaves (leaf_of rules files node.op walked)
 
--- what was read, and the leaves of the nodes (for each the numbers of its files), after these nodes, one after another
+-- What was read, and the leaves of the nodes (for each the numbers of the files that it plays), after these nodes, one
+-- after another. `walked` has both before the first of them, or a fault, which stays.
 abbrev pub nodes_walked : Rules → Files → List Node → Result (Walked × List (List ℕ)) LoadFault
     → Result (Walked × List (List ℕ)) LoadFault
 nodes_walked rules files [] walked = walked

@@ -85,7 +85,7 @@ seen_branches f g = (tt, (f, seen_otherwise g))
 abbrev pub chosen : ℕ → Reader (Tree AFull) → Reader (Tree AnIf)
 chosen at full w = both full (branches full) w >>= made (λ x. If at x.0 x.1.1.0 x.1.1.1.1.0)
 
--- the expression that was read, made a value: one that does not begin with a minus sign
+-- the expression that was read, made a value that does not begin with a minus sign
 abbrev pub as_plain : Read (Tree AnExpr) → Read (Tree AFull)
 as_plain read = read >>= made Plain
 
@@ -124,7 +124,7 @@ lone negated p = Plain (lone_expr negated p)
 abbrev pub paired : {A B : Type 0} → A → Read B → Read (A × B)
 paired first read = read >>= λ y. Ok ((first, y.0), y.1)
 
--- the comparison that was read, made a negation where a `not` stood before it (`negated`)
+-- the comparison that was read, as an operand of `and`: negated where a `not` stood before it (`negated`)
 abbrev pub behind_not : Bool → Read (Tree ACompare) → Read (Tree ANot)
 behind_not negated read = paired negated read >>= made (λ x. Not x.0 x.1)
 
