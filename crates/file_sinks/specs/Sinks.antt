@@ -13,7 +13,7 @@ faults_of sink = sink.to.faults
 abbrev pub taken_of : {W : Type 0} → FileSink W → ℕ
 taken_of sink = sink.taken
 
--- how many bytes the sink of a file is to take in all, as its creation was told
+-- how many bytes the sink of a file is to take in all, as was said when it was created
 abbrev pub room_of : {W : Type 0} → FileSink W → ℕ
 room_of sink = sink.room
 
@@ -21,8 +21,8 @@ room_of sink = sink.room
 abbrev pub kept_of : {W : Type 0} → FileSink W → List ℕ
 kept_of sink = writer_buffer sink.to.to
 
--- all bytes that the sink of a file took: those that its writer got and then those that it still keeps, where
--- `contents` tells what the writer got
+-- All bytes that the sink of a file took, where they are known: those that it handed on to its writer, and behind them
+-- those that it still keeps in memory. `contents` tells what a writer got, if that is known.
 abbrev pub tells_of : {W : Type 0} → (W → Option (List ℕ)) → FileSink W → Option (List ℕ)
 tells_of contents sink = writer_contents contents sink.to.to
 
@@ -38,10 +38,10 @@ capacity_of sink = writer_capacity sink.to.to
 abbrev pub place_of : {W : Type 0} → FileSink W → Place
 place_of sink = sink.place
 
--- the writer of a file that was written whole, all of whose bytes the system has made certain (synced to the disk)
+-- the writer of a file that was written whole and synced, so that all its bytes are certain to be on the disk
 abbrev pub certain_writer : {W : Type 0} → Certain W → W
 certain_writer certain = certain.writer
 
--- under which name the bytes of a file stand that was written whole and made certain: its own, or a temporary one
+-- under which name the bytes of a file stand that was written whole and synced to the disk: its own, or a temporary one
 abbrev pub certain_place : {W : Type 0} → Certain W → Place
 certain_place certain = certain.place

@@ -9,10 +9,12 @@ use Rattle.std.specs.declared.io.ErrorKind.TheVariants.{InvalidInput, Unsupporte
 abbrev pub SyncAnswer : Type 0
 SyncAnswer = Result (Unit {0}) ErrorKind
 
--- this refusal of a sync says that there is none for what is open, as a pipe, which told its faults by its writes
+-- this kind of error, with which a sync (to bring written bytes to the disk) was refused, says that what is open knows
+-- no sync, as a pipe; its faults showed in its writes
 abbrev pub SaysNoSync : ErrorKind → Type 0
 SaysNoSync kind = (kind ≡ InvalidInput) ⊎ (kind ≡ Unsupported)
 
--- after this answer to a sync the written bytes are certain: it went well, or what is open knows no sync
+-- after this answer to a sync the written bytes are as certain as the system can make them: it went well, or what is
+-- open, as a pipe, knows no sync
 abbrev pub MakesCertain : SyncAnswer → Type 0
 MakesCertain answer = IfErr answer SaysNoSync

@@ -10,22 +10,23 @@ use Rattle.refusal_lines.specs.Lines.{wav_number}
 use Rattle.station_facts.specs.Files.{wav_number as told_number}
 use Rattle.about_cli.specs.Told.{IsRefused, sizes}
 
--- the law that `liq` and `about` number the faults of WAV files alike: the number that `about` tells is that of line
--- E21
+-- the law that the two programs `liq` and `about` number the faults of WAV files alike: the number that `about` tells
+-- is the one in the line E21 of `liq`
 abbrev pub NumbersAgree : Type 0
 NumbersAgree = (fault : WavFault) → told_number fault ≡ wav_number fault
 
--- the law that `about` looks at audio files by the rules (rate and sizes) by which `liq` loads them
+-- the law that the program `about` looks at the audio files of a plan by the rules (rate, and how many bytes they may
+-- have) by which `liq` loads them
 abbrev pub RulesAgree : Type 0
 RulesAgree = (plan : Plan) → rules_for plan sizes ≡ rules_of plan
 
--- The law that a picture marks a refused output where there is one: if it marks none, there is no line E25. `mark`
--- says which sources always offer something.
+-- The law that the picture of a plan marks an output as refused (it may fall silent) if `liq` refuses one: if the
+-- picture marks none, there is no line E25. `mark` says which sources always offer something.
 abbrev pub NoneIsNone : Type 0
 NoneIsNone = (plan : Plan) (mark : ℕ → Bool) → IsRefused plan mark None → first_name (refuses mark) plan.sinks ≡ None
 
--- The law that the output k which a picture marks as refused is the one whose name stands in the line E25. `mark` says
--- which sources always offer something.
+-- The law that the output k, which the picture of a plan marks as refused (it may fall silent), is the one whose name
+-- stands in the line E25 of `liq`. `mark` says which sources always offer something.
 abbrev pub OutputsAgree : Type 0
 OutputsAgree = (plan : Plan) (mark : ℕ → Bool) (k : ℕ) (sink : SinkPlan) → IsRefused plan mark (Some k)
     → slice_get plan.sinks k ≡ Some sink → first_name (refuses mark) plan.sinks ≡ Some (sink_name sink)

@@ -23,7 +23,8 @@ use Rattle.script_places.specs.Naming.{IsNamed}
 use Rattle.script_places.specs.declared.named.Named.{Named}
 use Rattle.script_places.specs.declared.named.Named.TheVariants.{Byte, Token, Statement, Source, Clash, Text, Fallible}
 
--- The place that a fault tells by a name: the stretch of its line from the end of these words to the end of the name.
+-- The place that a fault tells by a name in its line, such as that of a file: the part of the line from the end of
+-- these words, with which it begins, to the end of the name.
 abbrev pub behind : List ℕ → List ℕ → Option Named
 behind words name = Some (Text (length words) (length words + length name))
 
@@ -92,7 +93,8 @@ place_of (SameFile name) = behind (codes "E18 two outputs ") name
 place_of (Station fault) = station_place fault
 place_of fault = None
 
--- the number in the place that a fault tells fits into 64 bits; a part of the line itself has no such bound
+-- the number in the place that a fault tells (of a byte, token, statement or source of the script) fits into 64 bits; a
+-- part of the fault's line has no such bound
 abbrev pub IsSmall : Named → Type 0
 IsSmall (Byte n) = n < 2 ^ 64
 IsSmall (Token n) = n < 2 ^ 64
@@ -102,7 +104,8 @@ IsSmall (Clash n) = n < 2 ^ 64
 IsSmall (Text from to) = ⊤
 IsSmall (Fallible from to) = ⊤
 
--- What a program reads out of a fault's line is this place, if its number is small; without a place, it reads none.
+-- What a program reads as a place out of the line of a fault is this one, provided that its number fits into 64 bits.
+-- If there is none, no place can be read out of the line.
 abbrev pub NamesIt : Option Named → List ℕ → Type 0
 NamesIt None line = (named : Named) → IsNamed line named → ⊥
 NamesIt (Some named) line = IsSmall named → IsNamed line named

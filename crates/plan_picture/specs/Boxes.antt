@@ -9,8 +9,8 @@ use Rattle.plan_blames.specs.Texts.{escaped, numbered}
 use Rattle.plan_picture.specs.Sources.{words}
 use Rattle.plan_blames.specs.Blames.{node_red, red_words}
 
--- the graphviz attribute for the border of a source's box: dashed where the source may offer nothing, and else as
--- usual
+-- the graphviz attribute for the border of a source's box: the usual one (no attribute) where the source always offers
+-- something (`infallible`), and else dashed
 abbrev pub border : (infallible : Bool) → List ℕ
 border true = []
 border false = codes ", style=\"filled,rounded,dashed\""
@@ -28,44 +28,51 @@ box_end infallible red = codes "\"" ++ (border infallible ++ (red_style red ++ c
 abbrev pub box_front : (k : ℕ) → List ℕ
 box_front k = (codes "n" ++ decimal k) ++ (codes " [label=\"" ++ decimal k ++ codes "  ")
 
--- the label of source k: what it does, and why it is red; `silent` says that the plan is refused for a silence
+-- The label of source k: what it does, and where it is red, why. `silent` says that the plan is refused since an output
+-- may fall silent; the result has the plan's clocks, or why it has none.
 abbrev pub box_label : Plan → (silent : Bool) → Result ClockMap ClockFault → (k : ℕ) → Node → (red : Bool) → List ℕ
 box_label plan silent clocks k node red = words plan k node.op ++ red_words silent red clocks k node
 
--- the box of source k; `silent` says that the plan is refused for a silence
+-- The graphviz text of the box of source k. It is red where the source is to blame for a fault, and `infallible` where
+-- it always offers something. `silent` says that the plan is refused since an output may fall silent; the result has
+-- the plan's clocks, or why it has none.
 abbrev pub node_box : Plan → (silent : Bool) → Result ClockMap ClockFault → (k : ℕ) → Node → (infallible red : Bool)
     → List ℕ
 node_box plan silent clocks k node infallible red = box_front k
     ++ (box_label plan silent clocks k node red ++ box_end infallible red)
 
--- the boxes of the sources, each once; `mark` says which always offer something, and `reds` which are red for a
--- silence, if the plan is refused for one (`silent`)
+-- The graphviz text of the boxes of the sources, each once. `mark` says which always offer something. If the plan is
+-- refused since an output may fall silent (`silent`), `reds` says which are to blame; the result has the plan's clocks,
+-- or why it has none.
 abbrev pub node_boxes : Plan → List Node → (mark : ℕ → Bool) → (silent : Bool) → (reds : List Bool)
     → Result ClockMap ClockFault → List ℕ
 node_boxes plan nodes mark silent reds clocks = numbered
     (λ k node. node_box plan silent clocks k node (mark k) (node_red silent reds clocks k node.op)) 0 nodes
 
--- the graphviz attributes of an output's box, which is drawn as a sheet of paper: dashed, if its source may offer
--- nothing
+-- the graphviz attributes of an output's box, which is drawn as a sheet of paper: dashed, unless its source always
+-- offers something (`infallible`)
 abbrev pub sheet : (infallible : Bool) → List ℕ
 sheet true = codes " [shape=note, margin=\"0.16,0.08\", style=\"filled\""
 sheet false = codes " [shape=note, margin=\"0.16,0.08\", style=\"filled,dashed\""
 
--- the words for an output that the script lets be fallible
+-- the words in the box of an output that the script lets be fallible, so that it may fall silent; none in that of
+-- another
 abbrev pub fallible_words : (fallible : Bool) → List ℕ
 fallible_words true = codes "\\nfallible"
 fallible_words false = []
 
--- the words for an output that was refused, since it may fall silent
+-- the words in the box of an output that was refused (`red`), since it may fall silent; none in that of another
 abbrev pub silence_words : (red : Bool) → List ℕ
 silence_words true = codes "\\nE25 may fall silent"
 silence_words false = []
 
--- the label of an output: its name, and what is said of it
+-- the label of an output: its name, whether the script lets it be fallible, and whether it was refused since it may
+-- fall silent (`red`)
 abbrev pub output_label : (name : List ℕ) → (fallible red : Bool) → List ℕ
 output_label name fallible red = escaped name ++ (fallible_words fallible ++ silence_words red)
 
--- the beginning of the graphviz text of the box of output k, up to its label
+-- the beginning of the graphviz text of the box of output k, up to its label: dashed unless its source always offers
+-- something (`infallible`), and red where the output was refused
 abbrev pub output_front : (k : ℕ) → (infallible red : Bool) → List ℕ
 output_front k infallible red = (codes "s" ++ decimal k) ++ (sheet infallible ++ red_style red)
 
@@ -75,6 +82,6 @@ abbrev pub output_box : (k : ℕ) → (name : List ℕ) → (fallible infallible
 output_box k name fallible infallible red = output_front k infallible red
     ++ (codes ", label=\"" ++ (output_label name fallible red ++ codes "\"];\n"))
 
--- whether a sink is the one that was refused
+-- whether the sink of number k is the one that was refused (`refused`), if any was
 abbrev pub is_refused : Option ℕ → (k : ℕ) → Bool
 is_refused refused k = option_map_or (λ sink. nat_eq sink k) refused false

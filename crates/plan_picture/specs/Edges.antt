@@ -28,8 +28,8 @@ abbrev pub place_label : (many : Bool) → (place : ℕ) → List ℕ
 place_label true place = codes "label=\" " ++ decimal (place + 1) ++ codes " \""
 place_label false place = []
 
--- an edge into a switch has its predicate, and any other its place where there are several; the order of a sum says
--- nothing
+-- The graphviz label of an edge into a source with this operator, from its child at this place of `count`. An edge into
+-- a switch shows the predicate, and any other the place where there are several; an edge into a sum shows nothing.
 abbrev pub edge_label : Op → (count place : ℕ) → List ℕ
 edge_label (Switch sensitive preds) count place = codes "label=\" " ++ (pred_at preds place ++ codes " \"")
 edge_label (Add normalize) count place = []
@@ -50,15 +50,16 @@ abbrev pub child_edge : Op → (count k child place : ℕ) → (red : Bool) → 
 child_edge op count k child place red = edge_ends child k
     ++ (codes " [" ++ (edge_label op count place ++ (edge_style red ++ codes "];\n")))
 
--- the edges from the children of source k; `reds` says which sources are red for a silence, if the plan is refused for
--- one (`silent`)
+-- The graphviz text of the edges to source k, whose operator is `op`, from its children. If the plan is refused since
+-- an output may fall silent (`silent`), `reds` says which sources are to blame; the result has the plan's clocks, or
+-- why it has none.
 abbrev pub child_edges : (silent : Bool) → (reds : List Bool) → Result ClockMap ClockFault → (k : ℕ) → Op
     → (children : List ℕ) → List ℕ
 child_edges silent reds clocks k op children = numbered
     (λ place child. child_edge op (length children) k child place (edge_red silent reds clocks k child)) 0 children
 
--- the edges between sources, each once; `reds` says which are red for a silence, if the plan is refused for one
--- (`silent`)
+-- The graphviz text of the edges between sources, each once. If the plan is refused since an output may fall silent
+-- (`silent`), `reds` says which sources are to blame; the result has the plan's clocks, or why it has none.
 abbrev pub node_edges : List Node → (silent : Bool) → (reds : List Bool) → Result ClockMap ClockFault → List ℕ
 node_edges nodes silent reds clocks = numbered (λ k node. child_edges silent reds clocks k node.op node.children) 0
     nodes
@@ -82,8 +83,8 @@ capacity plan size = (codes "  at most " ++ decimal size.capacity)
 abbrev pub buffer_label : Plan → (buffer : ℕ) → List ℕ
 buffer_label plan buffer = option_map_or (capacity plan) (slice_get plan.buffers buffer) []
 
--- The graphviz text of the thick edge through a buffer, from the source `node` that feeds it to source k, if k is its
--- reader; else nothing.
+-- The graphviz text of the thick edge through a buffer, from the source `node` that feeds it to source k, if k is the
+-- one that plays from it (`is_reader`); else nothing.
 abbrev pub through : (is_reader : Bool) → Plan → (buffer node k : ℕ) → List ℕ
 through true plan buffer node k = edge_ends node k
     ++ (codes " [style=bold, color=\"#7a4a00\", fontcolor=\"#7a4a00\", penwidth=2.5, label=\""
@@ -95,13 +96,14 @@ through false plan buffer node k = []
 abbrev pub feed_edges : Plan → List Node → (buffer node : ℕ) → List ℕ
 feed_edges plan nodes buffer node = numbered (λ k reader. through (reads reader.op buffer) plan buffer node k) 0 nodes
 
--- sink k: an output with the edge to it, or the edge of a feed through its buffer; `mark` says which sources always
--- offer something, and `refused` is the number of the sink that was refused
+-- The graphviz text of sink k: an output's box with the edge to it, or the edge of a feed through its buffer. `mark`
+-- says which sources always offer something, and `refused` is the number of the sink that was refused, if one was.
 abbrev pub sink_text : Plan → (mark : ℕ → Bool) → (refused : Option ℕ) → (k : ℕ) → SinkPlan → List ℕ
 sink_text plan mark refused k (Output name node fallible wide) = output_box k name fallible (mark node)
     (is_refused refused k) ++ output_edge k node (is_refused refused k)
 sink_text plan mark refused k (Feed buffer node) = feed_edges plan plan.nodes buffer node
 
--- the outputs with the edges to them, and the edges through buffers
+-- The graphviz text of the outputs with the edges to them, and of the edges through buffers. `mark` says which sources
+-- always offer something, and `refused` is the number of the sink that was refused, if one was.
 abbrev pub sink_texts : Plan → List SinkPlan → (mark : ℕ → Bool) → (refused : Option ℕ) → List ℕ
 sink_texts plan sinks mark refused = numbered (sink_text plan mark refused) 0 sinks

@@ -1,8 +1,8 @@
 -- Numbers with a point, and lengths in seconds.
 use Rattle.std.specs.Prelude.{ℕ, zero, suc, ◌*◌, ◌/◌, ◌%◌, ◌&&◌, ℤ, pos, negsuc, List, [], ◌++◌, codes, decimal, nat_eq, if◌then◌else◌}
 
--- the digits of a fraction behind the first, given what is left in millionths: at most `places` of them, without zeros
--- at the end
+-- The digits of a decimal fraction behind its first one. The number has what is left, scaled so that its first digit
+-- counts 100000; there are at most `places` digits, without zeros at the end.
 abbrev pub further : (places millionths : ℕ) → List ℕ
 further places zero = []
 further zero (suc rest) = []
@@ -21,7 +21,7 @@ abbrev pub signed : ℤ → List ℕ
 signed (pos n) = pointed (n / 1000000) (n % 1000000)
 signed (negsuc n) = codes "-" ++ pointed (suc n / 1000000) (suc n % 1000000)
 
--- the milliseconds of a length beyond its whole seconds, cut
+-- the milliseconds, beyond whole seconds, that so many samples last at this rate, rounded down
 abbrev pub thousandths : (samples rate : ℕ) → ℕ
 thousandths samples rate = samples % rate * 1000 / rate
 
@@ -29,7 +29,8 @@ thousandths samples rate = samples % rate * 1000 / rate
 abbrev pub samples_word : ℕ → List ℕ
 samples_word samples = if nat_eq samples 1 then codes " sample" else codes " samples"
 
--- so many samples as seconds, cut behind the third digit; if they last less than a millisecond, as samples
+-- how long so many samples last at this rate, as seconds with at most three digits behind the point, rounded down; if
+-- they last less than a millisecond, their number
 abbrev pub seconds : (samples rate : ℕ) → List ℕ
 seconds samples rate =
     if nat_eq (samples / rate) 0 && nat_eq (thousandths samples rate) 0 then decimal samples ++ samples_word samples

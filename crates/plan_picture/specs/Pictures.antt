@@ -20,21 +20,25 @@ abbrev pub reds : Plan → (mark : ℕ → Bool) → Option ℕ → List Bool
 reds plan mark None = []
 reds plan mark (Some sink) = reds_from mark (refused_node plan.sinks sink) 0 plan.nodes
 
--- The graphviz text that draws a plan: `silent` says that an output was refused since it may fall silent, and `red`
--- has of each source whether it is to blame for that.
+-- The graphviz text that draws a plan. `mark` says which sources always offer something, `refused` is the output
+-- refused since it may fall silent (`silent` says that one was), and `red` has of each source whether it is to blame.
+-- The result has the clocks or why there are none; `group` has the sources that share one.
 abbrev pub picture_with : Plan → (mark : ℕ → Bool) → Option ℕ → Result ClockMap ClockFault → (group : ℕ → ℕ)
     → (silent : Bool) → (red : List Bool) → List ℕ
 picture_with plan mark refused clocks group silent red = beginning
     ++ (node_boxes plan plan.nodes mark silent red clocks ++ (node_edges plan.nodes silent red clocks
     ++ (sink_texts plan plan.sinks mark refused ++ (regions_of plan silent clocks group ++ codes "}\n"))))
 
--- The graphviz text that draws a plan: `mark` says which sources always offer something, the option is the output that
--- was refused, then come the clocks or why there are none, and `group` has the group of sources that share a clock.
+-- The graphviz text that draws a plan. `mark` says which sources always offer something, and `refused` is the output
+-- that was refused since it may fall silent, if any. The result has the clocks or why there are none; `group` has for
+-- each source its group, those that share a clock.
 abbrev pub picture : Plan → (mark : ℕ → Bool) → Option ℕ → Result ClockMap ClockFault → (group : ℕ → ℕ) → List ℕ
 picture plan mark refused clocks group = picture_with plan mark refused clocks group (is_some refused)
     (reds plan mark refused)
 
--- a text is the picture of a plan, by the groups of its sources that share a clock; there is one such grouping alone
+-- The text is the picture of a plan. `mark` says which sources always offer something, and `refused` is the output that
+-- was refused since it may fall silent, if any. The result has the clocks or why there are none. The sources are
+-- grouped by the clock that they share, in the one way that there is.
 pub record IsPicture (plan : Plan) (mark : ℕ
     → Bool) (refused : Option ℕ) (clocks : Result ClockMap ClockFault) (text : List ℕ) : Type 0 where
   pub group : ℕ → ℕ

@@ -18,12 +18,12 @@ mark_text mark = (part_text mark.day (codes "w") ++ part_text mark.hour (codes "
 abbrev pub interval_text : TimeMark → TimeMark → List ℕ
 interval_text from to = mark_text from ++ (codes "-" ++ mark_text to)
 
--- the bracket before the parts of a predicate that stands within another
+-- the bracket before a predicate made of several parts, if it stands within another predicate; else nothing
 abbrev pub opening : (within : Bool) → List ℕ
 opening true = codes "("
 opening false = []
 
--- the bracket after the parts of a predicate that stands within another
+-- the bracket behind a predicate made of several parts, if it stands within another predicate; else nothing
 abbrev pub closing : (within : Bool) → List ℕ
 closing true = codes ")"
 closing false = []
@@ -33,7 +33,7 @@ abbrev pub before_part : (word : List ℕ) → ℕ → List ℕ
 before_part word zero = []
 before_part word (suc n) = word
 
--- a predicate, in brackets where it has parts and stands within another
+-- a predicate as a script writes it: in brackets where it is an `and` or `or` and stands within another (`within`)
 abbrev mutual
   pub pred_text : (within : Bool) → PredicateTree OnePredicate → List ℕ
   pred_text within Always = codes "true"
@@ -44,7 +44,8 @@ abbrev mutual
   pred_text within (All ps) = opening within ++ (joined (codes " and ") 0 ps ++ closing within)
   pred_text within (Any ps) = opening within ++ (joined (codes " or ") 0 ps ++ closing within)
 
-  -- the parts of a predicate with this word between them, where the first one has this number among all parts
+  -- the parts of a predicate as a script writes them, with this word between them; n is the number of the first of
+  -- these among all parts, counted from 0
   pub joined : (word : List ℕ) → ℕ → PredicateTree PredicateParts → List ℕ
   joined word n no_parts = []
   joined word n (first_part p ps) = (before_part word n ++ pred_text true p) ++ joined word (suc n) ps

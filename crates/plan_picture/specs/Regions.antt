@@ -36,17 +36,18 @@ closing of (suc levels) (Sub k) = closing of levels (clock_of of k) ++ codes " }
 abbrev pub within : List NodeClock → NodeClock → (statement : List ℕ) → List ℕ
 within of clock statement = opening of (length of) clock ++ (statement ++ (closing of (length of) clock ++ codes "\n"))
 
--- the colours of the regions of main clocks, by a number below 5
+-- the fill colour of a main clock's region in the picture of a plan, by a number below 5
 abbrev pub tint_of : ℕ → List ℕ
 tint_of n = if nat_eq n 0 then codes "#e3eef9" else if nat_eq n 1 then codes "#fdf0d8" else if nat_eq n 2
     then codes "#e4f3ea"
     else if nat_eq n 3 then codes "#f6e6f1" else codes "#ececec"
 
--- the colour of the region of a main clock: five of them take turns
+-- the fill colour of the region of a main clock in the picture of a plan, by the clock's number: five colours are used
+-- in turn
 abbrev pub tint : (clock : ℕ) → List ℕ
 tint clock = tint_of (clock % 5)
 
--- the words for a main clock that never runs
+-- the words in the label of a main clock that never runs, since it has no output; none for one that runs
 abbrev pub idle_words : (runs : Bool) → List ℕ
 idle_words true = []
 idle_words false = codes " (no output: never runs)"
@@ -56,8 +57,8 @@ abbrev pub main_style : (clock : ℕ) → List ℕ
 main_style clock = codes "\"; style=\"filled,rounded\"; color=\"#8a949e\"; fontsize=11; fillcolor=\""
     ++ (tint clock ++ codes "\"; }\n")
 
--- The text of a main clock's region from its escaped name on: whether the clock ever runs (those below `running` do),
--- and how the region is drawn.
+-- The text of a main clock's region from its escaped name on: whether the clock ever runs (those with a number below
+-- `running` do), and how the region is drawn.
 abbrev pub main_rest : (running clock : ℕ) → (name : List ℕ) → List ℕ
 main_rest running clock name = escaped name ++ (idle_words (nat_lt clock running) ++ main_style clock)
 
@@ -74,12 +75,13 @@ main_region running clock name = main_front clock ++ main_rest running clock nam
 abbrev pub named_regions : (running : ℕ) → (names : List (List ℕ)) → List ℕ
 named_regions running names = numbered (main_region running) 0 names
 
--- the label of the own clock of crossfade k, and how its region is drawn
+-- the graphviz attributes of the region of the sub-clock of crossfade k: its label, and how the region is drawn
 unfoldable pub sub_label : (k : ℕ) → List ℕ
 sub_label k = codes "label=\"own clock of crossfade " ++ decimal k
     ++ codes "\"; style=\"filled,rounded\"; color=\"#8a949e\"; fontsize=11; fillcolor=\"#ffffff80\";"
 
--- the region of the own clock of source k, if it is a crossfade; `of` has the clock of each source
+-- the graphviz text of the region of the sub-clock of source k, if the source is a crossfade, and else nothing; the
+-- list `of` has the clock of each source
 abbrev pub sub_region : List NodeClock → (is_crossfade : Bool) → (k : ℕ) → List ℕ
 sub_region of true k = within of (Sub k) (sub_label k)
 sub_region of false k = []
@@ -111,7 +113,7 @@ regions_by plan clocks = named_regions clocks.running clocks.names
     ++ (sub_regions clocks.of plan.nodes ++ (members clocks.of ++ output_members clocks.of plan.sinks))
 
 -- The graphviz text of a plan's regions, if it has clocks. If it has none, the text of the fault, unless the plan is
--- refused for a silence (`silent`); `group` has the group of sources that share a clock.
+-- refused since an output may fall silent (`silent`). `group` has for each source its group, those that share a clock.
 abbrev pub regions_of : Plan → (silent : Bool) → Result ClockMap ClockFault → (group : ℕ → ℕ) → List ℕ
 regions_of plan silent (Ok clocks) group = regions_by plan clocks
 regions_of plan silent (Err fault) group = fault_text silent plan.nodes fault group

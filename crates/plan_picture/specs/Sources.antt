@@ -9,8 +9,8 @@ use Rattle.clock_forcings.specs.Forcings.{id_or}
 use Rattle.plan_blames.specs.Texts.{escaped}
 use Rattle.plan_picture.specs.Numbers.{seconds, signed}
 
--- what the box of a `fallback` or `switch` says besides its name: that it breaks its sources into tracks, if it may
--- change its child within a track
+-- What the box of a `fallback` or `switch` says besides its name. One that may change its child within a track, and so
+-- is not track-sensitive (`sensitive`), breaks its sources into tracks; of another nothing is said.
 abbrev pub choice_words : (sensitive : Bool) → List ℕ
 choice_words true = []
 choice_words false = codes "\\nbreaks into tracks"
@@ -20,8 +20,8 @@ abbrev pub playlist_words : (again : Bool) → List ℕ
 playlist_words true = codes "playlist\\n"
 playlist_words false = codes "playlist (once)\\n"
 
--- what the box of a `blank` says: that it is silence, and how long its tracks last; one endless track (0) has no
--- length
+-- what the box of a `blank` says: that it is silence, and how long its tracks last at this rate, where `track` is their
+-- length in samples; one endless track (0) has no length
 abbrev pub blank_words : (track rate : ℕ) → List ℕ
 blank_words track rate = if nat_eq track 0 then codes "blank" else codes "blank\\ntracks of " ++ seconds track rate
 
@@ -42,7 +42,8 @@ size_words plan buffer = option_map_or (λ size. prefill size plan.rate) (slice_
 abbrev pub reader_words : Plan → (buffer : ℕ) → List ℕ
 reader_words plan buffer = (codes "buffer " ++ decimal buffer) ++ size_words plan buffer
 
--- what stands in the box of source k: its operator, and below it its file, or what it does it with
+-- what stands in the box of source k of the plan: its operator, and below it the file that it plays, the number by
+-- which it works, or how it was set
 abbrev pub words : Plan → (k : ℕ) → Op → List ℕ
 words plan k (Single file) = codes "single\\n" ++ escaped file
 words plan k (Playlist file again) = playlist_words again ++ escaped file

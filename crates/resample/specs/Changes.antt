@@ -21,14 +21,15 @@ pub record Samples : Type 0 where
 abbrev pub samples_of : Blocks → List ℤ
 samples_of blocks = samples_at blocks.wide (take blocks.size (drop blocks.at blocks.bytes.items))
 
--- what is read of a file with these blocks and rate `from`, where it is played at rate `to`
+-- the sound of a file with these blocks (samples of each channel), whose own rate is `from`, as it is read when it is
+-- played at rate `to`
 abbrev pub changed_from : (from to : ℕ) → Blocks → Samples
 changed_from from to blocks = record {
   kind = blocks.kind;
   samples = resampled from to blocks.kind (samples_of blocks);
 }
 
--- the blocks of a file lie within its bytes and are whole, at least one and at most 134217728
+-- the blocks of a file (samples of each channel) lie within its bytes and are whole, at least one and at most 134217728
 pub record AreThere (blocks : Blocks) : Type 0 where
   pub inside : blocks.at + blocks.size ≤ length blocks.bytes.items
   pub file : IsFile blocks.kind (samples_of blocks)
@@ -37,13 +38,14 @@ pub record AreThere (blocks : Blocks) : Type 0 where
 abbrev pub samples_in : Source → List ℤ
 samples_in source = samples_at source.wide source.bytes.now
 
--- the source of a resampling is sound: its bytes are whole blocks of samples, and `last` is the number of the last one
+-- what a change of rate reads from is sound: its bytes are whole blocks (samples of each channel), and `last` is the
+-- number of the last one
 pub record IsSource (source : Source) : Type 0 where
   pub file : IsFile source.kind (samples_in source)
   pub last : source.last + 1 ≡ blocks_of source.kind (samples_in source)
 
--- The numbers that go with a change of rate are right: both rates are allowed, the step is how far a sample of the new
--- rate moves in the file, and the two inverses take the place of divisions by the new rate.
+-- The numbers that go with a change of rate are right. Both rates are allowed. The step is how far in the file one
+-- sample of the new rate lies behind the one before. The two inverses take the place of divisions by the new rate.
 pub record IsWay (way : Way) : Type 0 where
   pub rates : AreRates way.from way.to
   pub few : way.from < 2 ^ 32
@@ -53,6 +55,6 @@ pub record IsWay (way : Way) : Type 0 where
   pub inverse : way.inverse ≡ inverse_of way.to
   pub by_lanes : way.by_lanes ≡ by_lanes.inverse_of way.to
 
--- how many blocks (samples of each channel) a file has at the new rate of this way, the change from rate to rate
+-- how many blocks (samples of each channel) the file has at the new rate; `way` has its own rate and the new one
 abbrev pub blocks_at : Source → Way → ℕ
 blocks_at source way = output_length (blocks_of source.kind (samples_in source)) way.from way.to

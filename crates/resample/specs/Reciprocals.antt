@@ -1,7 +1,8 @@
 -- Quotients by products: what private contracts say of the numbers that stand for divisors.
 use Rattle.std.specs.Prelude.{ℕ, ◌+◌, ◌/◌, ℤ, pos, negsuc, neg_ℤ}
 
--- the number with the size `size` and the sign of another number, as a quotient takes the sign of what is divided
+-- the number of this size (its absolute value) that has the sign of the first number, as a quotient has the sign of
+-- what is divided
 abbrev pub signed_as : ℤ → ℕ → ℤ
 signed_as (pos n) size = pos size
 signed_as (negsuc n) size = neg_ℤ (pos size)

@@ -6,7 +6,8 @@ use Rattle.liq_base.specs.declared.limits.TheConstants.{MAX_RATE, MIN_RATE}
 use Rattle.liq_base.specs.Kinds.{channels_of}
 use Rattle.liq_base.specs.declared.memory.Kind.{Kind}
 
--- the rate of a file, above 0, and that of a script, within its bounds, in samples a second
+-- these rates are allowed, in samples a second: that of a file (`from`) is above 0, and that of a script (`to`) lies
+-- within its bounds
 pub record AreRates (from to : ℕ) : Type 0 where
   pub some : 0 < from
   pub least : MIN_RATE ≤ to
@@ -22,23 +23,28 @@ pub record IsFile (kind : Kind) (samples : List ℤ) : Type 0 where
   pub some : 1 ≤ blocks_of kind samples
   pub most : blocks_of kind samples ≤ 134217728
 
--- how many samples each channel has at the other rate, where it has `count` at its own: never none
+-- how many samples each channel has once its rate was changed from `from` to `to`, where it had `count` before: in
+-- proportion, rounded down, and at least one
 abbrev pub output_length : (count from to : ℕ) → ℕ
 output_length count from to = max 1 (count * to / from)
 
--- the sample of a block on a side: 0 is left and 1 right; a block has one sample for each channel of the file
+-- the sample of a block on a `side` (0 left, 1 right); a block has one sample for each channel of the file, and past
+-- the end of the file the sample is 0
 abbrev pub side_at : Kind → List ℤ → (block side : ℕ) → ℤ
 side_at kind samples block side = slice_index_or samples (block * channels_of kind + side) (pos 0)
 
--- the number that lies `part` of `whole` parts behind one sample on the way to another, rounded toward zero
+-- the number that lies `part` of `whole` equal steps from the sample `before` on the way to the sample `behind`,
+-- rounded toward zero
 abbrev pub interpolated : (before behind : ℤ) (part whole : ℕ) → ℤ
 interpolated before behind part whole = int_div ((before *ℤ pos (whole - part)) +ℤ (behind *ℤ pos part)) (pos whole)
 
--- The block of the file at or before sample j of the other rate, which stands at place j * from / to.
+-- The number of the block of a file (a sample of each channel) at or before sample j of the new rate, which stands at
+-- place j * from / to of the file; `from` is the file's rate and `to` the new one.
 abbrev pub block_before : (from to j : ℕ) → ℕ
 block_before from to j = j * from / to
 
--- how many of `to` parts sample j of the other rate lies behind the block before it
+-- how far sample j of the new rate lies behind the block of the file before it (a sample of each channel), in parts of
+-- which a block has `to`; `from` is the file's rate and `to` the new one
 abbrev pub parts_behind : (from to j : ℕ) → ℕ
 parts_behind from to j = (j * from) % to
 
@@ -52,13 +58,15 @@ abbrev pub sample_behind : (from to : ℕ) → Kind → List ℤ → (j side : �
 sample_behind from to kind samples j side = side_at kind samples
     (min (block_before from to j + 1) (blocks_of kind samples - 1)) side
 
--- sample j of a side at the new rate `to`: it lies between the two samples of the file around its place, in proportion
+-- sample j of a `side` (0 left, 1 right) at the new rate `to` of a file of rate `from`: it lies between the two samples
+-- of the file around its place, in proportion
 abbrev pub resampled_sample : (from to : ℕ) → Kind → List ℤ → (j side : ℕ) → ℤ
 resampled_sample from to kind samples j side =
     interpolated (sample_before from to kind samples j side) (sample_behind from to kind samples j side)
     (parts_behind from to j) to
 
--- the samples of a file at the other rate, left before right where there are two channels
+-- the samples of a file of rate `from` changed to rate `to` by linear interpolation, left before right where there are
+-- two channels
 abbrev pub resampled : (from to : ℕ) → Kind → List ℤ → List ℤ
 resampled from to kind samples =
     map (λ k. resampled_sample from to kind samples (k / channels_of kind) (k % channels_of kind))

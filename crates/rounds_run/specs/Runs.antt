@@ -18,17 +18,17 @@ use Rattle.buffer_ends.specs.declared.run_end.End.TheVariants.{Write}
 use Rattle.buffer_sides.specs.Logs.{told as told_of}
 use Rattle.rounds_run.specs.Rounds.{AreEngines, HaveRunPart, IsWriteEnd, ticks_by}
 
--- the engines of a run of `ticks` ticks: one per clock, in clock order, fresh, and all over this well-formed plan with
--- its files, clocks and start
+-- The engines of a run of `ticks` ticks: one per clock, in clock order, each fresh and with room in its sinks, and all
+-- over this well-formed plan with its files, clocks and start (`setting`). `told` gives what a sink tells of itself.
 pub record AreOver {S : Type 0} (told : S
     → SinkTold) (plan : Plan) (ticks : ℕ) (setting : Setting) (engines : List (ClockEngine S)) : Type 0 where
   pub plan_is : setting.plan ≡ plan
   pub well : IsWellFormed plan
   pub are : AreEngines told ticks setting engines
 
--- an engine has gone from `old` to `new` by `ticks` ticks, none of them with a fault, in this setting: it has taken the
--- answers of the buffers that it reads; each output holds its bytes of these ticks more, and its sink got a piece for
--- each of them; and it keeps its marks if it did before
+-- An engine has gone from `old` to `new` by `ticks` ticks without a fault, where buffers answer as `setting` says. It
+-- took their answers, each output got the bytes of these ticks, and its sink a piece for each. It still keeps where
+-- tracks begin, if it did. `told` gives what a sink tells of itself.
 pub record HasRunTicks {S : Type 0} (told : S
     → SinkTold) (setting : Setting) (ticks : ℕ) (old new : ClockEngine S) : Type 0 where
   pub over : setting_of new.parts ≡ setting_of old.parts
@@ -43,8 +43,8 @@ pub record HasRunTicks {S : Type 0} (told : S
   pub pieces : GotPieces told ticks old.outs new.outs
   pub outs : length new.outs ≡ length old.outs
 
--- each engine has gone from its old to its new state by `ticks` ticks without a fault, where the buffers answer as
--- this setting says
+-- Each engine has gone from its `old` to its `new` state by `ticks` ticks without a fault, where buffers answer as
+-- `setting` says. `told` gives what a sink tells of itself.
 pub record HaveRunTicks {S : Type 0} (told : S
     → SinkTold) (setting : Setting) (ticks : ℕ) (old new : List (ClockEngine S)) : Type 0 where
   pub size : length new ≡ length old
@@ -69,8 +69,9 @@ counts_of_run run = map counts_of_windows run.buffers
 abbrev pub logs_of_run : Run → List (List Answers)
 logs_of_run run = map (λ windows. map told_of windows) run.buffers
 
--- All rounds were made, and this is their record: each engine has run all its ticks, given what the record's takes got,
--- and the counts and logs are the record's.
+-- All `ticks` rounds were made, from the engines `first` to `now`, and `run` is the record of the buffers' answers.
+-- Each engine has run all its ticks, given the chunks that the record's takes got, and `counts` and `logs` are the
+-- record's. `told` gives what a sink tells of itself.
 pub record HasRunAll {S : Type 0} (told : S → SinkTold) (setting : Setting) (ticks : ℕ)
     (first now : List (ClockEngine S)) (counts : List Counts) (logs : List (List Answers)) : Type 0 where
   pub run : Run
@@ -79,9 +80,9 @@ pub record HasRunAll {S : Type 0} (told : S → SinkTold) (setting : Setting) (t
   pub counts_are : counts ≡ counts_of_run run
   pub logs_are : logs ≡ logs_of_run run
 
--- This is the record of rounds that may have been broken off, in the turn of a clock in a round: the clocks below it
--- have made their tick of this round, those above it have not, and it has made at most a part of it. A write that ended
--- the run is one of this clock.
+-- `run` records the buffers' answers in rounds that may have been broken off in a clock's tick, from the engines
+-- `first` to `now`. In that round the clocks below have made their tick, those above have not, and it has made at most
+-- a part. If `end` is a failed write, it is one of this clock.
 pub record HasRunSome {S : Type 0} (told : S
     → SinkTold) (setting : Setting) (ticks : ℕ) (first now : List (ClockEngine S)) (end : End) : Type 0 where
   pub run : Run

@@ -16,7 +16,8 @@ abbrev pub sound_in : (rate : ℕ) → Result Wav WavFault → Sound
 sound_in rate (Err fault) = no_sound
 sound_in rate (Ok wav) = sound_of rate wav
 
--- the bytes of an audio file that is used: a WAV file, as many bytes as one may have, to be played at this rate
+-- These are the bytes of an audio file that is used: a WAV file without a fault, of at most 256 MiB. It is to be played
+-- at `rate` samples a second, from 8000 to 192000.
 pub record IsUsed (rate : ℕ) (bytes : List ℕ) : Type 0 where
   pub least : 8000 ≤ rate
   pub most : rate ≤ 192000

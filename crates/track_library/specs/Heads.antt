@@ -20,53 +20,61 @@ samples_in wide size = if wide then size / 3 else size / 2
 abbrev pub blocks_in : Head → ℕ
 blocks_in head = samples_in head.wide head.size / channels_of head.kind
 
--- how many bytes a WAV file of 16 bits has that holds the sound of a file of this head at another rate
+-- how many bytes a WAV file of 16 bits has (44 of header and 2 a sample) that holds the sound of a file with this head,
+-- changed to the rate `rate`
 abbrev pub written_size : Head → (rate : ℕ) → ℕ
 written_size head rate = 44 + 2 * channels_of head.kind * output_length (blocks_in head) head.rate rate
 
--- how many bytes a file counts for, if they are at most `most`
+-- the number of bytes for which a file counts (`count`), or the fault that it is too long where these are more than
+-- `most`
 abbrev pub count_of_at_most : (most count : ℕ) → Result ℕ Unusable
 count_of_at_most most count = if nat_le count most then Ok count else Err TooLong
 
--- how many bytes a file with this head and of `size` bytes counts for, if one file may have so many
+-- how many bytes a file with this head and of `size` bytes counts for against the limits, or the fault that it is too
+-- long where the rules let one file have fewer
 abbrev pub head_count : Rules → Head → (size : ℕ) → Result ℕ Unusable
 head_count rules head size = count_of_at_most rules.file (max size (written_size head rules.rate))
 
--- What is found in the bytes of a file: they are a WAV file with this head and of so many bytes, or no WAV file, for
--- this reason.
+-- What reading these bytes of a file as a WAV file answered is right: they are a WAV file with this head, and so many,
+-- or they are no WAV file, for this reason.
 abbrev pub IsHeadIn : List ℕ → Result (Head × ℕ) Unusable → Type 0
 IsHeadIn bytes (Ok (head, size)) = IsHeadOf bytes head × (length bytes ≡ size)
 IsHeadIn bytes (Err fault) = wav_opened (Ok bytes) ≡ Err fault
 
--- these are the bytes of the file of this name, so many and at most `most`; where the shelf does not tell its files,
--- only their number is said
+-- These are the bytes of the file `name` on the shelf, `size` in number and at most `most`. If the shelf does not tell
+-- its files, only their number is said.
 pub record IsFile (name : List ℕ) (most : ℕ) (files : Option Files) (size : ℕ) (bytes : List ℕ) : Type 0 where
   pub sized : length bytes ≡ size
   pub fits : size ≤ most
   pub is_file : ForSome files (λ all. file_at all name ≡ Some bytes)
 
--- the file of this name cannot be read as a WAV file of at most `most` bytes, for this reason
+-- the file `name` on the shelf cannot be read as a WAV file of at most `most` bytes, for this reason; nothing is said
+-- where the shelf does not tell its files
 abbrev pub IsUnread : (name : List ℕ) → (most : ℕ) → Option Files → Unusable → Type 0
 IsUnread name most files fault = ForSome files (λ all. wav_opened (bytes_in most (file_at all name)) ≡ Err fault)
 
--- the file of this name has this head and so many bytes, at most `most`
+-- The file `name` on the shelf is a WAV file with this head and has `size` bytes, at most `most`. If the shelf does not
+-- tell its files, some bytes are so.
 pub record HeadFound (name : List ℕ) (most : ℕ) (files : Option Files) (head : Head) (size : ℕ) : Type 0 where
   pub bytes : List ℕ
   pub told : IsHeadOf bytes head
   pub file : IsFile name most files size bytes
 
--- the head of the file of this name and the number of its bytes, or why it has none
+-- What was found of the file `name` on the shelf is right: its head and the number of its bytes, at most `most`, or why
+-- it cannot be read as a WAV file.
 abbrev pub IsFoundHead : (name : List ℕ) → (most : ℕ) → Option Files → Result (Head × ℕ) Unusable → Type 0
 IsFoundHead name most files (Ok (head, size)) = HeadFound name most files head size
 IsFoundHead name most files (Err fault) = IsUnread name most files fault
 
--- the file of this name begins with these bytes, and has `size`, at most `most`
+-- The file `name` on the shelf begins with the bytes `front`, and has `size` bytes, at most `most`. If the shelf does
+-- not tell its files, some bytes are so.
 pub record FrontOf (name : List ℕ) (most : ℕ) (files : Option Files) (front : List ℕ) (size : ℕ) : Type 0 where
   pub bytes : List ℕ
   pub is_front : IsPrefix front bytes
   pub file : IsFile name most files size bytes
 
--- the file of this name begins with these bytes and has so many, or why it cannot be read
+-- What was found of the file `name` on the shelf is right: it begins with the bytes `front` and has so many, at most
+-- `most`, or why it cannot be read as a WAV file.
 abbrev pub IsFoundFront : (name : List ℕ) → (most : ℕ) → Option Files → (front : List ℕ) → Result ℕ Unusable → Type 0
 IsFoundFront name most files front (Ok size) = FrontOf name most files front size
 IsFoundFront name most files front (Err fault) = IsUnread name most files fault

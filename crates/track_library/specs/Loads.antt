@@ -16,32 +16,35 @@ use Rattle.track_library.specs.declared.rules.Rules.{Rules}
 use Rattle.track_library.specs.declared.rules.Sizes.{Sizes}
 use Rattle.track_library.specs.declared.walk.Walk.{Walk}
 
--- what the walk over a plan goes by, where as many bytes may be loaded as these sizes say
+-- what the loading of a plan's audio files goes by: the rate of the plan, and how many bytes one file and all files may
+-- have, by these sizes
 abbrev pub rules_for : Plan → Sizes → Rules
 rules_for plan sizes = record { rate = plan.rate; file = sizes.file; all = sizes.all }
 
--- these are the audio files of the nodes: where the shelf tells its files, those of the definition; and whatever it
--- tells, each node has a leaf, and that of a `single` has one file
+-- The library has the audio files of these nodes. Where the shelf tells its files (`told`), it is that of the
+-- definition. In any case each node has a leaf (the numbers of its files), that of a `single` has one file, and the
+-- library is well-formed.
 pub record AreLoaded (told : Option Files) (rules : Rules) (nodes : List Node) (library : Sounds) : Type 0 where
   pub loaded : ForSome told (λ files. load_of rules files nodes ≡ Ok library)
   pub leaves : length library.leaves ≡ length nodes
   pub singles : HaveSingles nodes library.leaves
   pub sounds : IsLibrary library
 
--- the audio files of the nodes can be loaded
+-- the audio files of the nodes can be loaded from the shelf's files without a fault, and the library that is loaded is
+-- well-formed
 pub record CanLoad (rules : Rules) (files : Files) (nodes : List Node) : Type 0 where
   pub library : Sounds
   pub loaded : load_of rules files nodes ≡ Ok library
   pub sounds : IsLibrary library
 
--- why the audio files of these nodes are not loaded, between two states of the shelf: this fault ends the walk over
--- them
+-- why the audio files of these nodes are not loaded: the walk over the nodes ends with this fault; the shelf was as
+-- `old` tells it and is as `new` does
 abbrev pub LoadEnds : (old new : ShelfTold) → Rules → List Node → LoadFault → Type 0
 LoadEnds old new rules nodes = Ends old new (λ files. LoadReads rules files nodes) (λ files. load_of rules files nodes)
 
--- All nodes were walked, from a walk that had read nothing. Where the shelf tells its files, the walk and the leaves
--- are those of the definition; whatever it tells, each node has a leaf of files that are used, and that of a `single`
--- has one file.
+-- All nodes were walked. Where the shelf tells its files (`told`), what was read and the leaves are those of the
+-- definition. In any case each node has a leaf (the numbers of its files), with files that are used alone, and that of
+-- a `single` has one file.
 pub record HaveWalked (told : Option Files) (rules : Rules) (nodes : List Node) (walk : Walk)
     (leaves : List (List ℕ)) : Type 0 where
   pub walked : ForSome told (λ files. nodes_walked rules files nodes (Ok (nothing_met, []))

@@ -12,17 +12,18 @@ use Rattle.track_library.specs.declared.audio.AudioFiles.{AudioFiles}
 use Rattle.track_library.specs.declared.read_lists.ReadLists.{ReadLists}
 use Rattle.track_library.specs.declared.fault.Unusable.{Unusable}
 
--- the rate and the most bytes of one file are such as a walk may go by
+-- The rules by which audio files are loaded are such as a walk may go by: a rate from 8000 to 192000 samples a second,
+-- and at most 256 MiB for one file.
 pub record AreRules (rules : Rules) : Type 0 where
   pub least : 8000 ≤ rules.rate
   pub most : rules.rate ≤ 192000
   pub file : rules.file ≤ 268435456
 
--- the values of a map under the bytes of their names, in the map's order
+-- the entries of a map, in its order, each with the bytes of its name in place of the name
 abbrev pub named : {V : Type 0} → List (String Global × V) → List (List ℕ × V)
 named entries = map (λ e. (string_bytes e.0, e.1)) entries
 
--- the lists of a map under the bytes of their names, in the map's order
+-- the lists of a map from names to lists of audio files, in its order, each under the bytes of its name
 abbrev pub listed : List (String Global × Vec (List ℕ) Global) → List (List ℕ × List (List ℕ))
 listed entries = map (λ e. (string_bytes e.0, e.1.items)) entries
 
@@ -43,25 +44,27 @@ lists_of read = listed read.lists.entries
 abbrev pub names_at : List (List ℕ × List (List ℕ)) → ℕ → List (List ℕ)
 names_at lists at = (slice_index_or lists at ([], [])).1
 
--- each number that a name was found to have is that of a file that is used, and there are fewer than 2^32 files
+-- The audio files met are consistent: each number that a name was found to have is that of a file that is used, and
+-- there are fewer than 2^32 such files.
 pub record IsHeard (heard : Heard) : Type 0 where
   pub numbers : All (λ e. IfOk e.1 (λ number. number < length heard.titles)) heard.names
   pub many : length heard.titles < 2 ^ 32
 
--- the kept sounds with this one behind them, if there is one; they stay as they are where sounds are not kept
+-- the sounds that are kept with this one behind them; they stay as they are if there is none, as where sounds are not
+-- kept
 abbrev pub one_kept : List Sound → Option Sound → List Sound
 one_kept sounds None = sounds
 one_kept sounds (Some sound) = sounds ++ sound ∷ []
 
--- There is a sound, and it is a sound of whole blocks. Where the shelf tells its files, it is that of the audio file
--- of this name.
+-- There is a sound, and it is one of whole blocks. Where the shelf tells its files (`told`), it is that of the audio
+-- file of this name, changed to the rate of the rules.
 abbrev pub IsHeld : Rules → (told : Option Files) → (name : List ℕ) → Option Sound → Type 0
 IsHeld rules told name None = ⊥
 IsHeld rules told name (Some sound) = IsSound sound
     × ForSome told (λ files. sound_from (audio_at rules files name) ≡ sound)
 
--- the files that are used hold sounds, where the shelf tells its files; and if sounds are kept, they are these, each
--- with whole blocks, at least one
+-- The files that are used (`titles` has their names) hold sounds, where the shelf tells its files (`told`). If sounds
+-- are kept (`keeps`), `sounds` are these, one for each file, each of whole blocks.
 pub record AreKept (rules : Rules) (told : Option Files) (keeps : Bool) (titles : List (List ℕ))
     (sounds : List Sound) : Type 0 where
   pub usable : ForSome told (λ files. All IsSound (sounds_named rules files titles))
@@ -69,25 +72,27 @@ pub record AreKept (rules : Rules) (told : Option Files) (keeps : Bool) (titles 
   pub sound : keeps ≡ true → All IsSound sounds
   pub many : keeps ≡ true → length sounds ≡ length titles
 
--- what is kept of the audio files that were met is what the shelf's files hold, where it tells them
+-- what is kept of the audio files that were met is right: it is what the files on the shelf hold, where the shelf tells
+-- them (`told`)
 abbrev pub IsKept : Rules → (told : Option Files) → AudioFiles → Type 0
 IsKept rules told audio = AreKept rules told audio.keeps audio.titles.items audio.files.items
 
--- between two states of the audio files that were met, whether they are kept did not change, and what was kept rightly
--- still is
+-- From `old` to `new`, two states of the audio files met, it did not change whether their sounds are kept. If what was
+-- kept in `old` is right by the shelf's files (`told`), so is what is kept in `new`.
 pub record Keeps (rules : Rules) (told : Option Files) (old new : AudioFiles) : Type 0 where
   pub same : new.keeps ≡ old.keeps
   pub kept : IsKept rules told old → IsKept rules told new
 
--- Between two states of the audio files met, a name was looked up: files were added alone, and what was found is a
--- fault, or the number of a file that is used.
+-- From `old` to `new`, two states of the audio files met, a name was looked up: there are no fewer files than before.
+-- What the name was `found` to be is a fault, or the number of a file that is used.
 pub record Finds (old new : Heard) (found : Result ℕ Unusable) : Type 0 where
   pub heard : IsHeard new
   pub grew : length old.titles ≤ length new.titles
   pub number : IfOk found (λ number. number < length new.titles)
 
--- Between two states of the audio files met, the files of one node were looked up: files were added alone, and the
--- leaf of the node has numbers of files that are used, fewer than 2^32.
+-- From `old` to `new`, two states of the audio files met, the files of one node were looked up: there are no fewer
+-- files than before. `leaf` has the numbers of the files that the node plays, each that of a file that is used, fewer
+-- than 2^32.
 pub record Plays (old new : Heard) (leaf : List ℕ) : Type 0 where
   pub heard : IsHeard new
   pub grew : length old.titles ≤ length new.titles

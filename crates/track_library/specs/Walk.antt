@@ -41,8 +41,8 @@ sound_of rate wav = record {
   samples = resampled wav.rate rate wav.kind (samples_at wav.wide wav.body);
 }
 
--- how many bytes a file counts for: those that it has, `size`, or those that a file with this sound has, whichever are
--- more
+-- how many bytes a file counts for against the limits: the `size` that it has, or those of a WAV file of this sound (44
+-- of header and 2 a sample), whichever are more
 abbrev pub counted_bytes : ℕ → Sound → ℕ
 counted_bytes size sound = max size (44 + 2 * length sound.samples)
 
@@ -92,7 +92,8 @@ abbrev pub count_of : {S : Type 0} → Result (S × ℕ) Unusable → Result ℕ
 count_of (Err fault) = Err fault
 count_of (Ok audio) = Ok audio.1
 
--- the sounds of the audio files of these names
+-- the sounds of the audio files of these names, at the rate of the rules, in order; no sound in place of a file that
+-- cannot be used
 abbrev pub sounds_named : Rules → Files → List (List ℕ) → List Sound
 sounds_named rules files names = map (λ name. sound_from (audio_at rules files name)) names
 
@@ -108,8 +109,9 @@ pub record Heard : Type 0 where
   pub titles : List (List ℕ)
   pub bytes : ℕ
 
--- Meets a name that was not met before: what was met is extended by it. A usable file gets the next number, if what it
--- counts for fits with the earlier ones into `all` bytes; a name that cannot be used is kept with its fault.
+-- The audio files met (`heard`) after a name that was not met before, and what the name is. A usable file gets the next
+-- number, if its bytes (`count`) and those of the files before are at most `all`. A name that cannot be used is kept
+-- with its fault.
 abbrev pub first_use : ℕ → Heard → List ℕ → Result ℕ Unusable → Result (Heard × Result ℕ Unusable) LoadFault
 first_use all heard name (Err fault) = Ok (
   record {
@@ -131,8 +133,9 @@ first_use all heard name (Ok count) =
     )
     else Err AllTooLarge
 
--- Meets a name. One that was met before is what it was then, and nothing changes; a new one is entered, with the
--- number of bytes for which its file counts, or its fault.
+-- The audio files met (`heard`) after this name, and what the name is. One that was met before is what it was `found`
+-- to be, and nothing changes. A new one is entered with the bytes for which its file counts (`count`), or its fault;
+-- all files may count for `all` bytes.
 abbrev pub use_of : ℕ → Heard → List ℕ → Option (Result ℕ Unusable) → Result ℕ Unusable
     → Result (Heard × Result ℕ Unusable) LoadFault
 use_of all heard name (Some found) count = Ok (heard, found)
@@ -143,21 +146,23 @@ abbrev pub use_audio : Rules → Files → Heard → List ℕ → Result (Heard 
 use_audio rules files heard name = use_of rules.all heard name (entry_of name heard.names)
     (count_of (audio_at rules files name))
 
--- the fault of a plan that needs the file of this name, which cannot be used
+-- the fault with which a plan is refused that needs the file of this name, by the cause for which the file cannot be
+-- used
 abbrev pub told_fault : List ℕ → Unusable → LoadFault
 told_fault name NotThere = Missing name
 told_fault name (NotWav fault) = BadAudio name fault
 told_fault name TooLong = FileTooLarge name
 
--- the leaf of a `single` (the numbers of the files that a node plays): its one file; one that cannot be used is a
--- fault of the plan
+-- The files met, and the leaf of a `single` (the numbers of the files that a node plays): its one file. The second
+-- argument is what the look-up of its file answered; a file that cannot be used is a fault of the plan.
 abbrev pub single_leaf : List ℕ → Result (Heard × Result ℕ Unusable) LoadFault → Result (Heard × List ℕ) LoadFault
 single_leaf name (Err fault) = Err fault
 single_leaf name (Ok (heard, Err fault)) = Err (told_fault name fault)
 single_leaf name (Ok (heard, Ok number)) = Ok (heard, number ∷ [])
 
--- the leaf of a playlist (the numbers of the files that it plays) after one more entry was looked at: a usable one is
--- added at the end, one that cannot be used is left out
+-- The files met, and the `leaf` of a playlist (the numbers of the files that it plays) after one more entry. The second
+-- argument is what the look-up of the entry's file answered: a usable file is added at the end, and one that cannot be
+-- used is left out.
 abbrev pub entry_played : List ℕ → Result (Heard × Result ℕ Unusable) LoadFault → Result (Heard × List ℕ) LoadFault
 entry_played leaf (Err fault) = Err fault
 entry_played leaf (Ok (heard, Err fault)) = Ok (heard, leaf)
@@ -170,7 +175,7 @@ entry_next rules files name (Err fault) = Err fault
 entry_next rules files name (Ok (heard, leaf)) = entry_played leaf (use_audio rules files heard name)
 
 -- The files met, and the leaf of a playlist (the numbers of the files that it plays), after these entries of its list,
--- one after another.
+-- one after another. `played` has both before the first of them, or a fault, which stays.
 abbrev pub entries_played : Rules → Files → List (List ℕ) → Result (Heard × List ℕ) LoadFault
     → Result (Heard × List ℕ) LoadFault
 entries_played rules files [] played = played
@@ -186,14 +191,15 @@ pub record Walked : Type 0 where
   pub lists : List (List ℕ × List (List ℕ))
   pub heard : Heard
 
--- Enters a list file that was read for the first time: the lists read so far with this one behind them, and its names.
+-- Enters the list file `name` that was read for the first time: the `lists` read so far with this one behind them, and
+-- the names in it. The last argument is what its reading answered.
 abbrev pub first_list : List (List ℕ × List (List ℕ)) → List ℕ → Result (List (List ℕ)) LoadFault
     → Result (List (List ℕ × List (List ℕ)) × List (List ℕ)) LoadFault
 first_list lists name (Err fault) = Err fault
 first_list lists name (Ok names) = Ok (lists ++ (name, names) ∷ [], names)
 
--- The lists read so far and the names in this one. A list that was read before is not read again; a new one is
--- entered.
+-- The `lists` read so far, and the names in the list file `name`. If it was read before, the third argument has its
+-- names, and nothing is read. If not, `fresh` is what its reading answers, and the list is entered.
 abbrev pub list_of : List (List ℕ × List (List ℕ)) → List ℕ → Option (List (List ℕ)) → Result (List (List ℕ)) LoadFault
     → Result (List (List ℕ × List (List ℕ)) × List (List ℕ)) LoadFault
 list_of lists name (Some names) fresh = Ok (lists, names)
@@ -205,14 +211,16 @@ abbrev pub use_list : Files → List (List ℕ × List (List ℕ)) → List ℕ
 use_list files lists name = list_of lists name (entry_of name lists)
     (list_in name (bytes_in (2 ^ 20) (file_at files name)))
 
--- what a walk has read, put together of its lists and of the audio files met; the leaf of the node goes with it
+-- what a walk has read, put together of the `lists` read and of the audio files met (`heard`); the leaf of the node
+-- (the numbers of the files that it plays) goes with it
 abbrev pub with_lists : List (List ℕ × List (List ℕ)) → Result (Heard × List ℕ) LoadFault
     → Result (Walked × List ℕ) LoadFault
 with_lists lists (Err fault) = Err fault
 with_lists lists (Ok (heard, leaf)) = Ok (record { lists = lists; heard = heard }, leaf)
 
--- the leaf of a `playlist` (the numbers of the files that it plays): those entries of its list that can be used, in
--- order
+-- What a walk has read, and the leaf of a `playlist` (the numbers of the files that it plays): those entries of its
+-- list that can be used, in order. `heard` are the audio files met before; the last argument has the lists read and the
+-- names in this one.
 abbrev pub playlist_leaf : Rules → Files → Heard → Result (List (List ℕ × List (List ℕ)) × List (List ℕ)) LoadFault
     → Result (Walked × List ℕ) LoadFault
 playlist_leaf rules files heard (Err fault) = Err fault
@@ -228,19 +236,21 @@ leaf_of rules files (Playlist name again) walked = playlist_leaf rules files wal
     (use_list files walked.lists name)
 leaf_of rules files _ walked = Ok (walked, [])
 
--- adds the leaf of the next node (the numbers of the files that it plays) behind the leaves of the earlier nodes
+-- adds the leaf of the next node (the numbers of the files that it plays) behind `leaves`, those of the earlier nodes;
+-- a fault at the node stays
 abbrev pub leaf_added : List (List ℕ) → Result (Walked × List ℕ) LoadFault → Result (Walked × List (List ℕ)) LoadFault
 leaf_added leaves (Err fault) = Err fault
 leaf_added leaves (Ok (walked, leaf)) = Ok (walked, leaves ++ leaf ∷ [])
 
--- what was read, and the leaves of the nodes so far (for each the numbers of its files), after one more node of the
--- plan
+-- What was read, and the leaves of the nodes so far (for each the numbers of the files that it plays), after one more
+-- node of the plan. The last argument has both before the node, or a fault, which stays.
 abbrev pub node_next : Rules → Files → Node → Result (Walked × List (List ℕ)) LoadFault
     → Result (Walked × List (List ℕ)) LoadFault
 node_next rules files node (Err fault) = Err fault
 node_next rules files node (Ok (walked, leaves)) = leaf_added leaves (leaf_of rules files node.op walked)
 
--- what was read, and the leaves of the nodes (for each the numbers of its files), after these nodes, one after another
+-- What was read, and the leaves of the nodes (for each the numbers of the files that it plays), after these nodes, one
+-- after another. `walked` has both before the first of them, or a fault, which stays.
 abbrev pub nodes_walked : Rules → Files → List Node → Result (Walked × List (List ℕ)) LoadFault
     → Result (Walked × List (List ℕ)) LoadFault
 nodes_walked rules files [] walked = walked
@@ -265,8 +275,9 @@ nothing_met = record { lists = []; heard = record { names = []; titles = []; byt
 abbrev pub load_of : Rules → Files → List Node → Result Sounds LoadFault
 load_of rules files nodes = sounds_or_fault rules files (nodes_walked rules files nodes (Ok (nothing_met, [])))
 
--- why a step that reads files ends with this fault: a read that failed is one of the step's, and let the count of
--- failed reads rise; memory may be refused anywhere; every other fault is the step's own, where the files are told
+-- Why a step that reads files ends with this fault; the shelf was as `old` tells it and is as `new` does. A fault of
+-- the step is what `step` answers for the shelf's files, where they are told. A failed read is of a file that `reads`
+-- allows, and the count of failed reads rose. Memory may be refused at any time.
 abbrev pub Ends : {X : Type 0} → (old new : ShelfTold) → (Files → List ℕ → Type 0) → (Files → Result X LoadFault)
     → LoadFault → Type 0
 Ends old new reads step (Missing name) = ForSome old.files (λ files. step files ≡ Err (Missing name))
@@ -276,7 +287,8 @@ Ends old new reads step AllTooLarge = ForSome old.files (λ files. step files �
 Ends old new reads step (ReadFault name) = Rose old.reads new.reads × ForSome old.files (λ files. reads files name)
 Ends old new reads step Memory = ⊤
 
--- the reading of the file of this name ends with this fault: the file could not be read, or memory was refused
+-- The reading of one file, of the name `file`, may end with this fault. Either this file could not be read, and the
+-- count of failed reads rose from the shelf's state `old` to `new`; or memory was refused.
 abbrev pub IsReading : List ℕ → (old new : ShelfTold) → LoadFault → Type 0
 IsReading file old new (Missing name) = ⊥
 IsReading file old new (BadAudio name fault) = ⊥
@@ -285,7 +297,8 @@ IsReading file old new AllTooLarge = ⊥
 IsReading file old new (ReadFault name) = Rose old.reads new.reads × (name ≡ file)
 IsReading file old new Memory = ⊤
 
--- a step that reads no file ends with this fault: it is the fault that the step itself answers, or memory was refused
+-- a step that reads no file may end with this fault: it is the fault that the step answers (`step`), or memory was
+-- refused
 abbrev pub EndsAt : {X : Type 0} → Result X LoadFault → LoadFault → Type 0
 EndsAt step (Missing name) = step ≡ Err (Missing name)
 EndsAt step (BadAudio name fault) = step ≡ Err (BadAudio name fault)

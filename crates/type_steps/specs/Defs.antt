@@ -23,20 +23,24 @@ terms_before [] = []
 terms_before (value t u ∷ ks) = u ∷ terms_before ks
 terms_before (function d us ∷ ks) = terms_before ks
 
--- The bound values hold exactly the variables h, and the texts of the defs hold no others: where the values have the
--- same types, the texts have the same uses.
+-- h are exactly the variables that the types of the bound values (`before`) hold, so that a def's type may not be
+-- generalised over them. The texts of the defs hold no others: where two solutions of s give the values the same types,
+-- the texts have the same uses.
 pub record HoldsBefore (s : Table) (before : List Known) (h : HeldVariables) : Type 0 where
   pub held : IsHeldBy s (terms_before before) h
   pub texts : (a b : Assignment) → Solves a s → Solves b s → SameTypes (terms_before before) a b
       → texts_under a before ≡ texts_under b before
 
--- at the places of a def's text, the kinds are those that its uses say, with these for the def's open kinds
+-- The uses us in a def's text have their kinds at their places in `kinds`, once the variables have their values by the
+-- assignment a. `opens` has the kinds that a call gives for those over which the def's type is general; `before` are
+-- the bindings known before it.
 abbrev pub IsTextTaken : Assignment → Places → List Known → List Kind → List TextUse → Type 0
 IsTextTaken a kinds before opens us = TextTakes (CallTakes (texts_under a before) kinds) kinds [] opens
     (map (settled_use a) us)
 
--- At each solution the typings of the def d are the instances of its general type g, with kinds at the places as the
--- uses us in its text say.
+-- At each solution of the substitution s the typings of the def d are the instances of its general type g, with kinds
+-- at the places as the uses us in its text say. `before` are the bindings known before it, and `targets` says what
+-- names mean.
 pub record IsTypingOf (s : Table) (targets : Targets) (before : List Known) (d : Tree ADef) (g : Scheme)
     (us : List TextUse) : Type 0 where
   pub over : IsSchemeOver s g
@@ -48,8 +52,8 @@ pub record IsTypingOf (s : Table) (targets : Targets) (before : List Known) (d :
       → DefHas (sight targets kinds (entries_under a before) []) d ts r →
       (opens : List Kind) × IsInstance g a ts r opens × IsTextTaken a kinds before opens us
 
--- from s to s' no typing of the def d is lost: each solution of s at which it has one agrees with a solution of s' on
--- the variables of s
+-- From the substitution s to s' no typing of the def d is lost: each solution of s at which it has one agrees with a
+-- solution of s' on the variables of s. `before` are the bindings known before it, and `targets` says what names mean.
 abbrev pub KeepsTypings : Table → Table → Targets → List Known → Tree ADef → Type 0
 KeepsTypings s s' targets before d = (a : Assignment) → Solves a s → HasSome targets (entries_under a before) d
     → (b : Assignment) × Solves b s' × Agrees s a b

@@ -17,18 +17,22 @@ use Rattle.typing_rules.specs.Scripts.{Entry, Targets, Places, def_token, sight}
 use Rattle.typing_rules.specs.Scripts as entry
 use Rattle.typing_rules.specs.Kinds.{kinds_of}
 
--- a kind of a use in the text of a def: over variables, or an open kind of the def by its number
+-- A kind (mono or stereo) at which the text of a def uses a name. `of_term` is a kind over the variables of
+-- unification. `of_def` is a kind that the def's type was generalised over, by its number: each call of the def gives
+-- it anew.
 pub data Pending : Type 0 where
   of_term : KindTerm → Pending
   of_def : ℕ → Pending
 
--- a use of a name in the text of a def: its token, what it means, and its kinds
+-- a use of a name in the text of a def: the index of its token (`at`), what the name means (`target`), and the kinds at
+-- which its type is instantiated there
 pub record TextUse : Type 0 where
   pub at : ℕ
   pub target : Target
   pub kinds : List Pending
 
--- a use of a name in the expression that is being typed: its token, what it means, and its kinds
+-- a use of a name in the expression whose type is being inferred: the index of its token (`at`), what the name means
+-- (`target`), and the kinds, over variables, at which its type is instantiated there
 pub record Found : Type 0 where
   pub at : ℕ
   pub target : Target
@@ -39,8 +43,8 @@ pub data Known : Type 0 where
   value : ℕ → Term → Known
   function : Tree ADef → List TextUse → Known
 
--- What is seen: what names mean, what statements have bound, the newest first, and the parameters and inner bindings of
--- the def around.
+-- What an expression sees in inference: what names mean (`targets`), what statements have bound, the newest first
+-- (`before`), and the parameters and inner bindings of the def around it, each with its type by its token (`inner`).
 pub record Env : Type 0 where
   pub targets : Targets
   pub before : List Known
@@ -70,17 +74,18 @@ term_seen t env = or_else (term_at t env.inner) (term_before t env.before)
 
 -- ---- what is seen, under an assignment to the variables
 
--- a kind of a use in the text of a def, once the variables have their values: a fixed kind, or still the number of an
--- open kind of the def
+-- A kind of a use in the text of a def, once the variables have their values by the assignment a. It is fixed, or still
+-- the number of a kind that each call of the def gives anew.
 abbrev pub settled : Assignment → Pending → KindOf
 settled a (of_term k) = Fixed (kind_meaning a k)
 settled a (of_def j) = Given j
 
--- a use of a name in the text of a def, once the variables have their values by the assignment
+-- a use of a name in the text of a def, once the variables have their values by the assignment a
 abbrev pub settled_use : Assignment → TextUse → Use
 settled_use a u = record { at = u.at; target = u.target; kinds = map (settled a) u.kinds }
 
--- what statements have bound under an assignment: values with their types, and defs
+-- what statements have bound, once the variables have their values by the assignment a: values with their types, and
+-- defs
 abbrev pub entries_under : Assignment → List Known → List Entry
 entries_under a [] = []
 entries_under a (value t u ∷ ks) = entry.value t (meaning a u) ∷ entries_under a ks
@@ -90,7 +95,8 @@ entries_under a (function d us ∷ ks) = entry.function d ∷ entries_under a ks
 abbrev pub types_under : Assignment → List (ℕ × Term) → TypesByToken
 types_under a ts = map (λ x. (x.0, meaning a x.1)) ts
 
--- what an expression sees under an assignment, with these kinds at the places
+-- what an expression sees, once the variables have their values by the assignment a; `kinds` has the kinds that stand
+-- at the places of the uses of names
 abbrev pub sight_under : Env → Assignment → Places → Sight
 sight_under env a kinds = within (types_under a env.inner) (sight env.targets kinds (entries_under a env.before) [])
 
@@ -100,28 +106,32 @@ sight_under env a kinds = within (types_under a env.inner) (sight env.targets ki
 abbrev pub Texts : Type 0
 Texts = List (ℕ × List Use)
 
--- the uses in the texts of the defs under an assignment, each text by the token of its def
+-- the uses in the texts of the defs, once the variables have their values by the assignment a; each text stands under
+-- the token of its def's name
 abbrev pub texts_under : Assignment → List Known → Texts
 texts_under a [] = []
 texts_under a (value t u ∷ ks) = texts_under a ks
 texts_under a (function d us ∷ ks) = (def_token d, map (settled_use a) us) ∷ texts_under a ks
 
--- A use of a name at token `at`, reached by a chain of calls, has the open kinds ks at its place: a builtin's are
--- these, a call of a def has them and goes on to the places of its text (by `calls`), and a value has none.
+-- A use of a name at token `at` has the kinds ks in `kinds`, which has kinds for each place: a token with the `chain`
+-- of calls that led there. A builtin has ks at its place. A call of a def has some kinds there, and goes on into the
+-- def's text, by `calls`. A value has none.
 abbrev pub Takes : (List ℕ → ℕ → List Kind → Type 0) → Places → List ℕ → ℕ → Target → List Kind → Type 0
 Takes calls kinds chain at (target.Slot t) ks = ⊤
 Takes calls kinds chain at (target.Def t) ks = (js : List Kind) × (kinds chain at ≡ Some js) × calls (at ∷ chain) t ks
 Takes calls kinds chain at (target.Builtin b) ks = kinds chain at ≡ Some ks
 
--- Each use in the text of a def has its kinds at its place, reached by a chain of calls, where the open kinds of the
--- def are `given`; `calls` says what a call of a def asks for.
+-- Each use in the text of a def has its kinds at its place in `kinds`: its token, reached by the `chain` of calls.
+-- `given` has the kinds that this call gives for those over which the def's type is general. `calls` says what a call
+-- of a def asks for.
 abbrev pub TextTakes : (List ℕ → ℕ → List Kind → Type 0) → Places → List ℕ → List Kind → List Use → Type 0
 TextTakes calls kinds chain given [] = ⊤
 TextTakes calls kinds chain given (u ∷ us) = ((ks : List Kind) × (kinds_of given u.kinds ≡ Some ks)
     × Takes calls kinds chain u.at u.target ks) × TextTakes calls kinds chain given us
 
--- A call of the def at token t, at the end of this chain of calls, has the open kinds ks: the places in the text of
--- the def have the kinds of its uses. A def that is not among the texts cannot be called.
+-- A call of the def at token t, by this `chain` of calls, gives ks for the kinds over which the def's type is general:
+-- the uses in the text of the def have their kinds at their places in `kinds`. A def that is not among the texts cannot
+-- be called.
 abbrev pub CallTakes : Texts → Places → List ℕ → ℕ → List Kind → Type 0
 CallTakes [] kinds chain t ks = ⊥
 CallTakes (x ∷ xs) kinds chain t ks =
@@ -130,17 +140,21 @@ CallTakes (x ∷ xs) kinds chain t ks =
       | false ↦ CallTakes xs kinds chain t ks
     ]
 
--- each use that was found has its kinds at its place, at the assignment a; xs has the uses in the texts of the defs
+-- Each use that inference has found has its kinds, once the variables have their values by the assignment a, at its
+-- place in `kinds`. xs has the uses in the texts of the defs, which a call goes into.
 abbrev pub EachTakes : Texts → Places → Assignment → List Found → Type 0
 EachTakes xs kinds a [] = ⊤
 EachTakes xs kinds a (f ∷ fs) = Takes (CallTakes xs kinds) kinds [] f.at f.target (map (kind_meaning a) f.kinds)
     × EachTakes xs kinds a fs
 
--- the kinds that stand at the places of the uses fs are those that inference found for them, at the assignment a
+-- The uses fs of names have the kinds that inference found for them at their places in `kinds`, once the variables have
+-- their values by the assignment a. A place is a token with the calls that led there; env has the defs whose texts
+-- calls go into.
 abbrev pub AreFound : Env → Assignment → Places → List Found → Type 0
 AreFound env a kinds fs = EachTakes (texts_under a env.before) kinds a fs
 
--- the uses found so far with one more behind them: of the name at token `at`, which means t, with the kinds ks
+-- the uses of names found so far (fs) with one more behind them: of the name at token `at`, which means t, with the
+-- kinds ks at which its type is instantiated
 abbrev pub with_use : List Found → ℕ → Target → List KindTerm → List Found
 with_use fs at t ks = fs ++ record { at = at; target = t; kinds = ks } ∷ []
 
@@ -155,38 +169,41 @@ abbrev pub AreKindsOver : Table → List KindTerm → Type 0
 AreKindsOver s [] = ⊤
 AreKindsOver s (k ∷ ks) = IsKindOver s k × AreKindsOver s ks
 
--- the kinds of each use that was found have only variables of the substitution
+-- the kinds of each use of a name that inference has found have only variables of the substitution s
 abbrev pub AreUsesOver : Table → List Found → Type 0
 AreUsesOver s [] = ⊤
 AreUsesOver s (f ∷ fs) = AreKindsOver s f.kinds × AreUsesOver s fs
 
--- a kind of a use in a def's text has only variables of the substitution; an open kind has none
+-- A kind of a use in a def's text has only variables of the substitution s. A kind that each call of the def gives anew
+-- has none.
 abbrev pub IsPendingOver : Table → Pending → Type 0
 IsPendingOver s (of_term k) = IsKindOver s k
 IsPendingOver s (of_def j) = ⊤
 
--- each of these kinds of a use in a def's text has only variables of the substitution
+-- each of these kinds of a use in a def's text has only variables of the substitution s
 abbrev pub ArePendingOver : Table → List Pending → Type 0
 ArePendingOver s [] = ⊤
 ArePendingOver s (k ∷ ks) = IsPendingOver s k × ArePendingOver s ks
 
--- the kinds of each use in a text have only variables of the substitution
+-- the kinds of each use of a name in the text of a def have only variables of the substitution s
 abbrev pub IsTextOver : Table → List TextUse → Type 0
 IsTextOver s [] = ⊤
 IsTextOver s (u ∷ us) = ArePendingOver s u.kinds × IsTextOver s us
 
--- the types of values and the kinds in the texts of defs have only variables of the substitution
+-- the types of the values, and the kinds in the texts of the defs, that statements have bound have only variables of
+-- the substitution s
 abbrev pub AreKnownOver : Table → List Known → Type 0
 AreKnownOver s [] = ⊤
 AreKnownOver s (value t u ∷ ks) = IsOver s u × AreKnownOver s ks
 AreKnownOver s (function d us ∷ ks) = IsTextOver s us × AreKnownOver s ks
 
--- the types of parameters and inner bindings have only variables of the substitution
+-- the types of parameters and inner bindings have only variables of the substitution s
 abbrev pub AreTypesOver : Table → List (ℕ × Term) → Type 0
 AreTypesOver s [] = ⊤
 AreTypesOver s (x ∷ xs) = IsOver s x.1 × AreTypesOver s xs
 
--- all types and kinds that are seen have only variables of the substitution
+-- all types and kinds that an expression sees have only variables of the substitution s, so that the substitution has a
+-- value for each
 pub record IsEnvOver (s : Table) (env : Env) : Type 0 where
   pub before : AreKnownOver s env.before
   pub inner : AreTypesOver s env.inner

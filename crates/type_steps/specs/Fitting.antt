@@ -12,13 +12,13 @@ use Rattle.type_steps.specs.declared.arguments.Argument.{Argument}
 abbrev pub seen_argument : Argument → GivenArgument ℕ
 seen_argument g = (seen_label g.label, g.var)
 
--- The parameter p, whose type is t, takes what a call gives for it: an argument of this type, or none where it need
--- not have one.
+-- The parameter p, whose type is t, takes what a call gives for it: an argument of this type, or no argument, if the
+-- parameter has a default.
 abbrev pub FitsOne : Parameter → Option Ground → Ground → Type 0
 FitsOne p None t = is_needed p.form ≡ false
 FitsOne p (Some g) t = g ≡ t
 
--- a type variable, if there is one, is one of the substitution
+-- the type variable of this number, if there is one, is one of the substitution s
 abbrev pub IsInside : Table → Option ℕ → Type 0
 IsInside s None = ⊤
 IsInside s (Some n) = n < length s.types
@@ -27,7 +27,7 @@ IsInside s (Some n) = n < length s.types
 abbrev pub var_at : List Argument → ℕ → ℕ
 var_at gs i = get_or (map (λ g. g.var) gs) i 0
 
--- the arguments of a call that no parameter has taken yet, from the table of labels t: each with its label and type
--- variable
+-- the arguments of a call that no parameter has taken yet, each with its label and type variable; t is the table of the
+-- labels that are left
 abbrev pub left_given : List Argument → Labels → List (GivenArgument ℕ)
 left_given gs t = map (on (var_at gs)) (left_of t)

@@ -14,8 +14,8 @@ use Rattle.type_steps.specs.Environment.{AreKnownOver, AreUsesOver, EachTakes, F
 use Rattle.type_steps.specs.Counts.{scheme_count, text_count}
 use Rattle.type_steps.specs.Defs.{IsTypingOf}
 
--- what a statement has left: a value by its token with its type and the uses in it, a def with the uses in its text, or
--- the uses of a call or an `if` that runs
+-- What inference has left of a statement: a value by the token of its name, with its type and the uses of names in it
+-- (`bound`); a def with the uses in its text (`defined`); or the uses of a call or an `if` that runs (`ran`).
 pub data Done : Type 0 where
   bound : ℕ → Term → List Found → Done
   defined : Tree ADef → List TextUse → Done
@@ -67,17 +67,17 @@ found_said f = (f.at, Some f.target)
 abbrev pub text_said : TextUse → Meaning
 text_said u = (u.at, Some u.target)
 
--- a use that was found, with its kinds under an assignment
+-- a use that inference has found, with its kinds once the variables have their values by the assignment a
 abbrev pub found_use : Assignment → Found → Use
 found_use a f = record { at = f.at; target = f.target; kinds = map (λ k. Fixed (kind_meaning a k)) f.kinds }
 
--- the uses that a statement has left, under an assignment
+-- the uses of names that a statement has left, once the variables have their values by the assignment a
 abbrev pub uses_in : Assignment → Done → List Use
 uses_in a (bound t u fs) = map (found_use a) fs
 uses_in a (defined d us) = map (settled_use a) us
 uses_in a (ran fs) = map (found_use a) fs
 
--- all uses that statements have left, under an assignment, in order
+-- all uses of names that statements have left, in order, once the variables have their values by the assignment a
 abbrev pub uses_under : Assignment → List Done → List Use
 uses_under a xs = flat_map (uses_in a) xs
 
@@ -95,7 +95,8 @@ scope_after sc (more s rest) = scope_after (with_statement s sc) rest
 
 -- ---- the typings of statements
 
--- the uses that statements left outside of defs have their kinds at the places, where the bindings ks are known before
+-- The uses of names that statements left outside of defs have their kinds at their places in `kinds`, once the
+-- variables have their values by the assignment a. The bindings ks are known before the first of these statements.
 abbrev pub AreTaken : Assignment → Places → List Known → List Done → Type 0
 AreTaken a kinds ks [] = ⊤
 AreTaken a kinds ks (x ∷ xs) = EachTakes (texts_under a ks) kinds a (founds_of x)
@@ -106,21 +107,25 @@ abbrev pub AreFoundsOver : Table → List Done → Type 0
 AreFoundsOver s [] = ⊤
 AreFoundsOver s (x ∷ xs) = AreUsesOver s (founds_of x) × AreFoundsOver s xs
 
--- A general type gives the typings of the def d, and has as many open kinds as the text of d.
+-- The def d is known by a general type, whose instances are its typings at the solutions of the substitution s. us are
+-- the uses in its text, which has as many kinds open for each call as the general type has. The bindings ks are known
+-- before it, and `targets` says what names mean.
 pub record IsDefKnown (s : Table) (targets : Targets) (ks : List Known) (d : Tree ADef) (us : List TextUse) : Type 0
   where
     pub general : Scheme
     pub typing : IsTypingOf s targets ks d general us
     pub numbered : text_count us ≡ Some (scheme_count general)
 
--- each def among the known bindings ks is known with a general type, where only the bindings before it are known
+-- each def among the known bindings ks is known by a general type, where only the bindings before it are known; s is
+-- the substitution, and `targets` says what names mean
 abbrev pub AreDefsKnown : Table → Targets → List Known → Type 0
 AreDefsKnown s targets [] = ⊤
 AreDefsKnown s targets (value t u ∷ ks) = AreDefsKnown s targets ks
 AreDefsKnown s targets (function d us ∷ ks) = IsDefKnown s targets ks d us × AreDefsKnown s targets ks
 
--- The typings of a script are exactly the solutions of the substitution, with kinds at the places as the uses say;
--- there is a typing.
+-- Inference is right on a script: its typings are exactly the solutions of the substitution s, and there is one. xs is
+-- what its statements have left; the uses in it have their kinds at their places in `kinds`. `targets` says what names
+-- mean.
 pub record AreTypings (s : Table) (targets : Targets) (script : Script) (xs : List Done) : Type 0 where
   pub some : (a : Assignment) × Solves a s
   pub over : AreKnownOver s (known_of xs)
@@ -131,6 +136,6 @@ pub record AreTypings (s : Table) (targets : Targets) (script : Script) (xs : Li
   pub complete : (kinds : Places) (es : List Entry) → IsTypedTo targets kinds [] script es →
       (a : Assignment) × Solves a s × AreTaken a kinds [] xs × (entries_under a (known_of xs) ≡ es)
 
--- the script has no typing at all, whatever kinds stand at its places
+-- the script has no typing at all, whatever kinds stand at the places of its uses; `targets` says what its names mean
 abbrev pub HasNoTypings : Targets → Script → Type 0
 HasNoTypings targets script = (kinds : Places) (es : List Entry) → IsTypedTo targets kinds [] script es → ⊥

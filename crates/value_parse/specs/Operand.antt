@@ -32,7 +32,7 @@ no_value w = Err (length w)
 abbrev pub braces_at : ℕ → Reader (Tree AnOperand)
 braces_at at w = both por (expect is_close_curly) w >>= made (λ x. Braces at x.0)
 
--- one item or several, where each two have a token between them that `comma` accepts
+-- reads one item or several by the reader `item`, where each two have a token between them that `comma` accepts
 abbrev pub chained : {s : Sort} → (TokenKind → Bool) → Reader (Tree s) → Reader (Tree (Many s))
 chained comma item w = chain comma item w >>= made (λ x. more x.0 x.1)
 
@@ -49,23 +49,24 @@ as_list at read = read >>= made (Listed at)
 abbrev pub as_call : ℕ → List ℕ → Read (Tree (Many AnArg)) → Read (Tree ACall)
 as_call at name read = read >>= made (NamedCall at name)
 
--- This fault is a reason why a reading gives nothing: it is the reading's own syntax fault, or memory was refused,
--- which may happen to each reading.
+-- The fault may be the cause for which a reading (`read`) gives nothing: it is the reading's own syntax fault, or
+-- memory was refused, which may happen to each reading.
 abbrev pub IsFaultOf : {X : Type 0} → Result X Fault → Fault → Type 0
 IsFaultOf read faults.Memory = Unit {0}
 IsFaultOf read (faults.Syntax left) = read ≡ Err (faults.Syntax left)
 
--- A reading put its item behind the others: the new list is the old one and the item that the grammar gives (seen by
--- `view`), and the rest of the tokens are the same. A fault is the one of the grammar's reading.
+-- A reading put its item behind those in `old`, which gives `new`; `view` gives the grammar's tree of an item. The
+-- grammar's reading (`read`) gives the tree of this item and leaves the same tokens. A fault is that of the grammar's
+-- reading, or memory was refused.
 abbrev pub Pushes : {X Y : Type 0} → (X → Y) → List X → List X → Result (Bor (List Token)) Fault → Read Y → Type 0
 Pushes {X = X} view old new (Ok rest) read = (x : X) × (new ≡ old ++ x ∷ []) × (read ≡ Ok (view x, kinds rest.now))
 Pushes view old new (Err e) read = Fails e read
 
--- reads an `if` from its `else` on: the `else`, a value by the reader `full`, and the `end`
+-- reads an `if` from its `else` on: the keyword `else`, a value by the reader `full`, and the keyword `end`
 abbrev pub otherwise : Reader (Tree AFull) → Reader (Unit {0} × (Tree AFull × Unit {0}))
 otherwise full w = both (expect is_else) (both full (expect is_end)) w
 
--- reads an `if` from its `then` on: the `then`, a value by the reader `full`, and all from the `else` on
+-- reads an `if` from its `then` on: the keyword `then`, a value by the reader `full`, and all from its `else` on
 abbrev pub branches : Reader (Tree AFull) → Reader (Unit {0} × (Tree AFull × (Unit {0} × (Tree AFull × Unit {0}))))
 branches full w = both (expect is_then) (both full (otherwise full)) w
 
@@ -79,16 +80,17 @@ seen_otherwise f = (tt, (f, tt))
 abbrev pub seen_branches : Tree AFull → Tree AFull → Unit {0} × (Tree AFull × (Unit {0} × (Tree AFull × Unit {0})))
 seen_branches f g = (tt, (f, seen_otherwise g))
 
--- reads an `if` from its condition on, all values by the reader `full`; `at` is the index of its first token
+-- reads an `if` from its condition on: the condition and the values of both branches, all by the reader `full`; `at` is
+-- the index of its first token
 abbrev pub chosen : ℕ → Reader (Tree AFull) → Reader (Tree AnIf)
 chosen at full w = both full (branches full) w >>= made (λ x. If at x.0 x.1.1.0 x.1.1.1.1.0)
 
--- the expression that was read, made a value: one that does not begin with a minus sign
+-- the expression that was read, made a value that does not begin with a minus sign
 abbrev pub as_plain : Read (Tree AnExpr) → Read (Tree AFull)
 as_plain read = read >>= made Plain
 
--- Reads a value that does not begin with "-": an expression. `full` reads the values within it, `stamp` gives the
--- index of a token, and where it is `loose`, a `(` may stand behind it.
+-- Reads a value that does not begin with a minus sign: an expression. `full` reads the values within it, and `stamp`
+-- gives the index of a token by how many are left. If it is `loose`, a `(` may stand behind it.
 abbrev pub plain : Bool → (ℕ → ℕ) → Reader (Tree AFull) → Reader (Tree AFull)
 plain loose stamp full w = as_plain (expr loose stamp full w)
 
@@ -118,11 +120,11 @@ is_bare w = true
 abbrev pub lone : Bool → Tree AnOperand → Tree AFull
 lone negated p = Plain (lone_expr negated p)
 
--- what was read, made a pair with `first`, which was read before it
+-- the pair of `first`, which was read before, and of what was read now, or the fault of the reading now
 abbrev pub paired : {A B : Type 0} → A → Read B → Read (A × B)
 paired first read = read >>= λ y. Ok ((first, y.0), y.1)
 
--- the comparison that was read, made a negation where a `not` stood before it (`negated`)
+-- the comparison that was read, as an operand of `and`: negated where a `not` stood before it (`negated`)
 abbrev pub behind_not : Bool → Read (Tree ACompare) → Read (Tree ANot)
 behind_not negated read = paired negated read >>= made (λ x. Not x.0 x.1)
 
