@@ -114,8 +114,9 @@ PutsOn before chunk NoPut after =
     ((accepts : Bool) → slice_get before.puts before.put_at ≡ Some accepts
     → (is_list before ≡ true → IsRightPut before accepts) → ⊥) × (after ≡ before)
 
--- A buffer stands for the calls of the run: its answers are the first that are told, the chunks that were got are the
--- first that were there, and those that came in this run are the ones that were put.
+-- s is the state of buffer b after these calls of a run. Their puts and takes had the first answers that the trace
+-- tells, as many as s counts. They got the first chunks of s, and put those after the first `opened`. If one clock
+-- feeds and reads the buffer, each call was answered as a bounded list answers it.
 pub record StandsFor (s : BufferState) (b : ℕ) (calls : List Call) : Type 0 where
   pub puts : map is_some (puts_to b calls) ≡ take s.put_at s.puts
   pub put_low : s.put_at ≤ length s.puts
@@ -130,7 +131,7 @@ pub record StandsFor (s : BufferState) (b : ℕ) (calls : List Call) : Type 0 wh
       → buffer_of call ≡ b
       → Suits s.capacity (somes (puts_to b front)) (got_in b front) call
 
--- each buffer stands for these calls of the run: its counts and chunks are those that the calls led to
+-- each buffer's state is what these calls of the run led to: its counts and its chunks; `states` has it by number
 abbrev pub AllStand : List BufferState → List Call → Type 0
 AllStand states calls = (b : ℕ) (d : BufferState) → b < length states → StandsFor (slice_index_or states b d) b calls
 
@@ -191,7 +192,8 @@ pub record SameBuffer (before after : BufferState) : Type 0 where
   pub got_on : before.got ≤ after.got
   pub there : (rest : List (List Cell)) × (after.chunks ≡ before.chunks ++ rest)
 
--- what calls keep of the states of all buffers: their number, and of each what `SameBuffer` says
+-- What calls keep of the states of all buffers: how many there are, and of each its capacity, the answers that are
+-- told, its ends and what it began with. Its counts only grow, and chunks are only added behind.
 pub record SameBuffers (before after : List BufferState) : Type 0 where
   pub many : length after ≡ length before
   pub each : (k : ℕ) (d : BufferState) → k < length before
@@ -252,7 +254,8 @@ abbrev pub gone_at : Bool → ℕ → ℕ
 gone_at true gone = 0
 gone_at false gone = gone
 
--- a buffer at the beginning of a run of a clock, which feeds it or not, and reads it or not
+-- The state of a buffer at the beginning of a run of a clock, with all counts of calls 0. `fed` and `read` say whether
+-- the clock feeds it and reads it; if it does not feed it, the chunks that are there stay.
 abbrev pub begun : BufferState → (fed read : Bool) → BufferState
 begun s fed read = record {
   capacity = s.capacity;
