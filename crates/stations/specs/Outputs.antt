@@ -24,8 +24,8 @@ pub record OutputPart : Type 0 where
   pub most : List ℕ
 
 -- From `files` to `after` this output was closed: the contents of its file begin with `least` and are a prefix of
--- `most`. Or its closing failed, which `failed` states, and they are a prefix of `most` or what the file held before. No
--- other file changed.
+-- `most`. Or its closing failed, which `failed` states, and they are a prefix of `most` or what the file held before.
+-- No other file changed.
 abbrev pub HoldsBetween : (failed : Type 0) → Files → OutputPart → Files → Type 0
 HoldsBetween failed files output after =
     ((part : List ℕ) × IsPrefix output.least part × IsPrefix part output.most
@@ -61,10 +61,10 @@ pub record AreClosed (least : ℕ) (names : List (List ℕ)) (before : List Clos
 abbrev pub HaveClosed : (least : ℕ) → List (List ℕ) → (before after : Option (List Closing)) → Type 0
 HaveClosed least names before after = ForSome before (λ closings. AreClosed least names closings after)
 
--- The first of the outputs were created and hold their parts, or what a failed closing leaves; the others were not, and
--- then no tick was made, which is `idle`. Each had got its header when it was closed, or a front of it, and its sink
--- had failed. `first` is the count of failed writes when the closings began: where a device failed and not all were
--- created, it rose before that, at a creation, which excuses no file; or it rose at a closing, as a header broke off.
+-- The first of the outputs were created: the contents of each file lie between `least` and `most` of its part, or are
+-- what a failed closing leaves. If some were not created, no tick was made, which is `idle`. Each that was created had
+-- got its header when it was closed, or a prefix of it, and its sink had failed. `first` is how many writes had failed
+-- when the closings began; if `device` and not all were created, a write failed before that, or at a closing.
 pub record HoldsSome (idle : Type 0) (device : Bool) (files : Files) (outputs : List OutputPart) (after : Files)
     (old new : ShelfTold) : Type 0 where
   pub created : List OutputPart

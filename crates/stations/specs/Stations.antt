@@ -67,8 +67,8 @@ pub record AreRoundsAt (setting : Setting) (clocks ticks : ℕ) (run : Run) (mad
   pub made_are : (m : ℕ) → made m ≡ ticks_by ticks rounds.round rounds.clock m
   pub tried_are : (m : ℕ) → tried m ≡ ticks_by ticks rounds.round (rounds.clock + 1) m
 
--- a run by threads, in windows of so many ticks, came so far: clock m made `made m` whole ticks of all its ticks and
--- began `tried m`
+-- A run by threads, in windows of `window` ticks, came so far: clock m made `made m` whole ticks and began `tried m`.
+-- Clocks 0 to `clocks - 1` run, and each is to make `ticks` ticks in all.
 pub record AreWindowsAt (setting : Setting) (clocks ticks window : ℕ) (run : Run) (made tried : ℕ → ℕ) : Type 0 where
   pub windows : AreWindowsBegun setting clocks window ticks run
   pub made_are : (m : ℕ) → made m ≡ windows.made m

@@ -23,8 +23,8 @@ abbrev pub header_for : Setting → (wide : Bool) → (ticks node : ℕ) → Lis
 header_for setting wide ticks node = header_bytes_at wide (kind_of setting node) setting.plan.rate
     (ticks * setting.plan.frame)
 
--- what is written to the file of an output that plays this node for so many ticks: its header, and tick by tick what the
--- node offers; `wide` says that its samples have 24 bits
+-- what is written to the file of an output that plays this node for so many ticks: its header, and tick by tick what
+-- the node offers; `wide` says that its samples have 24 bits
 abbrev pub output_bytes : Setting → (wide : Bool) → (ticks node : ℕ) → List ℕ
 output_bytes setting wide ticks node = header_for setting wide ticks node ++ ticks_bytes setting wide node ticks
 

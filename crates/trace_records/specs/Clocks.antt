@@ -82,8 +82,8 @@ pub record AreWhole (base : Setting) (text : ℕ → Log) (W N m n : ℕ) (calls
       → length (takes_of b (calls (start W N j))) ≡ length (takes_in (take j (text b)))
 
 -- Clock m has made its first n ticks, of N in windows of W, as the text of a trace tells. `given b` is what the takes
--- from buffer b got, and `accepted t b` whether its put of tick t was accepted. `chunks b` are those that were put to b,
--- where b joins two clocks.
+-- from buffer b got, and `accepted t b` whether its put of tick t was accepted. `chunks b` are those that were put to
+-- b, where b joins two clocks.
 pub record HasReplayed (base : Setting) (text : ℕ → Log) (W N m n : ℕ) (chunks : ℕ → List (List Cell)) (given : ℕ
     → List Answer) (accepted : ℕ → ℕ → Bool) : Type 0 where
   pub answered_so : AreAnswered base text chunks (first_calls (answered base given) accepted m n)

@@ -65,8 +65,8 @@ pub record AreOrdered (base : Setting) (clocks : ℕ) (ticks : ℕ → ℕ → L
       → b < length base.plan.buffers → reader base b ≡ m
       → got_in b (ticks m (suc t)) ≤ put_by b (ticks (feeder base b) (counted (feeder base b) before))
 
--- A replay of the text of a trace, of N ticks in windows of W, has come so far: clock m has made `made m` ticks, for each
--- m, all in some order in which no chunk is got before it was put; `chunks b` are those that were put to buffer b.
+-- A replay of the text of a trace, of N ticks in windows of W, has come so far: each clock m has made `made m` ticks,
+-- all in some order in which no chunk is got before it was put; `chunks b` are those that were put to buffer b.
 pub record AreAt (base : Setting) (clocks W N : ℕ) (text : ℕ → Log) (made : ℕ → ℕ) (chunks : ℕ
     → List (List Cell)) : Type 0 where
   pub calls : ℕ → List Call
@@ -89,8 +89,8 @@ pub record IsHalted (base : Setting) (text : ℕ → Log) (chunks : ℕ → List
   pub order_front : AreInOrder base front
   pub waits : Waits base text chunks front call
 
--- Clock m has made its first n ticks, of N in windows of W, as the text of a trace tells. `chunks b` are those of buffer
--- b before, and `others b` those after: what the clock put, if it feeds b, and otherwise the same.
+-- Clock m has made its first n ticks, of N in windows of W, as the text of a trace tells. `chunks b` are those of
+-- buffer b before, and `others b` those after: what the clock put, if it feeds b, and otherwise the same.
 pub record HasCome (base : Setting) (W N : ℕ) (text : ℕ → Log) (m n : ℕ) (chunks others : ℕ
     → List (List Cell)) : Type 0 where
   pub calls : List Call
