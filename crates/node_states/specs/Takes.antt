@@ -39,8 +39,8 @@ pub record HasTaken {T : Type 0} (stands : T → List Call
   pub begun : (rest : List Answer) → at_start (more ++ rest) before ≡ now
 
 -- The reader of this buffer, in the state `before`, made some of the takes of a tick, from the first on, when a fault
--- broke it off; they got `more`. The clock's ends of buffers were `taps_old` before and are `taps_new` now; `stands taps
--- calls` states that they are those after these calls.
+-- broke it off; they got `more`. The clock's ends of buffers were `taps_old` before and are `taps_new` now;
+-- `stands taps calls` states that they are those after these calls.
 pub record IsTaken {T : Type 0} (stands : T → List Call
     → Type 0) (buffer : ℕ) (before : Reader) (taps_old taps_new : T) : Type 0 where
   pub more : List Answer

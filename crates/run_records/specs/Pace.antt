@@ -16,18 +16,18 @@ has_none [] = false
 has_none (None ∷ answers) = true
 has_none (Some chunk ∷ answers) = has_none answers
 
--- The takes from a buffer keep pace with its puts, window by window. A take is owed for each put that no take has
--- matched yet: `owed` of them when the first window begins, and never more than D. Each window has at most W puts, and
--- takes enough that what is owed after it adds up, unless a take found the buffer empty.
+-- The takes from a buffer keep pace with its puts. `owed` is by how many the puts may still outnumber the takes when
+-- the first window begins, at most D. Each window has at most W puts, and leaves to the next at most `owed` and its
+-- takes, less its puts; if one of its takes found the buffer empty, it leaves any number up to D.
 abbrev pub KeepPace : (W D owed : ℕ) → List Window → Type 0
 KeepPace W D owed [] = owed ≤ D
 KeepPace W D owed (window ∷ windows) =
     (length window.0 ≤ W) × (owed ≤ D) × (left : ℕ)
     × ((has_none window.1 ≡ true) ⊎ (length window.0 + left ≤ length window.1 + owed)) × KeepPace W D left windows
 
--- A reader owes so many takes between two ticks, at most D: for as many ticks it may play what it holds and take
--- nothing. Either it plays and holds less than `owed + 1` frames, the cells of a tick each; or it does not play, has
--- not gathered its prefill, and owes D.
+-- A reader owes so many takes between two ticks, at most D: for as many ticks it may take nothing. Either it plays and
+-- holds less than `owed + 1` frames, the cells of a tick each; or it does not play, has not gathered its prefill, and
+-- owes D.
 abbrev pub Owes : (D : ℕ) → Reader → (owed : ℕ) → Type 0
 Owes D reader owed = (owed ≤ D)
     × (((reader.playing ≡ true) × (length reader.cells < suc owed * reader.frame))
@@ -74,9 +74,9 @@ AreTicks W answers reader (window ∷ windows) =
     (n : ℕ) × (n ≤ W) × (length window.0 ≤ n) × (window.1 ≡ takes_in n answers reader)
     × AreTicks W (answers_after n answers reader) (reader_after n answers reader) windows
 
--- In n ticks, with these takes, a reader came to `after` and kept pace: it had owed `owed` takes and owes `left` now, at
--- most D, and made enough in between, one a tick on the whole, unless a take found the buffer empty. Its prefill and
--- its frame, how many cells it gives in a tick, are the same.
+-- In n ticks, with these takes, a reader came to `after` and kept pace. For `owed` ticks it might take nothing before,
+-- and for `left` after, at most D. Together n and `left` are at most `owed` and the number of its takes, unless a take
+-- found the buffer empty. Its prefill and its frame, how many cells it gives in a tick, are the same.
 pub record KeepsPace (D n : ℕ) (reader after : Reader) (takes : List Answer) (owed : ℕ) : Type 0 where
   pub left : ℕ
   pub owes : Owes D after left
@@ -84,8 +84,8 @@ pub record KeepsPace (D n : ℕ) (reader after : Reader) (takes : List Answer) (
   pub prefill : after.prefill ≡ reader.prefill
   pub frame : after.frame ≡ reader.frame
 
--- Node i, which is `node`, reads this buffer and lies in main clock m. It is demanded at each instant at which it offers
--- a cell, so it gives each cell that it offers.
+-- Node i, which is `node`, reads this buffer and lies in main clock m. It is demanded at each instant at which it
+-- offers a cell, so it gives each cell that it offers.
 pub record IsDrawn (setting : Setting) (buffer m i : ℕ) (node : Node) : Type 0 where
   pub found : slice_get setting.plan.nodes i ≡ Some node
   pub does : work_at setting i node ≡ Reads buffer
