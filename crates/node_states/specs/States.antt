@@ -40,7 +40,8 @@ abbrev pub HasTurned : Choice → (last : Option ℕ) → (choices : ℕ) → Tu
 HasTurned (Selects rule) last choices state = ⊥
 HasTurned (TakesTurns turn) last choices state = TurnStandsFor turn (record { last = last; choices = choices }) state
 
--- a crossfade that was given the first `filled` slots of its child is at item p, which no fewer slots settle
+-- A crossfade with this overlap, that was given the first `filled` slots of its child, is at item p, counted from 0;
+-- fewer slots do not settle that item. `slots m` are the first m slots of the child.
 pub record CrossStands (slots : ℕ → List Slot) (filled p overlap : ℕ) (state : Crossing) : Type 0 where
   pub overlap_is : state.overlap ≡ overlap
   pub stands : StandsFor state (slots filled) p

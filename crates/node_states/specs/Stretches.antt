@@ -86,9 +86,9 @@ pub record HasStood (latest : Latest) (work : Work) (gave : Bool) (below title :
   pub fills : gave ≡ true → passes state ≡ true
       → AreFilled latest.setting latest.sub latest.i latest.filled below title
 
--- The state of node i, which does this work, is the one after the latest instant, over these audio files. `part` is what
--- the node did there, and `gave` says whether it gave a cell. If it gave and is a crossfade through which cells pass,
--- `below` slots more of its child are there, with this title.
+-- The state of node i, which does this work, is the one after the latest instant, over these audio files. `part` is
+-- what the node did there, and `gave` says whether it gave a cell. If it gave and is a crossfade through which cells
+-- pass, `below` slots more of its child are there, with this title.
 pub record HasRested (latest : Latest) (work : Work) (sounds : Sounds) (part : Part) (gave : Bool) (below title : ℕ)
     (state : NodeState) : Type 0 where
   pub library : latest.setting.library ≡ sounds

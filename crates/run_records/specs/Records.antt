@@ -53,8 +53,9 @@ on buffer (Took other answer ∷ calls) = if nat_eq buffer other then Took other
 on buffer (Given other chunk accepted ∷ calls) = if nat_eq buffer other
     then Given other chunk accepted ∷ on buffer calls else on buffer calls
 
--- These calls on a list of at most `capacity` chunks, in this order, lead from `queue` to `rest`: a take gets the
--- front, and nothing only where there is none; a put goes to the back, and is refused only where the list is full.
+-- These calls on a list of at most `capacity` chunks, in this order, lead from `queue` to `rest`. A take gets the first
+-- chunk, and nothing only where there is none; a put adds a chunk at the end, and is refused only where the list is
+-- full.
 abbrev pub Follows : (capacity : ℕ) → List (List Cell) → List Call → List (List Cell) → Type 0
 Follows capacity queue [] rest = queue ≡ rest
 Follows capacity queue (Took buffer None ∷ calls) rest = (queue ≡ []) × Follows capacity queue calls rest
@@ -92,9 +93,9 @@ windows_in setting clocks accepted buffer W N (suc j) =
           (start W N (suc j))),
     ) ∷ []
 
--- A lawful record of N ticks of each running clock in windows of W ticks: each buffer's windows hold the puts and the
--- takes of these ticks and are one history of a bounded queue; the calls on a buffer with both ends in one clock stand
--- in the order in which this clock makes them.
+-- The run is a lawful record of N ticks of each of clocks 0 to `clocks - 1`, in windows of W ticks. Each buffer's
+-- windows hold the puts and the takes of these ticks and are one history of a bounded queue. A buffer with both ends in
+-- one clock answers this clock's calls, in their order, as a bounded list does.
 pub record AreWindows (setting : Setting) (clocks W N : ℕ) (run : Run) : Type 0 where
   pub buffers : length run.buffers ≡ length setting.plan.buffers
   pub accepted : (m t buffer : ℕ) → Bool

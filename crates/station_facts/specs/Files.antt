@@ -70,8 +70,8 @@ lists_of plan = once (lists plan.nodes)
 abbrev pub sounds_of : Plan → List ListLook → List (List ℕ)
 sounds_of plan looks = once (singles plan.nodes ++ in_each entries_in looks)
 
--- Under each of these names one thing was found, in one call of the shelf after another, from `old` to `new` of what the
--- shelf tells. `IsFound name old new found` states it of one name; no call changed the files.
+-- Under each of these names one thing was found, in one call of the shelf after another. `old` and `new` are what the
+-- shelf told before and after. `IsFound name old new found` states it of one name; no call changed the files.
 abbrev pub AreFound : {A : Type 0} → (List ℕ → (old new : ShelfTold) → A → Type 0) → List (List ℕ)
     → (old new : ShelfTold) → List A → Type 0
 AreFound IsFound [] old new [] = new ≡ old
@@ -80,11 +80,13 @@ AreFound IsFound [] old new (found ∷ looks) = ⊥
 AreFound IsFound (name ∷ names) old new (found ∷ looks) =
     (mid : ShelfTold) × IsFound name old mid found × OnlyRead old mid × AreFound IsFound names mid new looks
 
--- in calls of the shelf one after another, each list of these names was looked at, and `looks` is what was found
+-- in calls of the shelf one after another, each playlist of these names was looked at, and `looks` is what was found;
+-- `old` and `new` are what the shelf told before and after
 abbrev pub AreListLooks : List (List ℕ) → (old new : ShelfTold) → List ListLook → Type 0
 AreListLooks names old new looks = AreFound IsListLook names old new looks
 
--- in calls of the shelf one after another, each audio file of these names was looked at, and `looks` is what was found
+-- In calls of the shelf one after another, each audio file of these names was looked at, and `looks` is what was found.
+-- `rules` has the rate and the sizes that may be loaded; `old` and `new` are what the shelf told before and after.
 abbrev pub AreLooks : Rules → List (List ℕ) → (old new : ShelfTold) → List Look → Type 0
 AreLooks rules names old new looks = AreFound (IsLooked rules) names old new looks
 

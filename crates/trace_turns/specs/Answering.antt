@@ -170,8 +170,9 @@ pub record HasFailed (states : List BufferState) (calls : List Call) : Type 0 wh
   pub stand : AllStand states front
   pub none : (other : Call) → IsSameCall call other → CanComeBy states front other → ⊥
 
--- what the buffers stand for when calls were made: for all of them where the run goes, for those before a take that
--- waits for a chunk, or for those before a call that no answer makes right
+-- The states of the buffers are those after these calls of a run, as far as the calls could be answered. The course
+-- says how far: all of them; or those before a take that waits for a chunk; or those before a call to which no answer
+-- is right.
 abbrev pub TapsStand : Course → List BufferState → List Call → Type 0
 TapsStand Goes states calls = AllStand states calls
 TapsStand Waits states calls = HasWaited states calls

@@ -30,8 +30,9 @@ pub record HasLost (states full : List BufferState) (calls : List Call) : Type 0
   pub known : buffer < length states
   pub lost : (d : BufferState) → (slice_index_or states buffer d).got < (slice_index_or states buffer d).gone
 
--- what buffers that let go of chunks stand for, by how far the calls could be answered: what the same buffers with all
--- their chunks do
+-- Buffers that freed chunks are after these calls as the same buffers with all their chunks are. The course says how:
+-- all calls were answered; or one take waits for a chunk, or is to get a chunk that was freed; or no answer is right to
+-- one of them.
 abbrev pub TapsFollow : Course → List BufferState → List Call → Type 0
 TapsFollow Goes states calls = (full : List BufferState) × AreFull states full × AllStand full calls
 TapsFollow Waits states calls = (full : List BufferState) × AreFull states full
@@ -49,8 +50,8 @@ abbrev pub AreUnlost : (readers : List ℕ) → (m : ℕ) → List Mark → List
 AreUnlost readers m marks states = (b : ℕ) (d : BufferState) (e : Mark) → b < length states
     → slice_index_or readers b 0 ≡ m → (slice_index_or states b d).gone ≤ (slice_index_or marks b e).got
 
--- a turn of clock m lets go of no chunk that another clock is still to get; `readers` has the main clock of the reader
--- of each buffer
+-- A turn of clock m, its run of some ticks, frees no chunk that another clock is still to get. It led the buffers from
+-- `before` to `after`; `readers` has the main clock of the reader of each.
 abbrev pub OthersStayUnlost : (readers : List ℕ) → (m : ℕ) → (before after : List BufferState) → Type 0
 OthersStayUnlost readers m before after = (k : ℕ) (marks : List Mark) → (k ≡ m → ⊥)
     → AreUnlost readers k marks before → AreUnlost readers k marks after
