@@ -32,7 +32,7 @@ HoldsBetween failed files output after =
     × (after ≡ with_file files output.name part)) ⊎ (failed × HoldsPart files output.name output.most after)
 
 -- From `files` to `after` these outputs were closed, one after another: the contents of each file begin with `least` of
--- its part and are a prefix of `most`. Where the number of failed writes rose at a closing, they may be any prefix of
+-- its output and are a prefix of `most`. Where the number of failed writes rose at a closing, they may be any prefix of
 -- `most`, or what the file held before. That number was `count` before the closings and `last` after them.
 abbrev pub HoldsParts : (count : ℕ) → Files → List OutputPart → Files → (last : ℕ) → Type 0
 HoldsParts count files [] after last = (after ≡ files) × (count ≤ last)
@@ -61,10 +61,10 @@ pub record AreClosed (least : ℕ) (names : List (List ℕ)) (before : List Clos
 abbrev pub HaveClosed : (least : ℕ) → List (List ℕ) → (before after : Option (List Closing)) → Type 0
 HaveClosed least names before after = ForSome before (λ closings. AreClosed least names closings after)
 
--- The first of the outputs were created: the contents of each file lie between `least` and `most` of its part, or are
--- what a failed closing leaves. If some were not created, no tick was made, which is `idle`. Each that was created had
--- got its header when it was closed, or a prefix of it, and its sink had failed. `first` is how many writes had failed
--- when the closings began; if `device` and not all were created, a write failed before that, or at a closing.
+-- The first of the outputs were created: the contents of each file begin with `least` of its output and are a prefix of
+-- `most`, or are what a failed closing leaves. If some were not created, no tick was made, which is `idle`. Each that was
+-- created had got its header when it was closed, or a prefix of it, and its sink had failed. `first` is how many writes
+-- had failed when the closings began; if `device` and not all were created, one failed before that, or at a closing.
 pub record HoldsSome (idle : Type 0) (device : Bool) (files : Files) (outputs : List OutputPart) (after : Files)
     (old new : ShelfTold) : Type 0 where
   pub created : List OutputPart

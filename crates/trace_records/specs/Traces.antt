@@ -31,8 +31,8 @@ pair_of answers = (answers.puts, answers.takes)
 abbrev pub text_of : List (List Answers) → ℕ → Log
 text_of logs b = map pair_of (slice_index_or logs b [])
 
--- A trace of N ticks of clocks 0 to `clocks - 1` is accepted: its text is that of a lawful record whose ticks can be put
--- in an order in which no chunk is got before it was put.
+-- A trace of N ticks of clocks 0 to `clocks - 1` is accepted: its text is that of a lawful record whose ticks can be
+-- put in an order in which no chunk is got before it was put.
 pub record IsAccepted (base : Setting) (clocks N : ℕ) (trace : TraceValue) : Type 0 where
   pub ticks : trace.ticks ≡ N
   pub buffers : length trace.buffers ≡ length base.plan.buffers

@@ -147,7 +147,8 @@ pub record CanComeBy (states : List BufferState) (front : List Call) (call : Cal
       → Suits (slice_index_or states (buffer_of call) d).capacity (somes (puts_to (buffer_of call) front))
       (got_in (buffer_of call) front) call
 
--- the buffers stand for these calls up to a take that gets a chunk by the trace, which another clock has not put yet
+-- The states of the buffers are those after the calls before one, a take that is to get a chunk, by the trace. Another
+-- clock puts that chunk, and has not put it yet.
 pub record HasWaited (states : List BufferState) (calls : List Call) : Type 0 where
   pub front : List Call
   pub behind : List Call
@@ -161,7 +162,8 @@ pub record HasWaited (states : List BufferState) (calls : List Call) : Type 0 wh
       ≤ (slice_index_or states buffer d).got
   pub joins : (d : BufferState) → is_list (slice_index_or states buffer d) ≡ false
 
--- the buffers stand for these calls up to one to which no answer is right: none is told, or a list would not answer so
+-- The states of the buffers are those after the calls before one to which no answer is right: the trace tells none, or
+-- one that a bounded list would not give, where one clock feeds and reads the buffer.
 pub record HasFailed (states : List BufferState) (calls : List Call) : Type 0 where
   pub front : List Call
   pub behind : List Call

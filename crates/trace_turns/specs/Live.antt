@@ -22,8 +22,9 @@ use Rattle.trace_turns.specs.Thin.{AreFull, AreUnlost, NoneLost}
 use Rattle.trace_turns.specs.Turns.{AreEnds, AreFit, AreSides, RunsAt, Score, chunks_of}
 use Rattle.trace_turns.specs.Timed.{TimedText, timed}
 
--- What a replay of N ticks in windows of W ticks rests on for each of its clocks: a setting with its clocks, a text of
--- that form, one buffer for each of the plan, and `ends`, which says where the text's windows end.
+-- What a replay of N ticks in windows of W ticks rests on for each of its clocks. `score` has the plan with its clocks,
+-- and the text of the trace, which has as many windows as these ticks need. There is one buffer state for each buffer
+-- of the plan, and `ends` says where the text's windows end.
 pub record MayMove (score : Score) (W N : ℕ) (states : List BufferState) (ends : List Ends) : Type 0 where
   pub is : IsSetting score.base score.clocks
   pub formed : IsFormed (length score.base.plan.buffers) W N score.text
@@ -152,7 +153,7 @@ abbrev pub HasResumed : FullScore → Sides → (W N m n : ℕ) → LiveClock �
 HasResumed score of W N m n live states = HasFlownOn score.base (timed score.text W N)
     (mains of.feeders.items of.readers.items) m n live.engine.parts live.marks.items score.full states
 
--- this is clock m of a station before its first tick: with a new engine, and no call on any buffer
+-- `live` is main clock m of the setting `base` before its first tick: with a new engine, and no call on any buffer
 pub record IsNewClock (base : Setting) (m : ℕ) (live : LiveClock) : Type 0 where
   pub over : setting_of live.engine.parts ≡ base
   pub clock : live.engine.parts.clock ≡ m

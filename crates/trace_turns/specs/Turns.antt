@@ -114,8 +114,8 @@ abbrev pub EndsWith : (W N n : ℕ) → Type 0
 EndsWith W N n = (n % W ≡ W - 1) ⊎ (suc n ≡ N)
 
 -- The last argument is how a clock's run of N ticks, in windows of W, goes on after tick n, and `before` is how it
--- would by the answers of the tick's calls. They are the same, but a run that could go on fails where a window ends with
--- this tick and the clock's calls on some buffer are not just those up to there; `ends` says where the windows end.
+-- would by the answers of the tick's calls. They are the same, but a run that could go on fails where a window ends
+-- with this tick and the clock's calls on some buffer are not just those up to there; `ends` says where windows end.
 abbrev pub GoesOn : (W N n : ℕ) → Course → List BufferState → List Ends → Course → Type 0
 GoesOn W N n before states ends Goes = (before ≡ Goes) × (EndsWith W N n → AreAtEnd states ends (n / W))
 GoesOn W N n before states ends Waits = before ≡ Waits
