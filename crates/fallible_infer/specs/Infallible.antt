@@ -40,8 +40,8 @@ rests_of Sequence = OnLast
 rests_of (Buffer number) = ByNothing
 rests_of _ = OnSome
 
--- Whether a node with these children always offers a cell, by what makes nodes like it do so; `mark` says which children
--- always do. Some child has to, or one whose predicate is always true by its form, or the last child.
+-- Whether a node with these children always offers a cell, by what makes nodes like it do so. `mark` says which
+-- children always do: some child has to, or one whose predicate is always true by its form, or the last child.
 abbrev pub rests_on : (mark : ℕ → Bool) → Rests → List ℕ → Bool
 rests_on mark ByNothing children = false
 rests_on mark ByItself children = true

@@ -91,7 +91,8 @@ FadesOn sub past filled i (Reads buffer) = ⊥
 pub record AreLong (sub : ℕ → ℕ → List Slot) : Type 0 where
   pub each : (k m : ℕ) → length (sub k m) ≡ m
 
--- a state is one that a node with so many children may have, in a plan with these audio files
+-- A state is one that a node with so many children may have, in a plan with these audio files: that of a leaf is at a
+-- place that they have, that of a selection counts as many children, and any other may be had.
 abbrev pub Fits : Sounds → (children : ℕ) → NodeState → Type 0
 Fits library children (Leaf state) = IsPlacedIn library state
 Fits library children (Select state) = state.children ≡ children

@@ -41,7 +41,7 @@ first_name such (sink ∷ sinks) = if such sink then Some (sink_name sink) else 
 abbrev pub node_kind : Plan → (node : ℕ) → Kind
 node_kind plan node = option_map_or (λ node. node.kind) (slice_get plan.nodes node) Stereo
 
--- whether an output is too long for the header of its file after so many ticks
+-- whether a sink is an output whose file has too many bytes after so many ticks, so that its WAV header cannot count them
 abbrev pub is_too_long : Plan → (ticks : ℕ) → SinkPlan → Bool
 is_too_long plan ticks (Output name node fallible wide) = is_none
     (header_at wide (node_kind plan node) plan.rate (ticks * plan.frame))

@@ -62,9 +62,9 @@ abbrev pub HaveClosed : (least : ℕ) → List (List ℕ) → (before after : Op
 HaveClosed least names before after = ForSome before (λ closings. AreClosed least names closings after)
 
 -- The first of the outputs were created: the contents of each file begin with `least` of its output and are a prefix of
--- `most`, or are what a failed closing leaves. If some were not created, no tick was made, which is `idle`. Each that was
--- created had got its header when it was closed, or a prefix of it, and its sink had failed. `first` is how many writes
--- had failed when the closings began; if `device` and not all were created, one failed before that, or at a closing.
+-- `most`, or are what a failed closing leaves. If some were not created, no tick was made, which is `idle`. Each that
+-- was created had got its header when it was closed, or a prefix of it, and its sink had failed. `first` is how many
+-- writes had failed when the closings began; if `device` and not all were created, one failed before that or after.
 pub record HoldsSome (idle : Type 0) (device : Bool) (files : Files) (outputs : List OutputPart) (after : Files)
     (old new : ShelfTold) : Type 0 where
   pub created : List OutputPart
