@@ -31,7 +31,7 @@ pub record AreSettled (setting : Setting) (sub : ℕ → ℕ → List Slot) (clo
   pub each : (i : ℕ) (node : Node) → IsIn setting clock i node
       → IsSettled sub past (filled i) i (work_at setting i node)
 
--- there is a state for each node of the plan, and each is one that its node may have
+-- there is a state for each node of the scene's plan, and each is one that a node with as many children may have there
 pub record AllFit (scene : Scene) (states : List NodeState) : Type 0 where
   pub size : length states ≡ length scene.plan.now.nodes
   pub each : (i : ℕ) (node : Node) (state : NodeState) → slice_get scene.plan.now.nodes i ≡ Some node
