@@ -131,8 +131,8 @@ pub record IsRounds (setting : Setting) (clocks N : ℕ) (run : Run) : Type 0 wh
       → (rest : List (List Cell))
       × Follows (capacity_of setting buffer) [] (on buffer (rounds_of (setting_in setting run) accepted clocks N)) rest
 
--- the calls of `round` whole rounds of clocks 0 to `clocks - 1`, and then of the ticks of the clocks below `clock` in
--- the next one; `accepted m t b` says whether the put of clock m to buffer b in tick t is accepted
+-- The calls of `round` whole rounds of clocks 0 to `clocks - 1`, and then of the ticks of the clocks below `clock` in
+-- the next one. `accepted m t b` says whether the put of clock m to buffer b in tick t is accepted.
 abbrev pub rounds_to : Setting → (accepted : ℕ → ℕ → ℕ → Bool) → (clocks round clock : ℕ) → List Call
 rounds_to setting accepted clocks round clock = rounds_of setting accepted clocks round
     ++ joined_upto (λ m. ticks_of setting accepted m round) clock

@@ -66,7 +66,7 @@ pub record AreOrdered (base : Setting) (clocks : ℕ) (ticks : ℕ → ℕ → L
       → got_in b (ticks m (suc t)) ≤ put_by b (ticks (feeder base b) (counted (feeder base b) before))
 
 -- A replay of the text of a trace, of N ticks in windows of W, has come so far: each clock m has made `made m` ticks,
--- all in some order in which no chunk is got before it was put; `chunks b` are those that were put to buffer b.
+-- all in some order in which no chunk is got before it was put. `chunks b` are those that were put to buffer b.
 pub record AreAt (base : Setting) (clocks W N : ℕ) (text : ℕ → Log) (made : ℕ → ℕ) (chunks : ℕ
     → List (List Cell)) : Type 0 where
   pub calls : ℕ → List Call
