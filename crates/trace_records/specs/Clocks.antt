@@ -73,8 +73,8 @@ pub record AreInOrder (base : Setting) (calls : List Call) : Type 0 where
       (got_in (buffer_of call) front) call
 
 -- Clock m has made n of N ticks in windows of W. By the start of each window j that it reached, its calls are just as
--- many as the text tells of the windows before j: puts to a buffer that it feeds, and takes from one that it reads. `calls t` are
--- those of its first t ticks.
+-- many as the text tells of the windows before j: puts to a buffer that it feeds, and takes from one that it reads.
+-- `calls t` are those of its first t ticks.
 pub record AreWhole (base : Setting) (text : ℕ → Log) (W N m n : ℕ) (calls : ℕ → List Call) : Type 0 where
   pub puts : (j b : ℕ) → start W N j ≤ n → j ≤ length (text b) → b < length base.plan.buffers → feeder base b ≡ m
       → length (puts_to b (calls (start W N j))) ≡ length (puts_in (take j (text b)))
