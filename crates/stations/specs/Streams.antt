@@ -55,8 +55,8 @@ outputs_in setting ticks (Output name node fallible wide ∷ sinks) =
     record { name = name; bytes = file_bytes setting wide ticks node } ∷ outputs_in setting ticks sinks
 outputs_in setting ticks (Feed buffer node ∷ sinks) = outputs_in setting ticks sinks
 
--- What the files of the outputs among these sinks hold when a run of so many ticks breaks off, where clock m made `made
--- m` ticks and began `tried m`. Here `least` has the bytes of the ticks that were made by the clock of the output, and
+-- What the files of the outputs among these sinks hold when a run of so many ticks breaks off. Clock m made just
+-- `made m` ticks and began `tried m`. Here `least` has the bytes of the ticks that were made by the clock of the output, and
 -- `most` those of the ticks that it began.
 abbrev pub parts_in : Setting → (ticks : ℕ) → (made tried : ℕ → ℕ) → List SinkPlan → List OutputPart
 parts_in setting ticks made tried [] = []
