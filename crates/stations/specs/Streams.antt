@@ -56,7 +56,7 @@ outputs_in setting ticks (Output name node fallible wide ∷ sinks) =
 outputs_in setting ticks (Feed buffer node ∷ sinks) = outputs_in setting ticks sinks
 
 -- What the files of the outputs among these sinks hold when a run of so many ticks breaks off. Clock m made just
--- `made m` ticks and began `tried m`. Here `least` has the bytes of the ticks that were made by the clock of the output, and
+-- `made m` ticks and began `tried m`. Here `least` has the bytes of the ticks that the output's clock made, and
 -- `most` those of the ticks that it began.
 abbrev pub parts_in : Setting → (ticks : ℕ) → (made tried : ℕ → ℕ) → List SinkPlan → List OutputPart
 parts_in setting ticks made tried [] = []
