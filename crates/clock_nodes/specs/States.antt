@@ -14,21 +14,24 @@ pub record IsIn (setting : Setting) (clock : NodeClock) (i : ℕ) (node : Node) 
   pub there : slice_get setting.plan.nodes i ≡ Some node
   pub inside : lies_in setting clock i ≡ true
 
--- the states of a clock's nodes stand for these instants of it; `filled i` is how many slots crossfade i was given, or
--- how many instants reader i has begun
+-- The states of a clock's nodes are those after these instants of it, the latest first. `filled i` is how many slots of
+-- its child crossfade i was given, or how many instants reader i has begun; `sub k m` are the first m slots of the
+-- child of crossfade k.
 pub record ClockStands (setting : Setting) (sub : ℕ → ℕ
     → List Slot) (clock : NodeClock) (past : List Moment) (filled : ℕ → ℕ)
     (states : List NodeState) : Type 0 where
   pub each : (i : ℕ) (node : Node) (state : NodeState) → IsIn setting clock i node → slice_get states i ≡ Some state
       → StateStands setting sub past (filled i) i (work_at setting i node) state
 
--- each node of a clock can make the instant after this past: items of crossfades are settled, and readers have begun
+-- Each node of a clock can make the instant after this past: its crossfades have the slots of their children that they
+-- need, and its readers have begun. `filled i` is how many slots crossfade i was given, or how many instants reader i
+-- has begun; `sub k m` are the first m slots of the child of crossfade k.
 pub record AreSettled (setting : Setting) (sub : ℕ → ℕ → List Slot) (clock : NodeClock) (past : List Moment) (filled : ℕ
     → ℕ) : Type 0 where
   pub each : (i : ℕ) (node : Node) → IsIn setting clock i node
       → IsSettled sub past (filled i) i (work_at setting i node)
 
--- there is a state for each node of the plan, and each is one that its node may have
+-- there is a state for each node of the scene's plan, and each is one that a node with as many children may have there
 pub record AllFit (scene : Scene) (states : List NodeState) : Type 0 where
   pub size : length states ≡ length scene.plan.now.nodes
   pub each : (i : ℕ) (node : Node) (state : NodeState) → slice_get scene.plan.now.nodes i ≡ Some node

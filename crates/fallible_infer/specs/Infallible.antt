@@ -9,7 +9,8 @@ use Rattle.plan_core.specs.declared.sink.SinkPlan.{SinkPlan}
 use Rattle.plan_core.specs.declared.sink.SinkPlan.TheVariants.{Output, Feed}
 use Rattle.time_pred.specs.Predicates.{Predicate, is_always}
 
--- whether node i is marked in a list of marks, one for each node; false if it has no mark
+-- whether node i is marked as infallible, as one that always offers a cell; the list has a flag for each node, and one
+-- without a flag is not
 abbrev pub mark_at : List Bool → ℕ → Bool
 mark_at marks i = slice_index_or marks i false
 
@@ -39,8 +40,8 @@ rests_of Sequence = OnLast
 rests_of (Buffer number) = ByNothing
 rests_of _ = OnSome
 
--- whether a node that rests on this is infallible, by the marks of its children: on some child where one is marked, on
--- cases where a child is whose predicate is always true by its form, and on the last child where that one is
+-- Whether a node with these children always offers a cell, by what makes nodes like it do so. `mark` says which
+-- children always do: some child has to, or one whose predicate is always true by its form, or the last child.
 abbrev pub rests_on : (mark : ℕ → Bool) → Rests → List ℕ → Bool
 rests_on mark ByNothing children = false
 rests_on mark ByItself children = true
@@ -48,7 +49,7 @@ rests_on mark OnSome children = list_any mark children
 rests_on mark (OnCases preds) children = list_any (λ pair. is_always pair.0 && mark pair.1) (zip preds children)
 rests_on mark OnLast children = option_map_or mark (last_of children) false
 
--- whether a node of this operator is infallible over these children, where the mark of a child says whether it is
+-- whether a node of this operator always offers a cell over these children, where `mark` says which of them always do
 abbrev pub infallible_by : (mark : ℕ → Bool) → Op → List ℕ → Bool
 infallible_by mark op children = rests_on mark (rests_of op) children
 

@@ -33,15 +33,16 @@ asked false j = 0
 abbrev pub given_part : Moment → ℕ → Part
 given_part moment i = if gives moment i then part_at moment.parts i else silent
 
--- after the first n slots of a crossfade's child come `count` cells with this title and these samples
+-- after the first n slots of a crossfade's child come `count` cells with this title, and with these samples on the left
+-- and on the right; `slots_of m` are the first m slots of the child
 pub record LaneFills (slots_of : ℕ → List Slot) (n count title : ℕ) (left right : List ℤ) : Type 0 where
   pub slots : ℕ → Slot
   pub lane : IsLane slots count left right
   pub titled : AreTitled slots count title
   pub filled : (m : ℕ) → m < count → slots_of (suc (n + m)) ≡ slots_of (n + m) ++ slots m ∷ []
 
--- after the first n slots of a crossfade's child come `count` cells with this title and the samples that the lanes have
--- of that child
+-- After the first n slots of a crossfade's child, the first of these children, come `count` cells with this title.
+-- Their samples are those that `lefts` and `rights` have of the child; `slots_of m` are the first m slots of it.
 pub record ChildFills (slots_of : ℕ
     → List Slot) (n count title : ℕ) (children : List ℕ) (lefts rights : Lanes) : Type 0 where
   pub child : ℕ

@@ -40,7 +40,8 @@ abbrev pub HasTurned : Choice → (last : Option ℕ) → (choices : ℕ) → Tu
 HasTurned (Selects rule) last choices state = ⊥
 HasTurned (TakesTurns turn) last choices state = TurnStandsFor turn (record { last = last; choices = choices }) state
 
--- a crossfade that was given the first `filled` slots of its child is at item p, which no fewer slots settle
+-- A crossfade with this overlap, that was given the first `filled` slots of its child, is at item p, counted from 0;
+-- fewer slots do not settle that item. `slots m` are the first m slots of the child.
 pub record CrossStands (slots : ℕ → List Slot) (filled p overlap : ℕ) (state : Crossing) : Type 0 where
   pub overlap_is : state.overlap ≡ overlap
   pub stands : StandsFor state (slots filled) p
@@ -90,7 +91,8 @@ FadesOn sub past filled i (Reads buffer) = ⊥
 pub record AreLong (sub : ℕ → ℕ → List Slot) : Type 0 where
   pub each : (k m : ℕ) → length (sub k m) ≡ m
 
--- a state is one that a node with so many children may have, in a plan with these audio files
+-- A state is one that a node with so many children may have, in a plan with these audio files: that of a leaf is at a
+-- place that they have, that of a selection counts as many children, and any other may be had.
 abbrev pub Fits : Sounds → (children : ℕ) → NodeState → Type 0
 Fits library children (Leaf state) = IsPlacedIn library state
 Fits library children (Select state) = state.children ≡ children

@@ -31,7 +31,7 @@ LiesAhead library (Cross state) count = crossing_passes state ≡ false → coun
 LiesAhead library (Read reader) count = (j : ℕ) → j < count → is_inner (reader_slot (read_by j reader)) ≡ true
 LiesAhead library Idle count = ⊤
 
--- node i gives at the next instant, and `many` instants go on as that one
+-- node i, which is `node`, gives a cell at the next instant of its clock, and so at `many` instants after it, alike
 pub record GoesOn (history : History) (many i : ℕ) (node : Node) : Type 0 where
   pub nodes : AreNodes history.setting.plan.nodes
   pub long : AreLong history.sub
@@ -44,8 +44,9 @@ pub record GoesOn (history : History) (many i : ℕ) (node : Node) : Type 0 wher
 abbrev pub filled_on : Bool → (many filled : ℕ) → ℕ
 filled_on reading many filled = if reading then filled + many else filled
 
--- node i gives at the next instant, for which its state stands too, and `many` instants go on as that one. A reader has
--- begun that instant; a crossfade through which cells pass gets those of its child, with the title `below`
+-- Node i gives a cell at the next instant, which `state` has made already, and `many` instants go on as that one. A
+-- reader has begun that instant. A crossfade that was given `filled` slots of its child, and through which cells pass,
+-- gets those that `before` has of its child, with the title `below`.
 pub record GivesOn (history : History) (many filled i : ℕ) (node : Node) (sounds : Sounds) (below : ℕ) (before : Before)
     (state : NodeState) : Type 0 where
   pub library : history.setting.library ≡ sounds
@@ -75,8 +76,9 @@ pub record Latest : Type 0 where
   pub filled : ℕ
   pub i : ℕ
 
--- The state of node i stands for the latest instant too, at which it gave or did not, as `gave` says. Where cells pass
--- through it as a crossfade, its child has so many slots more, of this title.
+-- The state of node i, which does this work, is the one after the latest instant too, and `gave` says whether it gave a
+-- cell there. If it gave and is a crossfade through which cells pass, `below` slots more of its child are there, with
+-- this title.
 pub record HasStood (latest : Latest) (work : Work) (gave : Bool) (below title : ℕ) (state : NodeState) : Type 0 where
   pub long : AreLong latest.sub
   pub stands : StateStands latest.setting latest.sub (latest.moment ∷ latest.past) latest.filled latest.i work state
@@ -84,8 +86,9 @@ pub record HasStood (latest : Latest) (work : Work) (gave : Bool) (below title :
   pub fills : gave ≡ true → passes state ≡ true
       → AreFilled latest.setting latest.sub latest.i latest.filled below title
 
--- After the latest instant the state of node i stands for it, over these audio files; `part` is what the node had
--- there. A reader has begun the next instant.
+-- The state of node i, which does this work, is the one after the latest instant, over these audio files. `part` is
+-- what the node did there, and `gave` says whether it gave a cell. If it gave and is a crossfade through which cells
+-- pass, `below` slots more of its child are there, with this title.
 pub record HasRested (latest : Latest) (work : Work) (sounds : Sounds) (part : Part) (gave : Bool) (below title : ℕ)
     (state : NodeState) : Type 0 where
   pub library : latest.setting.library ≡ sounds

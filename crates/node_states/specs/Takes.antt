@@ -8,8 +8,9 @@ use Rattle.stream_meaning.specs.Instants.{Setting, Moment, next_answers, reading
 use Rattle.node_states.specs.declared.state.NodeState.{NodeState}
 use Rattle.node_states.specs.States.{StateStands, reading_by}
 
--- By the first takes of a tick a reader came from `before` to `now`, whatever answers follow. `stands` says for which
--- calls the ends of the buffers stand, `taps_old` before these takes and `taps_new` after.
+-- By the first takes of a tick, which got `more`, the reader of this buffer came from `before` to `now`, whatever
+-- answers follow. The clock's ends of buffers were `taps_old` before and are `taps_new` now; `stands taps calls` states
+-- that they are those after these calls.
 pub record IsTaking {T : Type 0} (stands : T → List Call
     → Type 0) (buffer : ℕ) (before now : Reader) (taps_old taps_new : T) : Type 0 where
   pub more : List Answer
@@ -17,8 +18,9 @@ pub record IsTaking {T : Type 0} (stands : T → List Call
   pub takes : (rest : List Answer) → reader_takes (more ++ rest) before ≡ more ++ reader_takes rest now
   pub holds : (rest : List Answer) → after_takes (more ++ rest) before ≡ after_takes rest now
 
--- By all takes of a tick a reader came from `before` to `now`; it has not begun the tick yet. `stands` says for which
--- calls the ends of the buffers stand, `taps_old` before and `taps_new` after.
+-- By all takes of a tick, which got `more`, the reader of this buffer came from `before` to `now`; it has not begun the
+-- tick yet. The clock's ends of buffers were `taps_old` before and are `taps_new` now; `stands taps calls` states that
+-- they are those after these calls.
 pub record HasHeld {T : Type 0} (stands : T → List Call
     → Type 0) (buffer : ℕ) (before now : Reader) (taps_old taps_new : T) : Type 0 where
   pub more : List Answer
@@ -26,8 +28,9 @@ pub record HasHeld {T : Type 0} (stands : T → List Call
   pub takes : (rest : List Answer) → reader_takes (more ++ rest) before ≡ more
   pub holds : (rest : List Answer) → after_takes (more ++ rest) before ≡ now
 
--- A reader made all takes of a tick and then began it: so it came from `before` to `now`. `stands` says for which
--- calls the ends of the buffers stand, `taps_old` before and `taps_new` after.
+-- The reader of this buffer made all takes of a tick, which got `more`, and then began it: so it came from `before` to
+-- `now`. The clock's ends of buffers were `taps_old` before and are `taps_new` now; `stands taps calls` states that
+-- they are those after these calls.
 pub record HasTaken {T : Type 0} (stands : T → List Call
     → Type 0) (buffer : ℕ) (before now : Reader) (taps_old taps_new : T) : Type 0 where
   pub more : List Answer
@@ -35,8 +38,9 @@ pub record HasTaken {T : Type 0} (stands : T → List Call
   pub takes : (rest : List Answer) → reader_takes (more ++ rest) before ≡ more
   pub begun : (rest : List Answer) → at_start (more ++ rest) before ≡ now
 
--- A reader made some of the takes of a tick, from the first on, when a fault broke it off. `stands` says for which
--- calls the ends of the buffers stand, `taps_old` before and `taps_new` after.
+-- The reader of this buffer, in the state `before`, made some of the takes of a tick, from the first on, when a fault
+-- broke it off; they got `more`. The clock's ends of buffers were `taps_old` before and are `taps_new` now;
+-- `stands taps calls` states that they are those after these calls.
 pub record IsTaken {T : Type 0} (stands : T → List Call
     → Type 0) (buffer : ℕ) (before : Reader) (taps_old taps_new : T) : Type 0 where
   pub more : List Answer
@@ -52,9 +56,9 @@ pub record HasBegunAt (setting : Setting) (sub : ℕ → ℕ
       (reading_after setting i buffer past).reader ≡ more
   pub taken : (reading_by setting i buffer past (suc (length past))).taken ≡ length (front ++ more)
 
--- The state of a reader has begun a tick: whatever instants it stood for, by which it had taken the answers `front`,
--- it has taken the next ones. `stands` says for which calls the ends of the buffers stand, `taps_old` before and
--- `taps_new` after.
+-- The reader of this buffer has begun a tick, from the state `before` to `now`: whatever past it stood for, in which it
+-- had taken some answers, it has taken the next ones, `more`. The clock's ends of buffers were `taps_old` before and
+-- are `taps_new` now; `stands taps calls` states that they are those after these calls.
 pub record HasBegun {T : Type 0} (stands : T → List Call
     → Type 0) (buffer : ℕ) (before now : NodeState) (taps_old taps_new : T) : Type 0 where
   pub more : List Answer
@@ -65,8 +69,9 @@ pub record HasBegun {T : Type 0} (stands : T → List Call
       → setting.answers buffer ≡ (front ++ more) ++ rest → (reading_after setting i buffer past).taken ≡ length front
       → HasBegunAt setting sub past i buffer front more now
 
--- The state of a reader has made some of the takes of a tick, from the first on, whatever instants it stood for.
--- `stands` says for which calls the ends of the buffers stand, `taps_old` before and `taps_new` after.
+-- The reader of this buffer, in the state `before`, has made some of the takes of a tick, from the first on, whatever
+-- past it stood for; they got `more`. The clock's ends of buffers were `taps_old` before and are `taps_new` now;
+-- `stands taps calls` states that they are those after these calls.
 pub record HasTakenSome {T : Type 0} (stands : T → List Call
     → Type 0) (buffer : ℕ) (before : NodeState) (taps_old taps_new : T) : Type 0 where
   pub more : List Answer

@@ -12,8 +12,9 @@ use Rattle.stream_meaning.specs.Calls.{IsBegin, calls_of_tick, after_calls}
 abbrev pub past_of : Setting → (sub : ℕ → ℕ → List Slot) → (ran : NodeClock → ℕ) → ℕ → List Moment
 past_of setting sub ran i = first_instants setting sub (clock_of setting i) (ran (clock_of setting i))
 
--- After tick t of main clock m, which made the calls `more`: the engine stands for one tick more and for their
--- answers, whatever answers follow. `held` and `now` are what each sink held before and holds now, where it tells it.
+-- An engine has made tick t of main clock m, with the calls `more`, after the answers `answers`: it stands for one tick
+-- more and for the answers of these calls, whatever answers follow. `stands n answers` states that it is as after n
+-- ticks with these answers; `held` and `now` are what each sink held before and holds now, where it tells it.
 pub record HasTicked (stands : ℕ → (ℕ → List Answer) → Type 0) (setting : Setting) (m t : ℕ) (answers : ℕ → List Answer)
     (more : List Call) (held now : ℕ → Option (List ℕ)) : Type 0 where
   pub accepted : ℕ → Bool
@@ -24,8 +25,8 @@ pub record HasTicked (stands : ℕ → (ℕ → List Answer) → Type 0) (settin
   pub grew : (rest : ℕ → List Answer) (sink node : ℕ) (output : IsOutput setting m sink node)
       → now sink ≡ grown (tick_bytes (with_rest setting (after_calls answers more) rest) output.wide node t) (held sink)
 
--- After a fault in tick t of main clock m: the calls `made` in it are the first ones of the tick's, whatever answers
--- follow. `held` and `now` are what each sink held before and holds now, where it tells it.
+-- A fault stopped main clock m in tick t, after the answers `answers`: the calls `made` are a prefix of those of the
+-- tick, whatever answers follow. `held` and `now` are what each sink held before and holds now, where it tells it.
 pub record HasStopped (setting : Setting) (m t : ℕ) (answers : ℕ → List Answer) (made : List Call) (held now : ℕ
     → Option (List ℕ)) : Type 0 where
   pub accepted : ℕ → Bool

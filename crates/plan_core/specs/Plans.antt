@@ -149,7 +149,8 @@ pub record IsWellFormed (plan : Plan) : Type 0 where
 abbrev pub with_node : Plan → Node → Plan
 with_node plan node = record plan { nodes = plan.nodes ++ node ∷ [] }
 
--- the plan with one more output
+-- the plan with one more output, to the file of this name, of the cells of this node; `fallible` says that it may have
+-- gaps, and `wide` that its samples have 24 bits
 abbrev pub with_output : Plan → (name : List ℕ) (node : ℕ) (fallible wide : Bool) → Plan
 with_output plan name node fallible wide = record plan { sinks = plan.sinks ++ Output name node fallible wide ∷ [] }
 
@@ -157,7 +158,7 @@ with_output plan name node fallible wide = record plan { sinks = plan.sinks ++ O
 abbrev pub reader_of : (buffer : ℕ) → Kind → Node
 reader_of buffer kind = record { op = Buffer buffer; kind = kind; children = [] }
 
--- the plan with one more buffer, its reader and its feed
+-- the plan with one more buffer, a feed of it from node `source`, and a node that reads it and is of this kind
 abbrev pub with_buffer : Plan → (source : ℕ) → Kind → BufferPlan → Plan
 with_buffer plan source kind buffer = record plan {
   nodes = plan.nodes ++ reader_of (length plan.buffers) kind ∷ [];

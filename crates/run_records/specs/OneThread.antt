@@ -49,7 +49,8 @@ abbrev pub calls_in_rounds : Setting → (clocks N : ℕ) → List Call
 calls_in_rounds setting clocks zero = []
 calls_in_rounds setting clocks (suc t) = round_after setting (calls_in_rounds setting clocks t) t clocks
 
--- the record of `count` buffers, from this one on: one window for each, which has its calls
+-- the record of `count` buffers, of which the first has the number `buffer`: one window for each, with its puts and its
+-- takes among these calls
 abbrev pub windows_from : List Call → (buffer count : ℕ) → List (List Window)
 windows_from calls buffer zero = []
 windows_from calls buffer (suc count) = ((puts_to buffer calls, takes_of buffer calls) ∷ [])

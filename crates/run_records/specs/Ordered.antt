@@ -22,18 +22,21 @@ abbrev pub made : (m : ℕ) → List (ℕ × ℕ) → ℕ
 made m [] = 0
 made m (tick ∷ ticks) = if nat_eq tick.0 m then suc (made m ticks) else made m ticks
 
--- how many chunks of buffer b the first n ticks of its reader's clock got
+-- how many chunks of buffer b the first n ticks of its reader's clock got, where clocks 0 to `clocks - 1` run;
+-- `accepted m t b` says whether the put of clock m to buffer b in tick t is accepted
 abbrev pub got_by : Setting → (clocks : ℕ) → (accepted : ℕ → ℕ → ℕ → Bool) → (b n : ℕ) → ℕ
 got_by setting clocks accepted b n = length
     (somes (takes_of b (joined_upto (calls_in setting clocks accepted (reader setting b)) n)))
 
--- how many chunks of buffer b the first n ticks of its feeder's clock put and it accepted
+-- how many chunks the first n ticks of its feeder's clock put to buffer b, where clocks 0 to `clocks - 1` run; a put
+-- counts if it is accepted, as `accepted m t b` says of that of clock m in tick t
 abbrev pub kept_by : Setting → (clocks : ℕ) → (accepted : ℕ → ℕ → ℕ → Bool) → (b n : ℕ) → ℕ
 kept_by setting clocks accepted b n = length
     (somes (puts_to b (joined_upto (calls_in setting clocks accepted (feeder setting b)) n)))
 
--- The ticks of a record can be ordered: a list of all of them keeps each clock's order, and each chunk that a tick got
--- was accepted in an earlier one. A buffer's chunks are got in the order in which they were accepted.
+-- The N ticks of each of clocks 0 to `clocks - 1` can be ordered: a list of all of them keeps each clock's order, and
+-- each chunk that a tick got was put in an earlier one. A buffer's chunks are got in the order in which they were put.
+-- `accepted m t b` says whether the put of clock m to buffer b in tick t is accepted.
 pub record IsOrdered (setting : Setting) (clocks : ℕ) (accepted : ℕ → ℕ → ℕ → Bool) (N : ℕ) : Type 0 where
   pub order : List (ℕ × ℕ)
   pub all : (m : ℕ) → m < clocks → made m order ≡ N

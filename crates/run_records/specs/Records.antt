@@ -53,8 +53,9 @@ on buffer (Took other answer ∷ calls) = if nat_eq buffer other then Took other
 on buffer (Given other chunk accepted ∷ calls) = if nat_eq buffer other
     then Given other chunk accepted ∷ on buffer calls else on buffer calls
 
--- These calls on a list of at most `capacity` chunks, in this order, lead from `queue` to `rest`: a take gets the
--- front, and nothing only where there is none; a put goes to the back, and is refused only where the list is full.
+-- These calls on a list of at most `capacity` chunks, in this order, lead from `queue` to `rest`. A take gets the first
+-- chunk, and nothing only where there is none; a put adds a chunk at the end, and is refused only where the list is
+-- full.
 abbrev pub Follows : (capacity : ℕ) → List (List Cell) → List Call → List (List Cell) → Type 0
 Follows capacity queue [] rest = queue ≡ rest
 Follows capacity queue (Took buffer None ∷ calls) rest = (queue ≡ []) × Follows capacity queue calls rest
@@ -69,15 +70,18 @@ Follows capacity queue (Given buffer chunk false ∷ calls) rest = (length queue
 abbrev pub start : (W N j : ℕ) → ℕ
 start W N j = min N (j * W)
 
--- the calls of tick t of clock m; `accepted m t` are the answers of its puts
+-- the calls of tick t of clock m, its takes and its puts; `accepted m t b` says whether its put to buffer b is accepted
 abbrev pub ticks_of : Setting → (accepted : ℕ → ℕ → ℕ → Bool) → (m t : ℕ) → List Call
 ticks_of setting accepted m t = calls_of_tick setting (accepted m t) m t
 
--- the calls of tick t of clock m, if clocks 0 to `clocks - 1` run; a clock that does not run makes no call
+-- the calls of tick t of clock m, if clocks 0 to `clocks - 1` run; a clock that does not run makes no call, and
+-- `accepted m t b` says whether its put to buffer b is accepted
 abbrev pub calls_in : Setting → (clocks : ℕ) → (accepted : ℕ → ℕ → ℕ → Bool) → (m t : ℕ) → List Call
 calls_in setting clocks accepted m t = if nat_lt m clocks then ticks_of setting accepted m t else []
 
--- the first `count` windows of a buffer: in each the puts of its feeder's clock, and the takes of its reader's
+-- The first `count` windows of a buffer in a run of N ticks in windows of W: each has the puts of the clock that feeds
+-- it, and the takes of the clock that reads it. Clocks 0 to `clocks - 1` run; `accepted m t b` says whether the put of
+-- clock m to buffer b in tick t is accepted.
 abbrev pub windows_in : Setting → (clocks : ℕ) → (accepted : ℕ → ℕ → ℕ → Bool) → (buffer W N count : ℕ) → List Window
 windows_in setting clocks accepted buffer W N zero = []
 windows_in setting clocks accepted buffer W N (suc j) =
@@ -89,9 +93,9 @@ windows_in setting clocks accepted buffer W N (suc j) =
           (start W N (suc j))),
     ) ∷ []
 
--- A lawful record of N ticks of each running clock in windows of W ticks: each buffer's windows hold the puts and the
--- takes of these ticks and are one history of a bounded queue; the calls on a buffer with both ends in one clock stand
--- in the order in which this clock makes them.
+-- The run is a lawful record of N ticks of each of clocks 0 to `clocks - 1`, in windows of W ticks. Each buffer's
+-- windows hold the puts and the takes of these ticks and are one history of a bounded queue. A buffer with both ends in
+-- one clock answers this clock's calls, in their order, as a bounded list does.
 pub record AreWindows (setting : Setting) (clocks W N : ℕ) (run : Run) : Type 0 where
   pub buffers : length run.buffers ≡ length setting.plan.buffers
   pub accepted : (m t buffer : ℕ) → Bool
@@ -107,11 +111,13 @@ pub record AreWindows (setting : Setting) (clocks W N : ℕ) (run : Run) : Type 
       × Follows (capacity_of setting buffer) []
       (on buffer (joined_upto (calls_in (setting_in setting run) clocks accepted (feeder setting buffer)) N)) rest
 
--- the calls of N rounds: tick t of clock 0, of clock 1 and so on, and then tick t + 1
+-- the calls of N rounds, in each of which clocks 0 to `clocks - 1` make one tick, in this order; `accepted m t b` says
+-- whether the put of clock m to buffer b in tick t is accepted
 abbrev pub rounds_of : Setting → (accepted : ℕ → ℕ → ℕ → Bool) → (clocks N : ℕ) → List Call
 rounds_of setting accepted clocks N = joined_upto (λ t. joined_upto (λ m. ticks_of setting accepted m t) clocks) N
 
--- this is the record of N rounds on one thread: one window a buffer, in the order of the rounds
+-- The run is that of N rounds on one thread, in each of which clocks 0 to `clocks - 1` make one tick. Each buffer has
+-- one window, and answers the calls, in the order of the rounds, as a bounded list does.
 pub record IsRounds (setting : Setting) (clocks N : ℕ) (run : Run) : Type 0 where
   pub buffers : length run.buffers ≡ length setting.plan.buffers
   pub accepted : (m t buffer : ℕ) → Bool
@@ -125,7 +131,8 @@ pub record IsRounds (setting : Setting) (clocks N : ℕ) (run : Run) : Type 0 wh
       → (rest : List (List Cell))
       × Follows (capacity_of setting buffer) [] (on buffer (rounds_of (setting_in setting run) accepted clocks N)) rest
 
--- the calls of so many whole rounds, and of the ticks of the clocks below `clock` in the next one
+-- The calls of `round` whole rounds of clocks 0 to `clocks - 1`, and then of the ticks of the clocks below `clock` in
+-- the next one. `accepted m t b` says whether the put of clock m to buffer b in tick t is accepted.
 abbrev pub rounds_to : Setting → (accepted : ℕ → ℕ → ℕ → Bool) → (clocks round clock : ℕ) → List Call
 rounds_to setting accepted clocks round clock = rounds_of setting accepted clocks round
     ++ joined_upto (λ m. ticks_of setting accepted m round) clock
@@ -140,8 +147,9 @@ made_by rounds clock m = if nat_lt m clock then suc rounds else rounds
 abbrev pub ticks_by : (total round clock m : ℕ) → ℕ
 ticks_by total round clock m = min total (made_by round clock m)
 
--- the record of rounds that were broken off, maybe in the middle of a tick, in the turn of one clock: its calls begin
--- those of N rounds, whatever answers follow; they are those of all turns before, and a beginning of those of that turn
+-- The run is that of rounds on one thread that were broken off, maybe in the middle of the tick of one clock. Whatever
+-- answers follow, its calls are a prefix of those of N rounds of clocks 0 to `clocks - 1`: those of all ticks before
+-- that one, and a prefix of those of that tick. Each buffer answers them as a bounded list does.
 pub record AreRoundsBegun (setting : Setting) (clocks N : ℕ) (run : Run) : Type 0 where
   pub buffers : length run.buffers ≡ length setting.plan.buffers
   pub calls : List Call
@@ -157,8 +165,8 @@ pub record AreRoundsBegun (setting : Setting) (clocks N : ℕ) (run : Run) : Typ
   pub in_order : (buffer : ℕ) → buffer < length setting.plan.buffers
       → (rest : List (List Cell)) × Follows (capacity_of setting buffer) [] (on buffer calls) rest
 
--- Of the ticks from s to e a clock made those before `made` and tried those before `tried`: no more, or the one in
--- which it stopped.
+-- Of the ticks from s to e, without e, a clock made those before `made` and began those before `tried`: no more, or one
+-- more, in which it stopped.
 pub record IsWithin (s e made tried : ℕ) : Type 0 where
   pub least : s ≤ made
   pub most : tried ≤ e

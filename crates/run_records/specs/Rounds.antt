@@ -7,7 +7,7 @@ use Rattle.run_records.specs.Buffers.{feeder, reader}
 use Rattle.frame_core.specs.Calls.{Answer}
 use Rattle.run_records.specs.Records.{Window, Run, setting_in, setting_then}
 
--- the windows of a buffer joined to one, with all their puts and all their takes
+-- the windows of a buffer joined to one window, with all their puts and all their takes, in their order
 abbrev pub as_one : List Window → List Window
 as_one windows = (flat_map (λ (window : Window). window.0) windows, flat_map (λ (window : Window). window.1) windows)
     ∷ []

@@ -18,8 +18,9 @@ use Rattle.station_check.specs.Steps.{OnlyCause}
 use Rattle.station_check.specs.declared.halt.CheckEnd.{CheckEnd}
 use Rattle.station_check.specs.declared.halt.CheckEnd.TheVariants.{Refused, Read, Memory}
 
--- why a check ends: a plan is refused for what is found where the files are told; a read failed where the count of
--- failed reads rose; and memory may be refused anywhere
+-- Why a check of a plan ends without passing. A refusal is for a fault that `IsTold files fault` states, where the
+-- shelf tells its files; for a failed read the number of failed reads rose; memory may be refused anywhere. `old` and
+-- `new` are what the shelf told before and after.
 abbrev pub HaltsFor : (old new : ShelfTold) → (Files → StationFault → Type 0) → CheckEnd → Type 0
 HaltsFor old new IsTold (Refused fault) = ForSome old.files (λ files. IsTold files fault)
 HaltsFor old new IsTold Read = Rose old.reads new.reads

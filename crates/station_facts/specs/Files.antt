@@ -70,8 +70,8 @@ lists_of plan = once (lists plan.nodes)
 abbrev pub sounds_of : Plan → List ListLook → List (List ℕ)
 sounds_of plan looks = once (singles plan.nodes ++ in_each entries_in looks)
 
--- Under each of these names one thing was found, in one call of the shelf after another; each call began with what the
--- one before it had left.
+-- Under each of these names one thing was found, in one call of the shelf after another. `old` and `new` are what the
+-- shelf told before and after. `IsFound name old new found` states it of one name; no call changed the files.
 abbrev pub AreFound : {A : Type 0} → (List ℕ → (old new : ShelfTold) → A → Type 0) → List (List ℕ)
     → (old new : ShelfTold) → List A → Type 0
 AreFound IsFound [] old new [] = new ≡ old
@@ -80,11 +80,13 @@ AreFound IsFound [] old new (found ∷ looks) = ⊥
 AreFound IsFound (name ∷ names) old new (found ∷ looks) =
     (mid : ShelfTold) × IsFound name old mid found × OnlyRead old mid × AreFound IsFound names mid new looks
 
--- in calls of the shelf one after another, each list of these names was looked at, and `looks` is what was found
+-- in calls of the shelf one after another, each playlist of these names was looked at, and `looks` is what was found;
+-- `old` and `new` are what the shelf told before and after
 abbrev pub AreListLooks : List (List ℕ) → (old new : ShelfTold) → List ListLook → Type 0
 AreListLooks names old new looks = AreFound IsListLook names old new looks
 
--- in calls of the shelf one after another, each audio file of these names was looked at, and `looks` is what was found
+-- In calls of the shelf one after another, each audio file of these names was looked at, and `looks` is what was found.
+-- `rules` has the rate and the sizes that may be loaded; `old` and `new` are what the shelf told before and after.
 abbrev pub AreLooks : Rules → List (List ℕ) → (old new : ShelfTold) → List Look → Type 0
 AreLooks rules names old new looks = AreFound (IsLooked rules) names old new looks
 
@@ -165,8 +167,9 @@ files_object rules plan ats inferred list_looks looks = object (plan_members pla
     ++ (paired_member (codes "sounds") (sound_object rules) (sounds_of plan list_looks) looks
     ++ (number_member (codes "bytes") (all_bytes rules looks) ++ limit_members rules))))
 
--- What is told of a plan, over a shelf: each list as it was found, and then each audio file. `ats` has the byte of the
--- script at which the call of each source begins.
+-- `told` is the text of what is told of a plan, over a shelf, as JSON: each list as it was found, and then each audio
+-- file. `ats` has the byte of the script at which the call of each source begins. `old` and `new` are what the shelf
+-- told before and after.
 pub record IsTold (rules : Rules) (plan : Plan) (ats : List ℕ) (old new : ShelfTold) (told : List ℕ) : Type 0 where
   pub inferred : Inferred
   pub is_inferred : IsInferred plan inferred

@@ -16,7 +16,7 @@ abbrev pub cases_in : Op → ℕ
 cases_in (Switch sensitive preds) = length preds + 1
 cases_in _ = 0
 
--- how many cases these sources and others with n cases have; where they are more than 100,000, 100,001
+-- how many cases the switches among these sources have, added to n; 100,001 if that is more than 100,000
 abbrev pub cases_to : ℕ → List Node → ℕ
 cases_to n [] = n
 cases_to n (node ∷ nodes) = cases_to (min (n + cases_in node.op) 100001) nodes
@@ -51,7 +51,8 @@ switch_of most place cases none at = object (number_member (codes "source") plac
 abbrev pub switch_object : (most place : ℕ) → List Predicate → (at : ℕ) → List Token
 switch_object most place preds at = switch_of most place (case_spans [] preds) (hole_spans preds) at
 
--- the JSON object of source `place` if it is a switch; nothing of another source
+-- The JSON object of source `place` if it is a switch; nothing of another source. Its call begins at byte `at` of the
+-- script, and no more than `most` spans are told of a case.
 abbrev pub source_hours : (most place : ℕ) → Op → (at : ℕ) → List Token
 source_hours most place (Switch sensitive preds) at = switch_object most place preds at
 source_hours most place _ at = []
@@ -73,6 +74,7 @@ switches_object most nodes ats = object (number_member (codes "most") most
 abbrev pub week_object : Plan → (ats : List ℕ) → List Token
 week_object plan ats = switches_object (most_spans plan.nodes) plan.nodes ats
 
--- what is told of the hours of a plan; `ats` has the byte of the script at which the call of each source begins
+-- `told` is the text of what is told of the hours of a plan, as JSON: when in the week each case of its switches holds.
+-- `ats` has the byte of the script at which the call of each source begins.
 abbrev pub AreHours : Plan → (ats : List ℕ) → (told : List ℕ) → Type 0
 AreHours plan ats told = told ≡ print (week_object plan ats)

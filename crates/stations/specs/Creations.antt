@@ -39,8 +39,8 @@ names_of station = names_in station.plan.sinks
 abbrev pub AreNamesOfFiles : Station → Run → Type 0
 AreNamesOfFiles station run = map (λ file. file.name) (files_of station run) ≡ names_of station
 
--- Of these names the first ones alone were made, one after another, maybe none and maybe all; and each of them was
--- closed, in that order, and no other.
+-- Of the files of these names the first ones alone were created, one after another, maybe none and maybe all; and the
+-- sink of each was closed, in that order, and no other. `old` and `new` are what the shelf told before and after.
 pub record CreatedFront (names : List (List ℕ)) (old new : ShelfTold) : Type 0 where
   pub made : List (List ℕ)
   pub others : List (List ℕ)

@@ -41,7 +41,7 @@ first_name such (sink ∷ sinks) = if such sink then Some (sink_name sink) else 
 abbrev pub node_kind : Plan → (node : ℕ) → Kind
 node_kind plan node = option_map_or (λ node. node.kind) (slice_get plan.nodes node) Stereo
 
--- whether an output is too long for the header of its file after so many ticks
+-- whether a sink is an output that is too long after so many ticks: its WAV header cannot count the bytes of its file
 abbrev pub is_too_long : Plan → (ticks : ℕ) → SinkPlan → Bool
 is_too_long plan ticks (Output name node fallible wide) = is_none
     (header_at wide (node_kind plan node) plan.rate (ticks * plan.frame))
@@ -106,7 +106,8 @@ IsFileFault files plan AllTooLarge = IsUnloaded files plan AllTooLarge
 IsFileFault files plan (ReadFault name) = ⊥
 IsFileFault files plan Memory = ⊥
 
--- the plan, rendered for so many ticks, has this fault
+-- the plan, rendered for so many ticks, has this fault: of its files, of an output that may have gaps or is too long,
+-- or of its clocks
 abbrev pub IsStationFault : Files → Plan → (ticks : ℕ) → StationFault → Type 0
 IsStationFault files plan ticks (StationFault.Files fault) = IsFileFault files plan fault
 IsStationFault files plan ticks (FallibleOutput name) = IsUnsafe files plan name

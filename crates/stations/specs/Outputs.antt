@@ -16,21 +16,24 @@ abbrev pub with_outputs : Files → List OutputFile → Files
 with_outputs files [] = files
 with_outputs files (output ∷ outputs) = with_outputs (with_file files output.name output.bytes) outputs
 
--- a file of which a part was written: its name, the bytes that it has at least, and those that it has at most
+-- what is known of a file that was maybe not written to its end: its name; the bytes `least`, with which its contents
+-- begin; and the bytes `most`, of which its contents are a prefix
 pub record OutputPart : Type 0 where
   pub name : List ℕ
   pub least : List ℕ
   pub most : List ℕ
 
--- In `after` the file of this output begins with its least bytes and is a prefix of its most; or, where its closing
--- failed, it is a prefix of them or what it was before. No other file changed.
+-- From `files` to `after` this output was closed: the contents of its file begin with `least` and are a prefix of
+-- `most`. Or its closing failed, which `failed` states, and they are a prefix of `most` or what the file held before.
+-- No other file changed.
 abbrev pub HoldsBetween : (failed : Type 0) → Files → OutputPart → Files → Type 0
 HoldsBetween failed files output after =
     ((part : List ℕ) × IsPrefix output.least part × IsPrefix part output.most
     × (after ≡ with_file files output.name part)) ⊎ (failed × HoldsPart files output.name output.most after)
 
--- Each name in turn holds at least and at most its bytes, while the count of failed writes rises from `count` to
--- `last`; where a closing failed, the count rose, and the name may hold a prefix or what it held before.
+-- From `files` to `after` these outputs were closed, one after another: the contents of each file begin with `least` of
+-- its output and are a prefix of `most`. Where the number of failed writes rose at a closing, they may be any prefix of
+-- `most`, or what the file held before. That number was `count` before the closings and `last` after them.
 abbrev pub HoldsParts : (count : ℕ) → Files → List OutputPart → Files → (last : ℕ) → Type 0
 HoldsParts count files [] after last = (after ≡ files) × (count ≤ last)
 HoldsParts count files (output ∷ outputs) after last =
@@ -58,10 +61,10 @@ pub record AreClosed (least : ℕ) (names : List (List ℕ)) (before : List Clos
 abbrev pub HaveClosed : (least : ℕ) → List (List ℕ) → (before after : Option (List Closing)) → Type 0
 HaveClosed least names before after = ForSome before (λ closings. AreClosed least names closings after)
 
--- The first of the outputs were created and hold their parts, or what a failed closing leaves; the others were not, and
--- then no tick was made, which is `idle`. Each had got its header when it was closed, or a front of it, and its sink
--- had failed. `first` is the count of failed writes when the closings began: where a device failed and not all were
--- created, it rose before that, at a creation, which excuses no file; or it rose at a closing, as a header broke off.
+-- The first of the outputs were created: the contents of each file begin with `least` of its output and are a prefix of
+-- `most`, or are what a failed closing leaves. If some were not created, no tick was made, which is `idle`. Each that
+-- was created had got its header when it was closed, or a prefix of it, and its sink had failed. `first` is how many
+-- writes had failed when the closings began; if `device` and not all were created, one failed before that or after.
 pub record HoldsSome (idle : Type 0) (device : Bool) (files : Files) (outputs : List OutputPart) (after : Files)
     (old new : ShelfTold) : Type 0 where
   pub created : List OutputPart
@@ -75,11 +78,12 @@ pub record HoldsSome (idle : Type 0) (device : Bool) (files : Files) (outputs : 
   pub risen : device ≡ true → (others ≡ []) ⊎ Rose old.writes first ⊎ Rose first new.writes
   pub parts : HoldsParts first files created after new.writes
 
--- an output as a file that is complete: with the most bytes that it holds
+-- the file of an output that was written to its end: with the name of the output, and the bytes `most`
 abbrev pub whole_of : OutputPart → OutputFile
 whole_of output = record { name = output.name; bytes = output.most }
 
--- a part of an output, without the last zero byte
+-- what is known of the file of an output that was closed without its end: its contents are just `least`, which lacks
+-- the zero byte that ends some files
 abbrev pub unended : OutputPart → OutputPart
 unended output = record { name = output.name; least = output.least; most = output.least }
 

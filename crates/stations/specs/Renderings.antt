@@ -14,10 +14,10 @@ use Rattle.stations.specs.Stations.{Station, Way, InRounds, InWindows, Again, Is
 use Rattle.stations.specs.Streams.{ends_of, output_files, parts_with}
 use Rattle.stations.specs.Traces.{later_files}
 
--- A run stopped in its ticks, or before them: whatever answers had followed those that it got, each output that was
--- created holds its bytes of the ticks that its clock made, and then a front of those of the tick in which it stopped;
--- or, where the count of failed writes rose at its closing, a prefix of them or what it held. `device` says that a
--- device failed, and not memory. `old` and `new` is what the shelf tells before and after, which held these files.
+-- A run broke off in its ticks, or before them. Whatever answers had followed, each output that was created holds its
+-- bytes of the ticks that its clock made, and then a prefix of those of the tick in which it stopped. If a write failed
+-- at its closing, it holds any prefix of them, or what it held before. `device` says that a device failed, not memory;
+-- `old` and `new` are what the shelf told before, when it held `files`, and after.
 pub record StoppedInTicks (station : Station) (device : Bool) (files : Files) (old new : ShelfTold) : Type 0 where
   pub run : Run
   pub begun : IsBegun station run
@@ -36,13 +36,14 @@ pub record StoppedBehindTicks (station : Station) (files : Files) (old new : She
   pub more : List (List ℕ)
   pub created : new.created ≡ after_making (names_in station.plan.sinks ++ more) old.created
 
--- what a rendering leaves that broke off, in its ticks or after them
+-- What a rendering leaves that broke off, in its ticks or after them. `device` says that a device failed, not memory;
+-- `old` and `new` are what the shelf told before, when it held these files, and after.
 abbrev pub WrotePart : Station → (device : Bool) → Files → (old new : ShelfTold) → Type 0
 WrotePart station device files old new = StoppedInTicks station device files old new
     ⊎ StoppedBehindTicks station files old new
 
--- A run renders what one thread renders: rounds of the station have one record, and the outputs, the cue files
--- and the report are those of it.
+-- A run renders what one thread renders: rounds on one thread have just one record for this station, and the outputs,
+-- the cue files and the report of the run are those of that record.
 pub record RendersAsOneThread (station : Station) (run : Run) : Type 0 where
   pub alone : Run
   pub rounds : IsRounds (bare station) station.clocks.running station.ticks alone

@@ -60,31 +60,33 @@ IsLawfulIn setting clocks ticks InRounds run = IsRounds setting clocks ticks run
 IsLawfulIn setting clocks ticks (InWindows window) run = AreWindows setting clocks window ticks run
 IsLawfulIn setting clocks ticks (Again trace) run = IsReplay setting clocks ticks trace run
 
--- Rounds on one thread came to the tick of one clock, and maybe stopped in it: clock m made `made m` ticks and tried
--- `tried m`.
+-- Rounds on one thread came to the tick of one clock, and maybe stopped in it: clock m made `made m` whole ticks and
+-- began `tried m`. Clocks 0 to `clocks - 1` run, and each is to make so many ticks in all.
 pub record AreRoundsAt (setting : Setting) (clocks ticks : ℕ) (run : Run) (made tried : ℕ → ℕ) : Type 0 where
   pub rounds : AreRoundsBegun setting clocks ticks run
   pub made_are : (m : ℕ) → made m ≡ ticks_by ticks rounds.round rounds.clock m
   pub tried_are : (m : ℕ) → tried m ≡ ticks_by ticks rounds.round (rounds.clock + 1) m
 
--- a run in windows came so far: clock m made `made m` ticks and tried `tried m`
+-- A run by threads, in windows of `window` ticks, came so far: clock m made `made m` whole ticks and began `tried m`.
+-- Clocks 0 to `clocks - 1` run, and each is to make `ticks` ticks in all.
 pub record AreWindowsAt (setting : Setting) (clocks ticks window : ℕ) (run : Run) (made tried : ℕ → ℕ) : Type 0 where
   pub windows : AreWindowsBegun setting clocks window ticks run
   pub made_are : (m : ℕ) → made m ≡ windows.made m
   pub tried_are : (m : ℕ) → tried m ≡ windows.tried m
 
--- one clock at most stopped in a tick
+-- at most one clock stopped in the middle of a tick, where clock m made `made m` whole ticks and began `tried m`
 abbrev pub IsOfOneTick : (made tried : ℕ → ℕ) → Type 0
 IsOfOneTick made tried = (m n : ℕ) → tried m ≡ suc (made m) → tried n ≡ suc (made n) → m ≡ n
 
--- the record of a run in which clock m made `made m` ticks and tried `tried m`; that of a replay is whole, in whatever
--- order its clocks make theirs
+-- The run in this way, of so many ticks of each of so many clocks, came so far: clock m made `made m` whole ticks and
+-- began `tried m`. The record of a replay is whole however far it came, since its trace tells all answers.
 abbrev pub CameTo : Setting → (clocks ticks : ℕ) → Way → Run → (made tried : ℕ → ℕ) → Type 0
 CameTo setting clocks ticks InRounds run made tried = AreRoundsAt setting clocks ticks run made tried
 CameTo setting clocks ticks (InWindows window) run made tried = AreWindowsAt setting clocks ticks window run made tried
 CameTo setting clocks ticks (Again trace) run made tried = IsReplay setting clocks ticks trace run × IsOfOneTick made tried
 
--- A run came so far: clock m made `made m` of its ticks, and tried no more, or the one in which it stopped.
+-- A run came to its end or broke off before it: clock m made `made m` whole ticks and began `tried m`, which are no
+-- more, or also the one in which it stopped. Each of so many clocks is to make so many ticks, in this way.
 pub record IsBegunIn (setting : Setting) (clocks ticks : ℕ) (way : Way) (run : Run) : Type 0 where
   pub made : ℕ → ℕ
   pub tried : ℕ → ℕ

@@ -13,26 +13,28 @@ use Rattle.run_records.specs.Buffers.{main_of}
 use Rattle.run_records.specs.Records.{Run}
 use Rattle.stations.specs.Stations.{IsBegun, Station, setting_of_run, setting_with}
 
--- the header before so many samples of 16 bits, or of 24 where it is wide
+-- the WAV header of a file with so many samples in each channel, of 24 bits if `wide` says so, and otherwise of 16 bits
 abbrev pub header_bytes_at : (wide : Bool) → Kind → (rate samples : ℕ) → List ℕ
 header_bytes_at false kind rate samples = header_bytes kind rate samples
 header_bytes_at true kind rate samples = wide_header_bytes kind rate samples
 
--- the header of an output of a node, for so many ticks
+-- the WAV header of an output that plays this node for so many ticks; `wide` says that its samples have 24 bits
 abbrev pub header_for : Setting → (wide : Bool) → (ticks node : ℕ) → List ℕ
 header_for setting wide ticks node = header_bytes_at wide (kind_of setting node) setting.plan.rate
     (ticks * setting.plan.frame)
 
--- what is written of an output of a node in so many ticks: its header, and tick by tick what the node offers
+-- what is written to the file of an output that plays this node for so many ticks: its header, and tick by tick what
+-- the node offers; `wide` says that its samples have 24 bits
 abbrev pub output_bytes : Setting → (wide : Bool) → (ticks node : ℕ) → List ℕ
 output_bytes setting wide ticks node = header_for setting wide ticks node ++ ticks_bytes setting wide node ticks
 
--- what is written of an output of a node when `made` of its ticks are made: its header, which counts all ticks, and
--- what the node offers in these
+-- what is written to the file of an output that plays this node when `made` of its ticks are made: its header, which
+-- counts all ticks, and what the node offers in these; `wide` says that its samples have 24 bits
 abbrev pub front_bytes : Setting → (wide : Bool) → (ticks made node : ℕ) → List ℕ
 front_bytes setting wide ticks made node = header_for setting wide ticks node ++ ticks_bytes setting wide node made
 
--- how many bytes of samples an output of a node has after its header
+-- how many bytes of samples the file of an output that plays this node for so many ticks has after its header; `wide`
+-- says that its samples have 24 bits
 abbrev pub body_size : Setting → (wide : Bool) → (ticks node : ℕ) → ℕ
 body_size setting wide ticks node = ticks * (setting.plan.frame * block_length wide (kind_of setting node))
 
@@ -40,7 +42,8 @@ body_size setting wide ticks node = ticks * (setting.plan.frame * block_length w
 abbrev pub zeros_after : (size : ℕ) → List ℕ
 zeros_after size = replicate (size % 2) 0
 
--- all bytes of the file of an output of a node
+-- all bytes of the file of an output that plays this node for so many ticks: its header, its samples, and a zero byte
+-- where those have an odd number of bytes; `wide` says that its samples have 24 bits
 abbrev pub file_bytes : Setting → (wide : Bool) → (ticks node : ℕ) → List ℕ
 file_bytes setting wide ticks node = output_bytes setting wide ticks node
     ++ zeros_after (body_size setting wide ticks node)
@@ -52,7 +55,9 @@ outputs_in setting ticks (Output name node fallible wide ∷ sinks) =
     record { name = name; bytes = file_bytes setting wide ticks node } ∷ outputs_in setting ticks sinks
 outputs_in setting ticks (Feed buffer node ∷ sinks) = outputs_in setting ticks sinks
 
--- what was written of the outputs among these sinks, where clock m made `made m` ticks and tried `tried m`
+-- What the files of the outputs among these sinks hold when a run of so many ticks breaks off. Clock m made just
+-- `made m` ticks and began `tried m`. Here `least` has the bytes of the ticks that the output's clock made, and
+-- `most` those of the ticks that it began.
 abbrev pub parts_in : Setting → (ticks : ℕ) → (made tried : ℕ → ℕ) → List SinkPlan → List OutputPart
 parts_in setting ticks made tried [] = []
 parts_in setting ticks made tried (Output name node fallible wide ∷ sinks) =
@@ -64,7 +69,8 @@ parts_in setting ticks made tried (Output name node fallible wide ∷ sinks) =
     ∷ parts_in setting ticks made tried sinks
 parts_in setting ticks made tried (Feed buffer node ∷ sinks) = parts_in setting ticks made tried sinks
 
--- what the outputs among these sinks hold at least and at most, where all ticks were made
+-- What the files of the outputs among these sinks hold where all ticks were made: `least` lacks the zero byte that ends
+-- a file with an odd number of bytes of samples, and `most` has it.
 abbrev pub ends_in : Setting → (ticks : ℕ) → List SinkPlan → List OutputPart
 ends_in setting ticks [] = []
 ends_in setting ticks (Output name node fallible wide ∷ sinks) =
@@ -100,7 +106,8 @@ abbrev pub parts_with : (station : Station) (run : Run) → IsBegun station run 
 parts_with station run begun rest = parts_in (setting_with station run rest) station.ticks begun.made begun.tried
     station.plan.sinks
 
--- what the outputs of a run hold at least and at most once all its ticks are made
+-- What the files of the outputs of a run hold once all its ticks are made: `least` lacks the zero byte that ends a file
+-- with an odd number of bytes of samples, and `most` has it.
 abbrev pub ends_of : Station → Run → List OutputPart
 ends_of station run = ends_in (setting_of_run station run) station.ticks station.plan.sinks
 

@@ -72,16 +72,18 @@ pub record AreInOrder (base : Setting) (calls : List Call) : Type 0 where
       → Suits (capacity_of base (buffer_of call)) (somes (puts_to (buffer_of call) front))
       (got_in (buffer_of call) front) call
 
--- at the end of each whole window the calls of clock m have used up the text's answers of its windows, at the clock's
--- ends of the buffers; `calls t` are those of its first t ticks
+-- Clock m has made n of N ticks in windows of W. By the start of each window j that it reached, its calls are just as
+-- many as the text tells of the windows before j: puts to a buffer that it feeds, and takes from one that it reads.
+-- `calls t` are those of its first t ticks.
 pub record AreWhole (base : Setting) (text : ℕ → Log) (W N m n : ℕ) (calls : ℕ → List Call) : Type 0 where
   pub puts : (j b : ℕ) → start W N j ≤ n → j ≤ length (text b) → b < length base.plan.buffers → feeder base b ≡ m
       → length (puts_to b (calls (start W N j))) ≡ length (puts_in (take j (text b)))
   pub takes : (j b : ℕ) → start W N j ≤ n → j ≤ length (text b) → b < length base.plan.buffers → reader base b ≡ m
       → length (takes_of b (calls (start W N j))) ≡ length (takes_in (take j (text b)))
 
--- Clock m has made its first n ticks, where its takes got `given` and its puts `accepted`, and these answers are those
--- of the text.
+-- Clock m has made its first n ticks, of N in windows of W, as the text of a trace tells. `given b` is what the takes
+-- from buffer b got, and `accepted t b` whether its put of tick t was accepted. `chunks b` are those that were put to
+-- b, where b joins two clocks.
 pub record HasReplayed (base : Setting) (text : ℕ → Log) (W N m n : ℕ) (chunks : ℕ → List (List Cell)) (given : ℕ
     → List Answer) (accepted : ℕ → ℕ → Bool) : Type 0 where
   pub answered_so : AreAnswered base text chunks (first_calls (answered base given) accepted m n)
@@ -103,8 +105,8 @@ pub record CanCome (base : Setting) (text : ℕ → Log) (front : List Call) (ca
 abbrev pub NeverComes : (base : Setting) (text : ℕ → Log) (front : List Call) → Call → Type 0
 NeverComes base text front call = (other : Call) → IsSameCall call other → CanCome base text front other → ⊥
 
--- This call is a take that is to get a chunk, as the text of a trace tells; another clock puts it, and it is not among
--- `chunks` yet.
+-- After the calls `front` this one is a take that is to get a chunk, as the text of a trace tells; another clock puts
+-- that chunk, and it is not there yet. `chunks b` are those that were put to buffer b so far.
 pub record Waits (base : Setting) (text : ℕ → Log) (chunks : ℕ
     → List (List Cell)) (front : List Call) (call : Call) : Type 0 where
   pub buffer : ℕ

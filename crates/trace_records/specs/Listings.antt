@@ -9,8 +9,8 @@ abbrev pub seen : ℕ → List ℕ → ℕ
 seen m [] = 0
 seen m (k ∷ ks) = if nat_eq k m then suc (seen m ks) else seen m ks
 
--- Each clock that runs stands in the listing once, and each buffer that joins two clocks leads from a clock to a later
--- one.
+-- Each of clocks 0 to `clocks - 1` stands in the listing once, and for each buffer that joins two clocks the clock that
+-- feeds it stands before the clock that reads it.
 pub record LeadOnward (base : Setting) (clocks : ℕ) (listing : List ℕ) : Type 0 where
   pub all : (m : ℕ) → m < clocks → seen m listing ≡ 1
   pub each : (before behind : List ℕ) (m : ℕ) → listing ≡ before ++ m ∷ behind → m < clocks

@@ -43,8 +43,9 @@ IsMadeBy base m n accepted calls = (rest : ℕ → List Answer)
 abbrev pub ticks_in : Setting → (accepted : ℕ → ℕ → Bool) → List Call → (m t : ℕ) → List Call
 ticks_in base accepted calls m t = first_calls (answered base (got_then calls nothing)) accepted m t
 
--- Clock m has made its first n ticks by these calls, as the text tells. In each lawful record with this text it makes
--- them so.
+-- Clock m has made its first n ticks, of N in windows of W, by these calls, as the text of a trace tells; each lawful
+-- record with this text has the same calls. `chunks b` are those that were put to buffer b, and `accepted t b` says
+-- whether the put of tick t to b was accepted.
 pub record ClockIsAt (base : Setting) (clocks W N : ℕ) (text : ℕ → Log) (chunks : ℕ
     → List (List Cell)) (m n : ℕ) (calls : List Call) (accepted : ℕ → ℕ → Bool) : Type 0 where
   pub within : n ≤ N
@@ -53,8 +54,8 @@ pub record ClockIsAt (base : Setting) (clocks W N : ℕ) (text : ℕ → Log) (c
   pub forced : (run : Run) (lawful : AreWindows base clocks W N run) → IsTold base text run
       → calls ≡ first_calls (answered base (answers_of run)) (lawful.accepted m) m n
 
--- The ticks of all clocks are in this order, so many of each, and each chunk that a tick got was put in an earlier one;
--- `ticks m t` are the calls of the first t ticks of clock m.
+-- `order` is a list of pairs of a clock and its tick: it has the first `made m` ticks of each clock m, in their order,
+-- and each chunk that a tick got was put in an earlier one. `ticks m t` are the calls of the first t ticks of clock m.
 pub record AreOrdered (base : Setting) (clocks : ℕ) (ticks : ℕ → ℕ → List Call) (made : ℕ
     → ℕ) (order : List (ℕ × ℕ)) : Type 0 where
   pub all : (m : ℕ) → m < clocks → counted m order ≡ made m
@@ -64,7 +65,8 @@ pub record AreOrdered (base : Setting) (clocks : ℕ) (ticks : ℕ → ℕ → L
       → b < length base.plan.buffers → reader base b ≡ m
       → got_in b (ticks m (suc t)) ≤ put_by b (ticks (feeder base b) (counted (feeder base b) before))
 
--- Clock m has made `made m` ticks, for each m, all in some order, and these are the chunks that they put.
+-- A replay of the text of a trace, of N ticks in windows of W, has come so far: each clock m has made `made m` ticks,
+-- all in some order in which no chunk is got before it was put. `chunks b` are those that were put to buffer b.
 pub record AreAt (base : Setting) (clocks W N : ℕ) (text : ℕ → Log) (made : ℕ → ℕ) (chunks : ℕ
     → List (List Cell)) : Type 0 where
   pub calls : ℕ → List Call
@@ -74,7 +76,8 @@ pub record AreAt (base : Setting) (clocks W N : ℕ) (text : ℕ → Log) (made 
   pub order : List (ℕ × ℕ)
   pub ordered : AreOrdered base clocks (λ m t. ticks_in base (accepted m) (calls m) m t) made order
 
--- tick n of clock m cannot be made before more chunks are put into a buffer that joins it to another clock
+-- tick n of clock m cannot be made yet: one of its takes is to get a chunk, by the text of a trace, that another clock
+-- has not put; `chunks b` are those that were put to buffer b so far
 pub record IsHalted (base : Setting) (text : ℕ → Log) (chunks : ℕ → List (List Cell)) (m n : ℕ) : Type 0 where
   pub given : ℕ → List Answer
   pub accepted : ℕ → ℕ → Bool
@@ -86,8 +89,8 @@ pub record IsHalted (base : Setting) (text : ℕ → Log) (chunks : ℕ → List
   pub order_front : AreInOrder base front
   pub waits : Waits base text chunks front call
 
--- Clock m has come to its first n ticks, with the chunks that were there. Of the buffers that it feeds `others` has the
--- chunks that it put, and of each other one those that were there.
+-- Clock m has made its first n ticks, of N in windows of W, as the text of a trace tells. `chunks b` are those of
+-- buffer b before, and `others b` those after: what the clock put, if it feeds b, and otherwise the same.
 pub record HasCome (base : Setting) (W N : ℕ) (text : ℕ → Log) (m n : ℕ) (chunks others : ℕ
     → List (List Cell)) : Type 0 where
   pub calls : List Call
@@ -98,15 +101,15 @@ pub record HasCome (base : Setting) (W N : ℕ) (text : ℕ → Log) (m n : ℕ)
   pub fed : (b : ℕ) → b < length base.plan.buffers → feeder base b ≡ m → others b ≡ somes (puts_to b calls)
   pub kept : (b : ℕ) → b < length base.plan.buffers → (feeder base b ≡ m → ⊥) → others b ≡ chunks b
 
--- Clock m was run from its first tick on, with the chunks that were there, and made n ticks: all, or those before one
--- that waits. `others` are the chunks of each buffer after that.
+-- Clock m was run from its first tick on, as the text of a trace tells, and made n ticks: all N, or those before one
+-- with a take that waits for a chunk. `chunks b` are those of buffer b before, and `others b` those after.
 pub record HasTurned (base : Setting) (W N : ℕ) (text : ℕ → Log) (m n : ℕ) (chunks others : ℕ
     → List (List Cell)) : Type 0 where
   pub come : HasCome base W N text m n chunks others
   pub halted : n < N → IsHalted base text chunks m n
 
--- clock m cannot make its N ticks as the text of a trace tells them, whatever is put into the buffers after these
--- chunks
+-- clock m cannot make its N ticks, in windows of W, as the text of a trace tells them, whatever is put into the buffers
+-- after these chunks; `chunks b` are those of buffer b so far
 pub record IsRefused (base : Setting) (W N : ℕ) (text : ℕ → Log) (chunks : ℕ → List (List Cell)) (m : ℕ) : Type 0 where
   pub none : (others : ℕ → List (List Cell)) (given : ℕ → List Answer) (accepted : ℕ → ℕ → Bool)
       → ((b : ℕ) → b < length base.plan.buffers → (rest : List (List Cell)) × (others b ≡ chunks b ++ rest))

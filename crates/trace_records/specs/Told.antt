@@ -3,8 +3,9 @@ use Rattle.std.specs.Prelude.{◌≡◌, ◌≤◌, ◌+◌, ◌-◌, ◌&&◌, 
 use Rattle.std.specs.List.{list_all}
 use Rattle.frame_core.specs.Legal.{Legal}
 
--- Some window of a queue of at most `capacity` chunks, which opens with `opening`, is legal and has these answers: of
--- its puts, true for an accepted chunk, and of its takes, true for a chunk that was got.
+-- Some window of a queue of at most `capacity` chunks, which holds `opening` of them at first, is legal and has these
+-- answers: of its puts, true for an accepted chunk, and of its takes, true for a chunk that was got. The chunks are any
+-- things of type X.
 pub record IsToldLegal (X : Type 0) (capacity opening : ℕ) (puts takes : List Bool) : Type 0 where
   pub queue : List X
   pub rest : List X
@@ -42,8 +43,9 @@ pub record Passed : Type 0 where
   pub floor : ℕ
   pub left : List Bool
 
--- The place among the takes up to which they come before a refused put that has `count` chunks before it: that of the
--- first empty take with as many before it. An empty take with fewer leaves the queue to be filled again.
+-- The place among these takes up to which they come before a refused put that has `count` chunks before it: that of the
+-- first empty take with as many before it. An empty take with fewer leaves the queue to be filled again. Before these
+-- takes `got` chunks were got, and a refused put must have `floor` chunks before it.
 abbrev pub passed : (capacity count got floor : ℕ) → List Bool → Passed
 passed capacity count got floor [] = record { got = got; floor = floor; left = [] }
 passed capacity count got floor (true ∷ takes) = passed capacity count (suc got) floor takes

@@ -31,8 +31,8 @@ pair_of answers = (answers.puts, answers.takes)
 abbrev pub text_of : List (List Answers) → ℕ → Log
 text_of logs b = map pair_of (slice_index_or logs b [])
 
--- A trace of a run of N ticks of these clocks is accepted: its text is that of a lawful record whose ticks can be
--- ordered.
+-- A trace of N ticks of clocks 0 to `clocks - 1` is accepted: its text is that of a lawful record whose ticks can be
+-- put in an order in which no chunk is got before it was put.
 pub record IsAccepted (base : Setting) (clocks N : ℕ) (trace : TraceValue) : Type 0 where
   pub ticks : trace.ticks ≡ N
   pub buffers : length trace.buffers ≡ length base.plan.buffers
@@ -42,7 +42,8 @@ pub record IsAccepted (base : Setting) (clocks N : ℕ) (trace : TraceValue) : T
 abbrev pub trace_of : (W N : ℕ) → Run → TraceValue
 trace_of W N run = record { ticks = N; window = W; buffers = map (map told) run.buffers }
 
--- This is the record that a trace tells: it is lawful, its ticks can be ordered, and it leaves this trace.
+-- The run is the record that a trace tells, of clocks 0 to `clocks - 1`: it is lawful, its ticks can be put in an order
+-- in which no chunk is got before it was put, and it leaves this trace.
 pub record IsRecordOf (base : Setting) (clocks : ℕ) (trace : TraceValue) (run : Run) : Type 0 where
   pub lawful : AreWindows base clocks trace.window trace.ticks run
   pub ordered : IsOrdered (setting_in base run) clocks lawful.accepted trace.ticks

@@ -114,8 +114,9 @@ PutsOn before chunk NoPut after =
     ((accepts : Bool) → slice_get before.puts before.put_at ≡ Some accepts
     → (is_list before ≡ true → IsRightPut before accepts) → ⊥) × (after ≡ before)
 
--- A buffer stands for the calls of the run: its answers are the first that are told, the chunks that were got are the
--- first that were there, and those that came in this run are the ones that were put.
+-- s is the state of buffer b after these calls of a run. Their puts and takes had the first answers that the trace
+-- tells, as many as s counts. They got the first chunks of s, and put those after the first `opened`. If one clock
+-- feeds and reads the buffer, each call was answered as a bounded list answers it.
 pub record StandsFor (s : BufferState) (b : ℕ) (calls : List Call) : Type 0 where
   pub puts : map is_some (puts_to b calls) ≡ take s.put_at s.puts
   pub put_low : s.put_at ≤ length s.puts
@@ -130,7 +131,7 @@ pub record StandsFor (s : BufferState) (b : ℕ) (calls : List Call) : Type 0 wh
       → buffer_of call ≡ b
       → Suits s.capacity (somes (puts_to b front)) (got_in b front) call
 
--- each buffer stands for these calls of the run: its counts and chunks are those that the calls led to
+-- each buffer's state is what these calls of the run led to: its counts and its chunks; `states` has it by number
 abbrev pub AllStand : List BufferState → List Call → Type 0
 AllStand states calls = (b : ℕ) (d : BufferState) → b < length states → StandsFor (slice_index_or states b d) b calls
 
@@ -146,7 +147,8 @@ pub record CanComeBy (states : List BufferState) (front : List Call) (call : Cal
       → Suits (slice_index_or states (buffer_of call) d).capacity (somes (puts_to (buffer_of call) front))
       (got_in (buffer_of call) front) call
 
--- the buffers stand for these calls up to a take that gets a chunk by the trace, which another clock has not put yet
+-- The states of the buffers are those after the calls before one, a take that is to get a chunk, by the trace. Another
+-- clock puts that chunk, and has not put it yet.
 pub record HasWaited (states : List BufferState) (calls : List Call) : Type 0 where
   pub front : List Call
   pub behind : List Call
@@ -160,7 +162,8 @@ pub record HasWaited (states : List BufferState) (calls : List Call) : Type 0 wh
       ≤ (slice_index_or states buffer d).got
   pub joins : (d : BufferState) → is_list (slice_index_or states buffer d) ≡ false
 
--- the buffers stand for these calls up to one to which no answer is right: none is told, or a list would not answer so
+-- The states of the buffers are those after the calls before one to which no answer is right: the trace tells none, or
+-- one that a bounded list would not give, where one clock feeds and reads the buffer.
 pub record HasFailed (states : List BufferState) (calls : List Call) : Type 0 where
   pub front : List Call
   pub behind : List Call
@@ -169,8 +172,9 @@ pub record HasFailed (states : List BufferState) (calls : List Call) : Type 0 wh
   pub stand : AllStand states front
   pub none : (other : Call) → IsSameCall call other → CanComeBy states front other → ⊥
 
--- what the buffers stand for when calls were made: for all of them where the run goes, for those before a take that
--- waits for a chunk, or for those before a call that no answer makes right
+-- The states of the buffers are those after these calls of a run, as far as the calls could be answered. The course
+-- says how far: all of them; or those before a take that waits for a chunk; or those before a call to which no answer
+-- is right.
 abbrev pub TapsStand : Course → List BufferState → List Call → Type 0
 TapsStand Goes states calls = AllStand states calls
 TapsStand Waits states calls = HasWaited states calls
@@ -191,7 +195,8 @@ pub record SameBuffer (before after : BufferState) : Type 0 where
   pub got_on : before.got ≤ after.got
   pub there : (rest : List (List Cell)) × (after.chunks ≡ before.chunks ++ rest)
 
--- what calls keep of the states of all buffers: their number, and of each what `SameBuffer` says
+-- What calls keep of the states of all buffers: how many there are, and of each its capacity, the answers that are
+-- told, its ends and what it began with. Its counts only grow, and chunks are only added behind.
 pub record SameBuffers (before after : List BufferState) : Type 0 where
   pub many : length after ≡ length before
   pub each : (k : ℕ) (d : BufferState) → k < length before
@@ -252,7 +257,8 @@ abbrev pub gone_at : Bool → ℕ → ℕ
 gone_at true gone = 0
 gone_at false gone = gone
 
--- a buffer at the beginning of a run of a clock, which feeds it or not, and reads it or not
+-- The state of a buffer at the beginning of a run of a clock, with all counts of calls 0. `fed` and `read` say whether
+-- the clock feeds it and reads it; if it does not feed it, the chunks that are there stay.
 abbrev pub begun : BufferState → (fed read : Bool) → BufferState
 begun s fed read = record {
   capacity = s.capacity;

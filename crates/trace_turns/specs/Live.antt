@@ -22,8 +22,9 @@ use Rattle.trace_turns.specs.Thin.{AreFull, AreUnlost, NoneLost}
 use Rattle.trace_turns.specs.Turns.{AreEnds, AreFit, AreSides, RunsAt, Score, chunks_of}
 use Rattle.trace_turns.specs.Timed.{TimedText, timed}
 
--- What a replay of N ticks in windows of W ticks rests on for each of its clocks: a setting with its clocks, a text of
--- that form, one buffer for each of the plan, and `ends`, which says where the text's windows end.
+-- What a replay of N ticks in windows of W ticks rests on for each of its clocks. `score` has the plan with its clocks,
+-- and the text of the trace, which has as many windows as these ticks need. There is one buffer state for each buffer
+-- of the plan, and `ends` says where the text's windows end.
 pub record MayMove (score : Score) (W N : ℕ) (states : List BufferState) (ends : List Ends) : Type 0 where
   pub is : IsSetting score.base score.clocks
   pub formed : IsFormed (length score.base.plan.buffers) W N score.text
@@ -32,15 +33,17 @@ pub record MayMove (score : Score) (W N : ℕ) (states : List BufferState) (ends
   pub ends_are : (b : ℕ) (e : Ends) → b < length score.base.plan.buffers
       → AreEnds (score.text b) (slice_index_or ends b e)
 
--- clock m, which has made n of its N ticks, may make more over these buffers: they and its engine stand for its calls
--- so far
+-- Clock m, which has made n of its N ticks in windows of W, may make more over these buffers: their states and its
+-- engine, of `parts`, are those after its calls so far. `score` is the plan with the text of the trace, and `ends` says
+-- where the text's windows end.
 pub record MayGoOn (score : Score) (W N m n : ℕ) (parts : EngineParts) (states : List BufferState)
     (ends : List Ends) : Type 0 where
   pub move : MayMove score W N states ends
   pub run : RunsAt score.base score.text W N m n score.chunks parts states
 
--- a clock that has made n ticks may make more over buffers that let go of chunks: it may over the same buffers with all
--- their chunks, and none is missing that it is to get
+-- Clock m, which has made n of its N ticks in windows of W, may make more over buffers that freed some chunks: it may
+-- over the same buffers with all chunks, and none is missing that it is still to get. `parts` is its engine, `score`
+-- the plan with the text of the trace, and `ends` says where the text's windows end.
 pub record MayFlow (score : Score) (W N m n : ℕ) (parts : EngineParts) (states : List BufferState)
     (ends : List Ends) : Type 0 where
   pub full : List BufferState
@@ -48,8 +51,9 @@ pub record MayFlow (score : Score) (W N m n : ℕ) (parts : EngineParts) (states
   pub unlost : NoneLost states
   pub may : MayGoOn score W N m n parts full ends
 
--- A clock that has made n of its N ticks may make a few more: every call was answered so far, and its buffers and
--- engine stand in the middle of some replay.
+-- A clock that has made n of its N ticks, in windows of W, may make a few more: `course` says that every call was
+-- answered so far, and its buffers and its engine, of `parts`, are in the middle of some replay. `ends` says where the
+-- windows of that replay's trace end.
 pub record MayMakeMore (W N n : ℕ) (parts : EngineParts) (course : Course) (states : List BufferState)
     (ends : List Ends) : Type 0 where
   pub some : 1 ≤ W
@@ -58,7 +62,8 @@ pub record MayMakeMore (W N n : ℕ) (parts : EngineParts) (course : Course) (st
   pub goes : course ≡ Goes
   pub turn : (score : Score) × MayFlow score W N parts.clock n parts states ends
 
--- clock m has made its first n ticks over buffers that let go of chunks; nothing was let go that it is to get
+-- Clock m has made its first n ticks as the trace `told` tells, over buffers that freed some chunks, none that it is
+-- still to get. `parts` is its engine, and `chunks` are those that other clocks had put when its run began.
 pub record HasFlown (base : Setting) (told : TimedText) (m n : ℕ) (chunks : ℕ → List (List Cell)) (parts : EngineParts)
     (states : List BufferState) : Type 0 where
   pub full : List BufferState
@@ -75,8 +80,9 @@ pub record Mains : Type 0 where
 abbrev pub mains : (feeders readers : List ℕ) → Mains
 mains feeders readers = record { feeders = feeders; readers = readers }
 
--- Clock m has made its first n ticks, and its engine stands for their calls. So do the buffers, if its run goes on at
--- these marks.
+-- Clock m paused in a replay after its first n ticks: its engine, of `parts`, is that after their calls, and so are the
+-- buffers once they are set back to these calls. `marks` has, by a buffer's number, how far the calls came on it,
+-- `ends` the main clocks of its feed and its reader; `told` is the trace.
 pub record IsPaused (base : Setting) (told : TimedText) (ends : Mains) (m n : ℕ) (parts : EngineParts)
     (marks : List Mark) (states : List BufferState) : Type 0 where
   pub calls : List Call
@@ -90,15 +96,17 @@ pub record IsPaused (base : Setting) (told : TimedText) (ends : Mains) (m n : �
       → StandsFor (resumed (slice_index_or states b d) (nat_eq (slice_index_or ends.feeders b 0) m)
       (nat_eq (slice_index_or ends.readers b 0) m) (slice_index_or marks b e)) b calls
 
--- In a turn of clock m, its run of some ticks in a replay, it came to n ticks, and its calls came to these marks; the
--- buffers came from `opening` to `states`.
+-- In a turn, a run of some ticks in the replay of the trace `told`, clock m came to n ticks and paused there, with the
+-- engine of `parts`; the buffers came from `opening` to `states`. By a buffer's number, `marks` has how far the clock's
+-- calls came on it, and `ends` the main clocks of its feed and its reader.
 pub record HasGone (base : Setting) (told : TimedText) (ends : Mains) (m n : ℕ) (parts : EngineParts)
     (marks : List Mark) (opening states : List BufferState) : Type 0 where
   pub come : HasCome base told.window told.ticks told.text m n (chunks_of opening) (chunks_of states)
   pub paused : IsPaused base told ends m n parts marks states
 
--- in a turn over buffers that let go of chunks clock m came to n ticks, and its calls came to these marks; nothing was
--- let go that clock m is still to get
+-- In a turn over buffers that freed some chunks clock m came to n ticks of the trace `told` and paused, with the engine
+-- of `parts`; none was freed that it is still to get. The buffers came from `opening` to `states`. By a buffer's
+-- number, `marks` has how far the clock's calls came on it, and `ends` the main clocks of its feed and its reader.
 pub record HasFlownOn (base : Setting) (told : TimedText) (ends : Mains) (m n : ℕ) (parts : EngineParts)
     (marks : List Mark) (opening states : List BufferState) : Type 0 where
   pub full : List BufferState
@@ -114,8 +122,9 @@ pub record FullScore : Type 0 where
   pub text : ℕ → Log
   pub full : List BufferState
 
--- a clock that has made n of the N ticks of a replay may go on with it, over buffers that let go of chunks: it paused
--- there, and none of the chunks is missing that it is to get
+-- The clock `live`, which has made n of N ticks in windows of W, may go on with the replay `score`, over buffers that
+-- freed some chunks: it paused there, and none is missing that it is still to get. `of` has the main clocks of each
+-- buffer's feed and reader, and `ends` says where the windows of the trace end.
 pub record MayResume (score : FullScore) (of : Sides) (ends : List Ends) (W N n : ℕ) (live : LiveClock)
     (states : List BufferState) : Type 0 where
   pub setting : IsSetting score.base score.clocks
@@ -126,8 +135,9 @@ pub record MayResume (score : FullScore) (of : Sides) (ends : List Ends) (W N n 
   pub paused : IsPaused score.base (timed score.text W N) (mains of.feeders.items of.readers.items)
       live.engine.parts.clock n live.engine.parts live.marks.items score.full
 
--- A turn of a clock that has made n of its N ticks may begin, its run of some further ticks in a replay: there is a
--- plan, a text and buffers with which it may go on.
+-- The clock `live`, which has made n of its N ticks in windows of W, may run some further ones in a replay: there is a
+-- plan, a text and buffers with which it may go on. `of` has the main clocks of each buffer's feed and reader, and
+-- `ends` says where the windows of the trace end.
 pub record MayTakeTurn (of : Sides) (ends : List Ends) (W N n : ℕ) (live : LiveClock)
     (states : List BufferState) : Type 0 where
   pub some : 1 ≤ W
@@ -137,12 +147,13 @@ pub record MayTakeTurn (of : Sides) (ends : List Ends) (W N n : ℕ) (live : Liv
   pub marks : length live.marks.items ≡ length states
   pub turn : (score : FullScore) × MayResume score of ends W N n live states
 
--- clock m has gone on with this replay in a turn, up to n ticks
+-- In a turn clock m, which is `live` now, went on with the replay `score`, of N ticks in windows of W, and came to n
+-- ticks; the buffers are `states` now. `Sides` has the main clocks of each buffer's feed and reader.
 abbrev pub HasResumed : FullScore → Sides → (W N m n : ℕ) → LiveClock → List BufferState → Type 0
 HasResumed score of W N m n live states = HasFlownOn score.base (timed score.text W N)
     (mains of.feeders.items of.readers.items) m n live.engine.parts live.marks.items score.full states
 
--- this is clock m of a station before its first tick: with a new engine, and no call on any buffer
+-- `live` is main clock m of the setting `base` before its first tick: with a new engine, and no call on any buffer
 pub record IsNewClock (base : Setting) (m : ℕ) (live : LiveClock) : Type 0 where
   pub over : setting_of live.engine.parts ≡ base
   pub clock : live.engine.parts.clock ≡ m

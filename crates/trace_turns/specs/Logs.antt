@@ -14,7 +14,8 @@ abbrev pub side_of : Bool → Answers → List Bool
 side_of true answers = answers.puts
 side_of false answers = answers.takes
 
--- for each window, how many answers of puts, or of takes, there are up to its end
+-- `ends` has, for each of these windows of a buffer, how many answers of puts there are up to its end; or of takes,
+-- where `puts` is false
 abbrev pub AreEndsOf : Bool → List Answers → List ℕ → Type 0
 AreEndsOf puts windows ends = (j : ℕ) → j < length windows
     → slice_get ends j ≡ Some (length (flat_map (side_of puts) (take (suc j) windows)))

@@ -4,32 +4,37 @@ use Rattle.frame_core.specs.declared.cell.Cell.{Cell}
 use Rattle.trace_turns.specs.declared.told.Mark.{Mark}
 use Rattle.trace_turns.specs.Answering.{BufferState, begun}
 
--- the mark of a clock that has made no call on a buffer: all counts are 0
+-- how far the calls of a clock came on a buffer, if it has made none: the counts of puts, of takes and of chunks that
+-- were got are 0. Here a mark is such three counts, and no beginning of a track.
 abbrev pub no_mark : Mark
 no_mark = record { put_at = 0; take_at = 0; got = 0 }
 
--- how far the calls of a run came on a buffer: its counts of puts, of takes and of chunks that were got
+-- how far the calls of a clock's run came on a buffer, read off the buffer's state: the counts of puts, of takes and of
+-- chunks that were got
 abbrev pub mark_of : BufferState → Mark
 mark_of s = record { put_at = s.put_at; take_at = s.take_at; got = s.got }
 
--- The calls of a clock on a buffer can have come to this mark: it counts no more puts and takes than are told, and no
--- more chunks than are there.
+-- The calls of a clock on a buffer s can have come as far as `mark` counts: no more puts and takes than the trace tells
+-- answers of, and no more chunks got than came into the buffer.
 pub record IsWithin (s : BufferState) (mark : Mark) : Type 0 where
   pub puts : mark.put_at ≤ length s.puts
   pub takes : mark.take_at ≤ length s.takes
   pub got : mark.got ≤ length s.chunks
 
--- the calls of a clock can have come to each of these marks on its buffer: it counts no more than is told and is there
+-- On each buffer the calls of a clock can have come as far as `marks` counts by the buffer's number: no more puts and
+-- takes than the trace tells answers of, and no more chunks got than came into the buffer.
 abbrev pub AreWithin : List BufferState → List Mark → Type 0
 AreWithin states marks = (b : ℕ) (d : BufferState) (e : Mark) → b < length states
     → IsWithin (slice_index_or states b d) (slice_index_or marks b e)
 
--- how many chunks are there of a buffer when a run goes on: none count if the clock feeds it itself, which `true` says
+-- how many chunks other clocks have put to a buffer when a clock's run goes on: none if the clock feeds it itself,
+-- which `true` says, and otherwise all that came into it
 abbrev pub others_in : Bool → List (List Cell) → ℕ
 others_in true chunks = 0
 others_in false chunks = length chunks
 
--- a buffer over which a clock's run goes on at this mark: its chunks stay
+-- The state of a buffer with which a clock's run goes on: its counts of calls are those of `mark`, to which the clock
+-- had come, and its chunks stay. `fed` and `read` say whether the clock feeds the buffer and reads it.
 abbrev pub resumed : BufferState → (fed read : Bool) → Mark → BufferState
 resumed s fed read mark = record {
   capacity = s.capacity;
@@ -45,20 +50,23 @@ resumed s fed read mark = record {
   gone = s.gone;
 }
 
--- each buffer of `new` is that of `old` where the run of clock m goes on at its mark; `feeders` and `readers` name the
--- main clocks of its ends
+-- The buffers `new` are those of `old`, set back to where the calls of clock m had come, so that its run can go on.
+-- By the number of a buffer, `marks` has the counts of these calls, and `feeders` and `readers` have the main clocks of
+-- its feed and its reader.
 abbrev pub HaveResumed : (feeders readers : List ℕ) → (m : ℕ) → List Mark → List BufferState → List BufferState → Type 0
 HaveResumed feeders readers m marks old new = (b : ℕ) (d : BufferState) (e : Mark) → b < length old
     → slice_index_or new b d
     ≡ resumed (slice_index_or old b d) (nat_eq (slice_index_or feeders b 0) m) (nat_eq (slice_index_or readers b 0) m)
     (slice_index_or marks b e)
 
--- each mark says how far the calls of the run came on its buffer
+-- `marks` has, by the number of a buffer, how far the calls of the run came on it: the counts of puts, of takes and of
+-- chunks that were got
 abbrev pub HaveMarked : List BufferState → List Mark → Type 0
 HaveMarked states marks = (b : ℕ) (d : BufferState) (e : Mark) → b < length states
     → slice_index_or marks b e ≡ mark_of (slice_index_or states b d)
 
--- Of a buffer that the clock reads, chunks that were got may have been let go; all others are still there.
+-- From `before` to `after` a buffer may have freed chunks that its reader had got: the first ones, `gone` of them. It
+-- frees them only where the clock reads it. All other chunks are still there, and nothing else of the state changed.
 pub record HasLetGo (before after : BufferState) : Type 0 where
   pub same : after ≡ record before { chunks = after.chunks; gone = after.gone }
   pub many : length after.chunks ≡ length before.chunks
@@ -68,12 +76,14 @@ pub record HasLetGo (before after : BufferState) : Type 0 where
   pub low : before.gone ≤ before.got → after.gone ≤ before.got
   pub most : after.gone ≤ length after.chunks
 
--- of each buffer that the clock reads, chunks that were got may have been let go; all others are still there
+-- From `old` to `new` each buffer that the clock reads may have freed chunks that were got. All other chunks are still
+-- there, and nothing else changed.
 abbrev pub HaveLetGo : List BufferState → List BufferState → Type 0
 HaveLetGo old new = (b : ℕ) (d : BufferState) → b < length old
     → HasLetGo (slice_index_or old b d) (slice_index_or new b d)
 
--- each buffer is as before any run: it has no chunk
+-- each buffer of `new` is that of `old` before any run: it has no chunk and all its counts are 0; its capacity and the
+-- answers that the trace tells of it stay
 abbrev pub IsForgotten : List BufferState → List BufferState → Type 0
 IsForgotten old new = (b : ℕ) (d : BufferState) → b < length old
     → slice_index_or new b d ≡ begun (slice_index_or old b d) true true

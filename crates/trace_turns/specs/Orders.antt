@@ -7,8 +7,9 @@ use Rattle.trace_records.specs.Clocks.{Log}
 use Rattle.trace_records.specs.Passes.{HasCome}
 use Rattle.trace_turns.specs.Timed.{TimedText, timed}
 
--- In this turn its clock, which had made as many ticks as `made` says, came to the ticks that the turn notes, with the
--- chunks `chunks` of each buffer; after it these are `next`.
+-- This turn, the run of one clock while no other runs, is right in a replay of the trace `told`: its clock, which had
+-- made the ticks `made`, came to the ticks that the turn notes. `chunks` are those of each buffer before, and `next`
+-- those after it.
 pub record IsTurn (base : Setting) (clocks : ℕ) (told : TimedText) (turn : TurnMade) (made : ℕ → ℕ) (chunks next : ℕ
     → List (List Cell)) : Type 0 where
   pub runs : turn.clock < clocks
@@ -19,8 +20,8 @@ pub record IsTurn (base : Setting) (clocks : ℕ) (told : TimedText) (turn : Tur
 abbrev pub made_then : TurnMade → (made : ℕ → ℕ) → ℕ → ℕ
 made_then turn made k = if nat_eq k turn.clock then turn.ticks else made k
 
--- By these turns, one after another, the clocks come from the ticks `made` to all N of each; `chunks` are there at
--- first.
+-- By these turns, runs of single clocks one after another, the clocks 0 to `clocks - 1` come from the ticks `made` to
+-- all N of each, as the text of a trace in windows of W tells. `chunks b` are those of buffer b at first.
 abbrev pub AreTurns : (base : Setting) (clocks W N : ℕ) (text : ℕ → Log) → List TurnMade → (made : ℕ → ℕ)
     → (chunks : ℕ → List (List Cell)) → Type 0
 AreTurns base clocks W N text [] made chunks = (k : ℕ) → k < clocks → made k ≡ N

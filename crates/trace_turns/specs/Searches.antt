@@ -14,8 +14,9 @@ use Rattle.trace_turns.specs.Orders.{AreTurns, no_chunks, no_ticks}
 use Rattle.trace_turns.specs.Thin.{AreKept}
 use Rattle.trace_turns.specs.Turns.{AreFit, AreSides, base_at, chunks_of}
 
--- A trace may be judged: it was read, and is of as many buffers as the plan has; the buffers are new, with its answers,
--- and no turn is noted.
+-- A trace may be judged: `logs` is what was read of it, for each buffer of the plan; the states of the buffers are new,
+-- with its answers, and no turn is noted. `of` has the main clocks of each buffer's feed and reader, and `ends` says
+-- where the windows, of `window` ticks, end.
 pub record MayJudge (station : Station) (of : Sides) (ends : List Ends) (window ticks : ℕ) (logs : List (List Answers))
     (turns : List TurnMade) (states : List BufferState) : Type 0 where
   pub setting : IsSetting (base_at station) station.clocks.now
@@ -27,8 +28,8 @@ pub record MayJudge (station : Station) (of : Sides) (ends : List Ends) (window 
   pub none : turns ≡ []
   pub new : AreNew station.plan.now.buffers logs (length station.plan.now.buffers) states ends
 
--- A clock may be run from its first tick on: the buffers tell the answers of some text of a trace, and have let go of
--- no chunk.
+-- A clock may be run from its first tick on: the buffers tell the answers of some text of a trace, and have freed no
+-- chunk. `of` has the main clocks of each buffer's feed and reader, and `ends` says where the text's windows end.
 pub record MayRun (station : Station) (of : Sides) (ends : List Ends) (window ticks : ℕ)
     (states : List BufferState) : Type 0 where
   pub some : 1 ≤ window
@@ -39,7 +40,9 @@ pub record MayRun (station : Station) (of : Sides) (ends : List Ends) (window ti
   pub kept : AreKept states
   pub text : (text : ℕ → Log) × AreFit (base_at station) window ticks text states ends
 
--- A search may begin: the buffers tell the answers of some text, and hold no chunk and never did; no turn is noted.
+-- A search for an order of turns, the runs of single clocks, may begin: the buffers tell the answers of some text of a
+-- trace, and hold no chunk and never did; no turn is noted. `of` has the main clocks of each buffer's feed and reader,
+-- and `ends` says where the text's windows end.
 pub record MaySearch (station : Station) (of : Sides) (ends : List Ends) (window ticks : ℕ) (turns : List TurnMade)
     (states : List BufferState) : Type 0 where
   pub some : 1 ≤ window

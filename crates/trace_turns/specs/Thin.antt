@@ -6,20 +6,22 @@ use Rattle.trace_turns.specs.declared.course.Course.{Course}
 use Rattle.trace_turns.specs.declared.course.Course.TheVariants.{Goes, Waits, Fails}
 use Rattle.trace_turns.specs.Answering.{AllStand, BufferState, HasFailed, HasWaited}
 
--- a buffer, and the same one with all its chunks: they are equal from those on that it did not let go
+-- `full` is the state s of a buffer with all the chunks that came into it, also the first ones, which s has freed; the
+-- other chunks and all else are equal
 pub record IsFull (s full : BufferState) : Type 0 where
   pub same : full ≡ record s { chunks = full.chunks; gone = 0 }
   pub many : length full.chunks ≡ length s.chunks
   pub rest : drop s.gone full.chunks ≡ drop s.gone s.chunks
   pub low : s.gone ≤ length s.chunks
 
--- these buffers, and the same ones with all their chunks
+-- `full` are the states of these buffers with all the chunks that came into them, also those that were freed
 pub record AreFull (states full : List BufferState) : Type 0 where
   pub many : length full ≡ length states
   pub each : (b : ℕ) (d : BufferState) → b < length states
       → IsFull (slice_index_or states b d) (slice_index_or full b d)
 
--- these calls come to a take that is to get a chunk which its buffer has let go
+-- among these calls is one take without an answer, from a buffer that has freed the next chunk to be got, as its state
+-- among `states` says
 pub record HasLost (states full : List BufferState) (calls : List Call) : Type 0 where
   pub front : List Call
   pub behind : List Call
@@ -28,27 +30,28 @@ pub record HasLost (states full : List BufferState) (calls : List Call) : Type 0
   pub known : buffer < length states
   pub lost : (d : BufferState) → (slice_index_or states buffer d).got < (slice_index_or states buffer d).gone
 
--- what buffers that let go of chunks stand for, by how far the calls could be answered: what the same buffers with all
--- their chunks do
+-- Buffers that freed chunks are after these calls as the same buffers with all their chunks are. The course says how:
+-- all calls were answered; or one take waits for a chunk, or is to get a chunk that was freed; or no answer is right to
+-- one of them.
 abbrev pub TapsFollow : Course → List BufferState → List Call → Type 0
 TapsFollow Goes states calls = (full : List BufferState) × AreFull states full × AllStand full calls
 TapsFollow Waits states calls = (full : List BufferState) × AreFull states full
     × (HasWaited full calls ⊎ HasLost states full calls)
 TapsFollow Fails states calls = (full : List BufferState) × AreFull states full × HasFailed full calls
 
--- of each buffer that the clock reads, only chunks were let go that it has got already
+-- no chunk is lost that the clock is still to get: of each buffer that it reads, only chunks were freed that it has got
 abbrev pub NoneLost : List BufferState → Type 0
 NoneLost states = (b : ℕ) (d : BufferState) → b < length states → (slice_index_or states b d).read ≡ true
     → (slice_index_or states b d).gone ≤ (slice_index_or states b d).got
 
--- of each buffer that clock m reads, only chunks were let go that it got before its mark, at which its run goes on;
--- `readers` has the main clock of the reader of each buffer
+-- no chunk is lost that clock m is still to get: of each buffer that it reads, only chunks were freed that it has got.
+-- By a buffer's number, `marks` has how far the clock's calls came on it, and `readers` the main clock of its reader.
 abbrev pub AreUnlost : (readers : List ℕ) → (m : ℕ) → List Mark → List BufferState → Type 0
 AreUnlost readers m marks states = (b : ℕ) (d : BufferState) (e : Mark) → b < length states
     → slice_index_or readers b 0 ≡ m → (slice_index_or states b d).gone ≤ (slice_index_or marks b e).got
 
--- a turn of clock m lets go of no chunk that another clock is still to get; `readers` has the main clock of the reader
--- of each buffer
+-- A turn of clock m, its run of some ticks, frees no chunk that another clock is still to get. It led the buffers from
+-- `before` to `after`; `readers` has the main clock of the reader of each.
 abbrev pub OthersStayUnlost : (readers : List ℕ) → (m : ℕ) → (before after : List BufferState) → Type 0
 OthersStayUnlost readers m before after = (k : ℕ) (marks : List Mark) → (k ≡ m → ⊥)
     → AreUnlost readers k marks before → AreUnlost readers k marks after

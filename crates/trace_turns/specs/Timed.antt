@@ -2,7 +2,8 @@
 use Rattle.std.specs.Prelude.{ℕ}
 use Rattle.trace_records.specs.Clocks.{Log}
 
--- a text, with how many ticks each of its windows has, and how many ticks there are in all
+-- the text of a trace, which tells for each buffer and window how puts and takes were answered; with how many ticks
+-- each window has, and how many ticks there are in all
 pub record TimedText : Type 0 where
   pub text : ℕ → Log
   pub window : ℕ

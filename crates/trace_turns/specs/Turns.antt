@@ -42,19 +42,21 @@ no_state = record {
 abbrev pub chunks_of : List BufferState → ℕ → List (List Cell)
 chunks_of states b = (slice_index_or states b no_state).chunks
 
--- for each window of a buffer, how many answers of puts and of takes there are up to its end
+-- `ends` says where the windows of a buffer's log in a trace end: for each, how many answers of puts and of takes the
+-- log has up to there
 pub record AreEnds (log : Log) (ends : Ends) : Type 0 where
   pub puts : (j : ℕ) → j < length log → slice_get ends.puts.items j ≡ Some (length (puts_in (take (suc j) log)))
   pub takes : (j : ℕ) → j < length log → slice_get ends.takes.items j ≡ Some (length (takes_in (take (suc j) log)))
 
--- On a buffer the clock made as many calls as its windows up to window j have: with its puts if it feeds it, and with
--- its takes if it reads it.
+-- On a buffer s the clock made just the calls of windows 0 to j: all their puts if it feeds the buffer, and all their
+-- takes if it reads it. `ends` has these numbers for each window.
 pub record IsAtEnd (s : BufferState) (ends : Ends) (j : ℕ) : Type 0 where
   pub puts : s.fed ≡ true → slice_get ends.puts.items j ≡ Some s.put_at
   pub takes : s.read ≡ true → slice_get ends.takes.items j ≡ Some s.take_at
 
--- buffers in the run of clock m over a plan: they tell the answers of a text, and those that the clock does not feed
--- began it with these chunks
+-- These are the states of a plan's buffers in the run of clock m. They have the answers that `text`, the text of a
+-- trace, tells of each, and know whether the clock feeds or reads them. A buffer that it feeds began empty, and any
+-- other with the chunks `chunks b`.
 pub record AreOf (base : Setting) (text : ℕ → Log) (m : ℕ) (chunks : ℕ
     → List (List Cell)) (states : List BufferState) : Type 0 where
   pub many : length states ≡ length base.plan.buffers
@@ -79,8 +81,9 @@ pub record AreOf (base : Setting) (text : ℕ → Log) (m : ℕ) (chunks : ℕ
   pub front : (b : ℕ) (d : BufferState) → b < length base.plan.buffers → (feeder base b ≡ m → ⊥)
       → (rest : List (List Cell)) × ((slice_index_or states b d).chunks ≡ chunks b ++ rest)
 
--- Clock m has made its first n ticks as the text of a trace tells, and its engine and its buffers stand for its calls.
--- The text has N ticks in windows of W; `chunks` are those of other clocks at first.
+-- Clock m has made its first n ticks as the text of a trace tells; its engine, of `parts`, and the states of its
+-- buffers are those after its calls. The text has N ticks in windows of W; `chunks` are those that other clocks had put
+-- when the run began.
 pub record RunsAt (base : Setting) (text : ℕ → Log) (W N m n : ℕ) (chunks : ℕ
     → List (List Cell)) (parts : EngineParts) (states : List BufferState) : Type 0 where
   pub calls : List Call
@@ -93,12 +96,14 @@ pub record RunsAt (base : Setting) (text : ℕ → Log) (W N m n : ℕ) (chunks 
   pub of : AreOf base text m chunks states
   pub whole : AreWhole base text W N m n (λ t. ticks_in base accepted calls m t)
 
--- on each buffer the clock made just the calls that the windows up to window j have
+-- on each buffer the clock made just the calls of windows 0 to j: the puts where it feeds it, and the takes where it
+-- reads it; `ends` says where the windows of each buffer end
 abbrev pub AreAtEnd : List BufferState → List Ends → (j : ℕ) → Type 0
 AreAtEnd states ends j = (b : ℕ) (s : BufferState) (e : Ends) → b < length states
     → IsAtEnd (slice_index_or states b s) (slice_index_or ends b e) j
 
--- on some buffer the clock made other calls than the windows up to window j have
+-- on some buffer the clock made more or fewer calls than windows 0 to j have; `ends` says where the windows of each
+-- buffer end
 pub record IsOffEnd (states : List BufferState) (ends : List Ends) (j : ℕ) : Type 0 where
   pub buffer : ℕ
   pub known : buffer < length states
@@ -108,8 +113,9 @@ pub record IsOffEnd (states : List BufferState) (ends : List Ends) (j : ℕ) : T
 abbrev pub EndsWith : (W N n : ℕ) → Type 0
 EndsWith W N n = (n % W ≡ W - 1) ⊎ (suc n ≡ N)
 
--- The last course is how a run of N ticks, in windows of W, goes on after tick n. That is `before`, by how its calls
--- were answered; but if all were, and a window ends with this tick at whose end some buffer is not, the run fails.
+-- The last argument is how a clock's run of N ticks, in windows of W, goes on after tick n, and `before` is how it
+-- would by the answers of the tick's calls. They are the same, but a run that could go on fails where a window ends
+-- with this tick and the clock's calls on some buffer are not just those up to there; `ends` says where windows end.
 abbrev pub GoesOn : (W N n : ℕ) → Course → List BufferState → List Ends → Course → Type 0
 GoesOn W N n before states ends Goes = (before ≡ Goes) × (EndsWith W N n → AreAtEnd states ends (n / W))
 GoesOn W N n before states ends Waits = before ≡ Waits
@@ -124,8 +130,8 @@ pub record Score : Type 0 where
   pub text : ℕ → Log
   pub chunks : ℕ → List (List Cell)
 
--- an engine of clock m may be run over these buffers from its first tick on: it is new, and they tell the text of a
--- trace, with windows that end as `ends` says
+-- An engine of clock m, of `parts`, may be run over these buffers from its first tick on: it is new, and they have made
+-- no call. They tell the text of a trace, of N ticks in windows of W that end as `ends` says.
 pub record MayTurn (score : Score) (W N m : ℕ) (parts : EngineParts) (states : List BufferState)
     (ends : List Ends) : Type 0 where
   pub is : IsSetting score.base score.clocks
@@ -176,14 +182,16 @@ outputs_in clocks m [] = 0
 outputs_in clocks m (sink ∷ sinks) = if is_output_in clocks m sink then suc (outputs_in clocks m sinks)
     else outputs_in clocks m sinks
 
--- these buffers tell a text of N ticks in windows of W, and `ends` says where its windows end
+-- these buffers have the answers that the text of a trace tells, for the plan of `base`; the text is of N ticks in
+-- windows of W ticks, and `ends` says where the windows of each buffer end
 pub record AreFit (base : Setting) (W N : ℕ) (text : ℕ
     → Log) (states : List BufferState) (ends : List Ends) : Type 0 where
   pub told : AreTold base text states
   pub formed : IsFormed (length base.plan.buffers) W N text
   pub ends_are : (b : ℕ) (e : Ends) → b < length base.plan.buffers → AreEnds (text b) (slice_index_or ends b e)
 
--- whatever plan and text the buffers fitted before, they fit after: their answers and the ends of their windows stay
+-- From `before` to `after` the buffers keep the answers that they tell: whatever plan and text of N ticks in windows of
+-- W they fitted, they still fit, with windows that end as the list of `Ends` says.
 abbrev pub StayFit : List Ends → (W N : ℕ) → (before after : List BufferState) → Type 0
 StayFit ends W N before after = (base : Setting) (text : ℕ → Log) → AreFit base W N text before ends
     → AreFit base W N text after ends
