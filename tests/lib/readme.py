@@ -14,7 +14,7 @@ SECONDS = 300
 CLAIMED = (("README.md", "Never silent, proved", "With `mksafe` that may be silence"), ("README.md", "in whatever order threads run", "given the answers of its clock's buffers"),
            ("README.md", "is refused exactly for its stated fault", "a program that always answered 5 would satisfy the clauses"),
            ("README.md", "renders the same files again", "renders the same outputs and prints the same report"),
-           ("crates/liq_cli/specs/Call.antt", "status 5: memory was refused", "no field ties this status to a cause"),
+           ("crates/liq_cli/specs/Call.antt", "status 5: memory was refused", "nothing ties this status to a cause"),
            ("crates/liq_cli/specs/Call.antt", "memory was refused or there is a verdict", "a body that always ends with it meets this"),
            ("tools/chapters.txt", "The bytes of a script are ASCII", "a comment may hold any"))
 FIGURE, MOST_BYTES = "docs/figures/mistake.svg", 100 * 1024
