@@ -71,6 +71,13 @@ class Songs:
         os.replace(part, self.path(song.name))
         return song
 
+    @staticmethod
+    def is_readable(path: str) -> bool:
+        """Whether something can be heard of a file."""
+        done = subprocess.run(["ffmpeg", "-v", "error", "-i", path, "-f", "s16le", "-"], stdout=subprocess.PIPE,
+                              stderr=subprocess.DEVNULL, stdin=subprocess.DEVNULL, check=False)
+        return len(done.stdout) > 0
+
     def change(self) -> None:
         """Removes, renames, replaces, cuts or adds a song."""
         what, song = self.chance.choice("remove rename replace cut cut add add".split()), self.chance.choice(self.songs)
@@ -96,7 +103,8 @@ class Songs:
             write_file(self.folder, "part", data[:len(data) * 3 // 5])
             os.replace(self.path("part"), path)
             self.cut.add(song.name)
-            song.touched.update(range(self.night - 1, 1000) if song.form == "m4a" else ())       # nothing can be read of that
+            # nothing can be read of an m4a, nor of an ogg that was cut before
+            song.touched.update(() if self.is_readable(path) else range(self.night - 1, 1000))
         elif self.gone:
             back = self.gone.pop(0)
             self.songs.append(self.made(back.number, back.form))
