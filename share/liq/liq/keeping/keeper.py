@@ -1,16 +1,15 @@
 """The work of a station: the night ahead each day, and the air all the time."""
 import datetime
-import json
-import os
 import time
-from typing import Any, Callable, Dict, List, Optional, Sequence
+from typing import Any, Callable, Dict, List, Optional, Sequence, Tuple
 
 from liq.failed import Failed
 from liq.keeping import children, settings, shelf
 from liq.nights.rooms import numbered
+from liq.reports import last_of
 from liq.watching.names import shown
 
-REPORT = "nights.jsonl"
+REPORT, SOUNDS = "nights.jsonl", "library.jsonl"
 TICK = 1.0             # seconds between looks
 AGAIN = 600            # seconds between tries of a night
 DAY = datetime.timedelta(days=1)
@@ -53,18 +52,22 @@ class Keeper:
         """Calls a command, and keeps the air meanwhile."""
         return children.ended(children.begun(name, words), self.keep_air)
 
+    def make_library(self) -> Tuple[str, List[str]]:
+        """Makes the library: why that failed, or nothing, and what was found that was not found before."""
+        status = self.call("liq-prepare", settings.words_of_prepare(self.settings, SOUNDS))
+        sounds = list(map(str, last_of(SOUNDS).get("new", []))) if status in (0, 1) else []
+        return f"liq-prepare ended with {status}" if status else "", sounds
+
     def make(self, start: datetime.datetime) -> bool:
         """Does the work of a day; whether the night is there. It is told in a line."""
         self.tried = {start: time.monotonic()}
-        said = []
-        if self.settings.music:
-            status = self.call("liq-prepare", settings.words_of_prepare(self.settings))
-            said += [f"liq-prepare ended with {status}"] if status else []
+        failed, sounds = self.make_library() if self.settings.music else ("", [])
         status = self.call("liq-night", settings.words_of_night(self.settings, start, REPORT))
         report = last_of(REPORT)
         if status == 0:
             shelf.take(start, self.aired(report))
-        found = [*report.get("found", []), *said]
+        said = [text for text in (failed, counted("new in the library", sounds)) if text]
+        found = [*report.get("found", []), *([failed] if failed else []), *sounds]
         removed = shelf.prune(datetime.datetime.now(), self.settings.keep)
         said += [f"{removed} old night{'s' * (removed != 1)} removed"] if removed else []
         line = f"{start:%Y-%m-%d %H:%M}: {told_of(report, status)}" + "".join(f"; {text}" for text in said)
@@ -116,23 +119,17 @@ class Keeper:
         self.air.end()
 
 
-def last_of(path: str) -> Dict[str, Any]:
-    """The last line of a report; nothing where there is none."""
-    try:
-        with open(path, "rb") as file:
-            file.seek(max(0, os.path.getsize(path) - (1 << 20)))
-            told = json.loads(file.read().rstrip(b"\n").rpartition(b"\n")[2])
-        return told if isinstance(told, dict) else {}
-    except (OSError, ValueError):
-        return {}
-
-
 def told_of(report: Dict[str, Any], status: int) -> str:
     """What the line of a day says of its night."""
     if status:
         return f"no night (status {status}): {report.get('error', 'see ' + children.LOG)}"
-    found = report.get("found", [])
     seconds = int(report.get("length", 0))
     text = f"{seconds // 3600}:{seconds // 60 % 60:02}:{seconds % 60:02}, {report.get('tracks', 0)} tracks"
     text += f", {report['gaps']} s of silence" if report.get("gaps") else ""
-    return text + (f"; found {len(found)}: {found[0]}" + ", .." * (len(found) > 1) if found else "")
+    found = counted("found", report.get("found", []))
+    return f"{text}; {found}" if found else text
+
+
+def counted(what: str, lines: Sequence[str]) -> str:
+    """How many lines there are, and the first one; nothing where there is none."""
+    return f"{what} {len(lines)}: {lines[0]}" + ", .." * (len(lines) > 1) if lines else ""

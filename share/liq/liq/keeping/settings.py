@@ -135,10 +135,10 @@ def setting_of(line: str, place: str) -> Tuple[str, Any]:
     return name, found
 
 
-def words_of_prepare(settings: Settings) -> List[str]:
+def words_of_prepare(settings: Settings, report: str) -> List[str]:
     """The words of liq-prepare."""
     options = [f"--{name}={getattr(settings, name)}" for name in ("loudness", "shuffle", "rate") if getattr(settings, name) is not None]
-    return [*options, *(["--prune"] if settings.prune else []), settings.music, settings.library]
+    return [*options, *(["--prune"] if settings.prune else []), f"--report={report}", settings.music, settings.library]
 
 
 def words_of_night(settings: Settings, start: datetime.datetime, report: str) -> List[str]:

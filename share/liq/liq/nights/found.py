@@ -1,6 +1,4 @@
 """What is found before a night, by its weight, and what is told of the night."""
-import json
-import os
 from datetime import datetime
 from typing import Any, Dict, List, Optional
 
@@ -8,6 +6,7 @@ from liq.doctoring.findings import STOPS, TOLD
 from liq.nights.failed import KEPT, Failed
 from liq.nights.words import Call
 from liq.reading.facts import Facts
+from liq.reports import add_line
 from liq.watching.names import shown
 
 
@@ -70,11 +69,5 @@ class Report:
         now = datetime.now().astimezone()
         told = {"time": now.isoformat(timespec="seconds"), "status": status, **self.told,
                 "took": round((now - self.begin).total_seconds(), 1), **({"error": error} if error else {})}
-        try:
-            with open(self.path, "ab") as file:
-                file.write(json.dumps(told, ensure_ascii=True).encode() + b"\n")
-                file.flush()
-                os.fsync(file.fileno())
-            return None
-        except OSError as fault:
-            return f"{shown(self.path)}: {fault.strerror}; the night is not noted there"
+        trouble = add_line(self.path, told)
+        return f"{shown(self.path)}: {trouble}; the night is not noted there" if trouble else None

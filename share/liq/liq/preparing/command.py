@@ -2,6 +2,7 @@
 import os
 import re
 import shutil
+from datetime import datetime
 from typing import Any, Callable, Dict, Iterator, List, NamedTuple, Optional, Tuple
 
 from liq.command import Stopped, tell
@@ -12,13 +13,15 @@ from liq.preparing.record import NAME, ROOM
 from liq.preparing.work import Found, Work
 from liq.reading.companion import Companion, companion_of
 from liq.reading.facts import Facts, Refused
+from liq.reports import add_line, last_of
 from liq.watching.names import shown
 
 USAGE = ("usage: liq prepare [--rate=HERTZ] [--loudness=LUFS] [--whole-seconds] [--shuffle=SEED] [--jobs=N] [--prune] "
-         "[--strict] [--all-gone] FOLDER|LIST.m3u OUT")
+         "[--strict] [--all-gone] [--quiet] [--report=FILE] FOLDER|LIST.m3u OUT")
 BOUNDS = {"shuffle": (0, (1 << 64) - 1), "jobs": (1, 64)}
 LOUDNESS = (-40, -5)           # LUFS
-FLAGS = {"--whole-seconds": "whole", "--prune": "prune", "--strict": "strict", "--all-gone": "all_gone"}
+FLAGS = {"--whole-seconds": "whole", "--prune": "prune", "--strict": "strict", "--all-gone": "all_gone",
+         "--quiet": "quiet"}
 Options = Dict[str, Any]
 LISTS, FILES = 20, 1000        # how many lists and files are told each by a line
 
@@ -91,8 +94,17 @@ def gone_text(work: Work, found: Found, prunes: bool) -> str:
     return f"{gone} sound{are} no more there; what was made is left, {place}; --prune removes it"
 
 
-def prepared(source: str, out: str, options: Options, companion: Companion, limits: Facts) -> Tuple[List[str], int]:
-    """Does the work, by the limits of liq, and answers the lines that are told and the status."""
+class Done(NamedTuple):
+    """What was found, lines on what was made, its status, and how many sounds were made and kept."""
+    found: List[str]
+    lines: List[str]
+    status: int
+    made: int
+    kept: int
+
+
+def prepared(source: str, out: str, options: Options, companion: Companion, limits: Facts) -> Done:
+    """Does the work, by the limits of liq."""
     examined(source, out)
     os.makedirs(out, exist_ok=True)
     given = found_in(source, out)
@@ -110,14 +122,20 @@ def prepared(source: str, out: str, options: Options, companion: Companion, limi
         long_ones, gone = work.long_ones(found), gone_text(work, found, options["prune"])
     finally:
         work.end()
-    more = [*some_of(work.told, FILES, "files"), *some_of(long_ones, LISTS, "long sounds"), *some_of(lines, LISTS, "lists")]
+    more = [*some_of(long_ones, LISTS, "long sounds"), *some_of(lines, LISTS, "lists")]
     if gone:
         more.append(gone)
     rest = f", {given.others} other files passed over" if given.others else ""
     more.append(f"{work.made} made, {work.kept} as before, {len(work.told)} to look at{rest}; "
                 f"{size.seconds / 3600:.1f} h, {size.bytes / 1e9:.1f} GB")
     is_bad = work.left or not size.bytes or options["strict"] and work.told
-    return more, 1 if is_bad else 0
+    return Done(list(some_of(work.told, FILES, "files")), more, 1 if is_bad else 0, work.made, work.kept)
+
+
+def news_of(done: Done, path: Optional[str]) -> List[str]:
+    """What was found and was not found by the run before, as its line in the report tells; all where there is none."""
+    before = last_of(path).get("found", []) if path else []
+    return [line for line in done.found if line not in before]
 
 
 def number_of(word: str) -> Optional[Tuple[str, float]]:
@@ -132,13 +150,22 @@ def number_of(word: str) -> Optional[Tuple[str, float]]:
     return None
 
 
+def option_of(word: str) -> Optional[Tuple[str, object]]:
+    """An option: its name and value; nothing where it is none."""
+    if word in FLAGS:
+        return FLAGS[word], True
+    if word.startswith("--report=") and word != "--report=":
+        return "report", word.partition("=")[2]
+    return number_of(word)
+
+
 def words_of(words: List[str]) -> Optional[Tuple[str, str, Options]]:
     """The source, the folder and the options; nothing where the words are wrong."""
-    options: Options = {"rate": None, "loudness": None, "shuffle": None, "jobs": min(4, os.cpu_count() or 1),
+    options: Options = {"rate": None, "loudness": None, "shuffle": None, "report": None, "jobs": min(4, os.cpu_count() or 1),
                **dict.fromkeys(FLAGS.values(), False)}
     rest: List[str] = []
     for word in words:
-        pair: Optional[Tuple[str, object]] = (FLAGS[word], True) if word in FLAGS else number_of(word)
+        pair = option_of(word)
         if pair:
             options[pair[0]] = pair[1]
         elif word.startswith("--"):
@@ -160,6 +187,17 @@ def written(lines: List[str]) -> bool:
         return False
 
 
+def ended(done: Done, report: Optional[str], is_quiet: bool) -> int:
+    """Prints what is told, and notes it in the report; the exit status."""
+    news = news_of(done, report)
+    trouble = add_line(report, {"time": datetime.now().astimezone().isoformat(timespec="seconds"), "status": done.status,
+                                "made": done.made, "kept": done.kept, "found": done.found, "new": news}) if report else None
+    if trouble:
+        tell(f"prepare: {shown(str(report))}: {trouble}; the run is not noted there")
+    has_written = written(news if is_quiet else [*done.found, *done.lines])
+    return 4 if trouble or not has_written else done.status
+
+
 def main(words: List[str]) -> int:
     """Makes a library; the exit status."""
     call = words_of(words)
@@ -170,8 +208,8 @@ def main(words: List[str]) -> int:
     if isinstance(limits, Refused):
         raise Usage(USAGE)
     try:
-        lines, status = prepared(*call, companion, limits)
-        return status if written(lines) else 4
+        done = prepared(*call, companion, limits)
+        return ended(done, call[2]["report"], call[2]["quiet"])
     except OSError as error:
         place = str(error.filename or call[1]).partition(f"/{ROOM}")[0]
         raise Failed(f"{place}: {error.strerror}", 4) from None

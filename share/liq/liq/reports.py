@@ -1,0 +1,29 @@
+"""Reports: files with a line of JSON for each run of a command."""
+import json
+import os
+from typing import Any, Dict, Optional
+
+LAST = 1 << 20         # bytes of a report in which its last line is sought
+
+
+def last_of(path: str) -> Dict[str, Any]:
+    """The last line of a report; nothing where there is none."""
+    try:
+        with open(path, "rb") as file:
+            file.seek(max(0, os.path.getsize(path) - LAST))
+            told = json.loads(file.read().rstrip(b"\n").rpartition(b"\n")[2])
+        return told if isinstance(told, dict) else {}
+    except (OSError, ValueError):
+        return {}
+
+
+def add_line(path: str, told: Dict[str, Any]) -> Optional[str]:
+    """Adds a line to a report, and brings it to the disk; why that cannot be, or nothing."""
+    try:
+        with open(path, "ab") as file:
+            file.write(json.dumps(told, ensure_ascii=True).encode() + b"\n")
+            file.flush()
+            os.fsync(file.fileno())
+        return None
+    except OSError as error:
+        return error.strerror
