@@ -17,11 +17,21 @@ def last_of(path: str) -> Dict[str, Any]:
         return {}
 
 
+def is_broken(path: str) -> bool:
+    """Whether the last line of a report has no end. A pipe or a device has none."""
+    if not os.path.isfile(path) or not os.path.getsize(path):
+        return False
+    with open(path, "rb") as file:
+        file.seek(-1, os.SEEK_END)
+        return file.read() != b"\n"
+
+
 def add_line(path: str, told: Dict[str, Any]) -> Optional[str]:
-    """Adds a line to a report, and brings it to the disk; why that cannot be, or nothing."""
+    """Adds a line to a report, and brings it to the disk; why that cannot be, or nothing. A line that broke off, as by a power
+    cut, is ended first."""
     try:
         with open(path, "ab") as file:
-            file.write(json.dumps(told, ensure_ascii=True).encode() + b"\n")
+            file.write((b"\n" if is_broken(path) else b"") + json.dumps(told, ensure_ascii=True).encode() + b"\n")
             file.flush()
             os.fsync(file.fileno())
         return None
