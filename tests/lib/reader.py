@@ -18,7 +18,8 @@ SECONDS = 300
 OF_CHECKOUT = re.compile(r"(?:^|[|&;\n] *)(?:\.\.?/|tools/|tests/|bin/|git )|^export PATH=")
 
 # What a command needs beside Python, where it needs something that may not be installed.
-NEEDS = {"liq prepare": ("ffmpeg",), "liq station": ("ffmpeg",), "| dot ": ("dot",), "python3 -m unittest": ("ffmpeg",), "git ": ("git",), "parallel ": ("parallel",)}
+NEEDS = {"liq prepare": ("ffmpeg",), "liq station": ("ffmpeg",), "| dot ": ("dot",), "python3 -m unittest": ("ffmpeg",),
+         "python3 ci.py": ("ffmpeg",), "git ": ("git",), "parallel ": ("parallel",)}
 
 # Commands that say on standard error what they did, too.
 TALKS = re.compile(r"python3 (?:-m unittest|ci\.py)|liq[ -]adopt|git clone")
