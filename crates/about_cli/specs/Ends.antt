@@ -179,6 +179,10 @@ pub record Ends (words : List (List ℕ)) (input : Option (List ℕ)) (old new :
 abbrev pub AsksForFiles : List (List ℕ) → Type 0
 AsksForFiles words = (file : List ℕ) × AsksFor words (Tell Files) file
 
+-- The words of a call ask for the lines of the input, about some script `file`.
+abbrev pub AsksForLines : List (List ℕ) → Type 0
+AsksForLines words = (file : List ℕ) × AsksFor words Where file
+
 -- Nothing failed in a call, from `old` to `new`: the number of failed reads of scripts did not rise, nor did that of
 -- failed writes to standard output or standard error.
 pub record Calm (old new : Outside) : Type 0 where

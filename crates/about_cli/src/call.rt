@@ -1,7 +1,7 @@
 // The top call.
 ghost use Rattle.std.specs.Prelude.{◌≡◌, ◌≢◌, [], None, Some, IfOk, if◌then◌else◌};
-ghost use Rattle.about_cli.specs.Ends.{AsksForFiles, Ends, IsComplete, IsPassedBy, IsScript, Passed, Puts, TellsLong};
-ghost use Rattle.about_cli.specs.Ends.{TellsText, Told, outside_of};
+ghost use Rattle.about_cli.specs.Ends.{AsksForFiles, AsksForLines, Ends, IsComplete, IsPassedBy, IsScript, Passed};
+ghost use Rattle.about_cli.specs.Ends.{Puts, TellsLong, TellsText, Told, outside_of};
 ghost use Rattle.about_cli.specs.Words.{texts};
 ghost use Rattle.liq_base.specs.Shelves.{OnlyRead, ShelfTold};
 
@@ -37,20 +37,21 @@ const NO_OUTPUT: u8 = 4;
 const NO_MEMORY: u8 = 5;
 
 /// Runs one call of the command `about`: tells on `out` what `words` (a question and a script's name) ask about a
-/// script of `scripts`, and answers the status, from 0 to 5. `input` has the lines that `where` passes on. `shelf` has
-/// the script's files, read for `files` alone. `err` gets the usage line for words without a form.
-pub fn about<T: Shelf, S: Shelf, I: Read + Drop, O: Sink, E: Sink>(
+/// script of `scripts`, and answers the status, from 0 to 5. `input` has the lines that `where` passes on, and is read
+/// for `where` alone. `shelf` has the script's files, read for `files` alone. `err` gets the usage line for words
+/// without a form.
+pub fn about<T: Shelf, S: Shelf, I: Read, O: Sink, E: Sink>(
     alloc: Global,
     words: &[String],
     scripts: &mut T,
     shelf: &mut S,
-    input: I,
+    input: &mut I,
     out: &mut O,
     err: &mut E,
 ) -> u8
     requires out_room { (O.told out.old).room ≡ None }
     requires err_room { (E.told err.old).room ≡ None }
-    ensures ends { Ends (texts words.now) (I.remaining input)
+    ensures ends { Ends (texts words.now) (I.remaining input.old)
         (outside_of (T.told scripts.old) (S.told shelf.old) (O.told out.old) (E.told err.old))
         (outside_of (T.told scripts.new) (S.told shelf.new) (O.told out.new) (E.told err.new))
         result }
@@ -59,6 +60,7 @@ pub fn about<T: Shelf, S: Shelf, I: Read + Drop, O: Sink, E: Sink>(
         (outside_of (T.told scripts.new) (S.told shelf.new) (O.told out.new) (E.told err.new))
         result }
     ensures untouched { (AsksForFiles (texts words.now) → ⊥) → shelf.new ≡ shelf.old }
+    ensures unread { (AsksForLines (texts words.now) → ⊥) → input.new ≡ input.old }
 {
     laws::one_answer();
     laws::one_list_of_calls();
@@ -76,15 +78,15 @@ pub fn about<T: Shelf, S: Shelf, I: Read + Drop, O: Sink, E: Sink>(
 
 // Answers the word `where`: passes the lines of `input` on to `out`, with the places in the script `file` that they
 // name. A script that cannot be read has no places, and the lines go on all the same. Returns the status of the call.
-fn show<T: Shelf, I: Read + Drop, O: Sink>(
+fn show<T: Shelf, I: Read, O: Sink>(
     alloc: Global,
     file: &str,
     scripts: &mut T,
-    input: I,
+    input: &mut I,
     out: &mut O,
 ) -> u8
     requires { (O.told out.old).room ≡ None }
-    ensures passed { Passed file.now (T.told scripts.old) (T.told scripts.new) (I.remaining input) (O.told out.old)
+    ensures passed { Passed file.now (T.told scripts.old) (T.told scripts.new) (I.remaining input.old) (O.told out.old)
         (O.told out.new) result }
     ensures scripts { OnlyRead (T.told scripts.old) (T.told scripts.new) }
 {

@@ -17,6 +17,7 @@ fn main(rt: HostRuntime) -> ExitCode {
     };
     let mut scripts = FileShelf::new(&rt);
     let mut shelf = FileShelf::regular(&rt);
+    let mut input = rt.stdin();
     let mut out = OutSink::new(rt.stdout());
     let mut err = OutSink::new(rt.stderr());
     let status = about(
@@ -24,7 +25,7 @@ fn main(rt: HostRuntime) -> ExitCode {
         &words,
         &mut scripts,
         &mut shelf,
-        rt.stdin(),
+        &mut input,
         &mut out,
         &mut err,
     );

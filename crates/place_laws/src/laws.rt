@@ -3,8 +3,8 @@ ghost use Rattle.refusal_lines.specs.declared.fault.Fault.{Fault};
 ghost use Rattle.place_laws.specs.Same.{NoneIsNone, NumbersAgree, OutputsAgree, RulesAgree};
 ghost use Rattle.place_laws.specs.Told.{NamesItsPlace};
 
-/// A law of fault lines: the line of a fault names the place that the fault tells, and no other; of a fault that tells
-/// none it names none. So `named_in`, which reads places out of lines, finds it there.
+/// A law of fault lines: the line of a fault names the place that the fault tells, if its number fits into 64 bits, and
+/// no other; of a fault that tells none it names none. So `named_in`, which reads places out of lines, finds it there.
 pub fn lines_name_their_places()
     ensures { (fault : Fault) → NamesItsPlace fault }
 {}

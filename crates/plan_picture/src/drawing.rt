@@ -18,8 +18,8 @@ use std::alloc::Global;
 
 /// The text from which graphviz draws a plan: a box for each source and output, an edge wherever one plays another, and
 /// a region for each clock. A source that may offer nothing by `marks` has a dashed box. In red stands why the plan is
-/// refused: the sink of the number `refused` may fall silent, or there are no clocks; then a region lies round the
-/// sources that would share one.
+/// refused: the sink of the number `refused` may fall silent, or there are no clocks. Where two clocks meet, or a
+/// crossfade lies in its own clock, a red region lies round the sources that would share one.
 pub fn picture(
     alloc: Global,
     plan: &Plan,

@@ -274,7 +274,7 @@ fn close(
     Ok(())
 }
 
-// What a token does to the brackets that are open: it opens a call, opens or closes another bracket, or neither.
+// What a token does to the brackets that are open: it opens a call, opens another bracket, closes one, or does nothing.
 fn role_of(kind: &TokenKind) -> Role
     ensures { result ≡ role_of kind.now }
 {

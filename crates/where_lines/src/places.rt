@@ -19,9 +19,10 @@ use script_parse::parse;
 use script_places::{Named, first_token, start};
 use std::alloc::Global;
 
-/// The byte of a script at which begins what `line` names, which `named` tells: a byte, token, statement, source, text
-/// or output. A token past the end is the end of the script. `None` exactly where the script has no tokens, or no such
-/// statement, source, text or output. `docs/faults.md` has the place of each line; `kept` is what was read before.
+/// The byte of a script at which begins what `line` names, which `named` tells: a byte, token, statement, source or
+/// text. For a clash of types it is the call in the statement, for an output that may fall silent the call of the
+/// source to be mended. A token past the end is the end of the script. A byte is answered as it is; else it is `None`
+/// exactly where the script has no tokens, or nothing so named. `docs/faults.md` has places; `kept` was read before.
 pub fn place_of(
     alloc: Global,
     line: &[u8],

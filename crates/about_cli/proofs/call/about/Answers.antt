@@ -22,9 +22,10 @@ returns-in-Some-Where g c =
     record {
       ends = ends_asked (texts c.args.words.now) _ Where file _ _ c.show.result asked c.show.ensures.scripts
           (same_read (g.S.Shelf.told c.args.shelf.now)) refl (c.show.ensures.passed, refl);
-      complete = complete_asked c.one_answer.ensures.apart c.one_list_of_calls.ensures.plan (texts c.args.words.now) (g.I.Read.remaining c.args.input) Where file _ _ c.show.result
+      complete = complete_asked c.one_answer.ensures.apart c.one_list_of_calls.ensures.plan (texts c.args.words.now) (g.I.Read.remaining c.args.input.now) Where file _ _ c.show.result
           asked c.show.ensures.scripts (same_read (g.S.Shelf.told c.args.shelf.now)) refl (c.show.ensures.passed, refl);
       untouched = λ none. refl;
+      unread = λ none. absurd (none (file, asked));
     }
 
 pub returns-in-Some-Tell : goal.returns-in-Some-Tell
@@ -41,10 +42,11 @@ returns-in-Some-Tell g c =
     record {
       ends = ends_asked (texts c.args.words.now) _ (Tell question) file _ _ c.answer.result asked
           c.answer.ensures.scripts c.answer.ensures.shelf refl c.answer.ensures.told;
-      complete = complete_asked c.one_answer.ensures.apart c.one_list_of_calls.ensures.plan (texts c.args.words.now) (g.I.Read.remaining c.args.input) (Tell question) file _ _ c.answer.result
+      complete = complete_asked c.one_answer.ensures.apart c.one_list_of_calls.ensures.plan (texts c.args.words.now) (g.I.Read.remaining c.args.input.now) (Tell question) file _ _ c.answer.result
           asked c.answer.ensures.scripts c.answer.ensures.shelf refl c.answer.ensures.told;
       untouched = λ none. c.answer.ensures.untouched
           (λ is. none (file, subst (λ (q : Question). AsksFor (texts c.args.words.now) (Tell q) file) is asked));
+      unread = λ none. refl;
     }
 
 pub returns : goal.returns
@@ -62,4 +64,5 @@ returns g c =
       complete = complete_usage (texts c.args.words.now) _ _ c.put.result none
           (record { said = rw c.as_bytes.ensures.value at c.put.ensures; out_kept = refl; scripts_kept = refl; shelf_kept = refl });
       untouched = λ none. refl;
+      unread = λ none. refl;
     }
