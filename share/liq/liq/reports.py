@@ -7,11 +7,13 @@ LAST = 1 << 20         # bytes of a report in which its last line is sought
 
 
 def last_of(path: str) -> Dict[str, Any]:
-    """The last line of a report; nothing where there is none."""
+    """The last line of a report; nothing where there is none. A pipe or a device is not read, since that may have no end."""
     try:
+        if not os.path.isfile(path):
+            return {}
         with open(path, "rb") as file:
             file.seek(max(0, os.path.getsize(path) - LAST))
-            told = json.loads(file.read().rstrip(b"\n").rpartition(b"\n")[2])
+            told = json.loads(file.read(LAST).rstrip(b"\n").rpartition(b"\n")[2])
         return told if isinstance(told, dict) else {}
     except (OSError, ValueError):
         return {}
